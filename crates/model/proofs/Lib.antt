@@ -1,0 +1,9 @@
+pub mod Bools
+pub mod Words
+pub mod Parts
+pub mod Fixed
+pub mod Items
+pub mod Edges
+pub mod Components
+pub mod Written
+pub mod RoundTrip

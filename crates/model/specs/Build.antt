@@ -1,0 +1,43 @@
+-- Short ways to write a table down.
+use mathlib.Core.Bool.{Bool}
+use mathlib.Core.List.{List}
+use Prim.Native.Nat.{ℕ}
+use lib.IntN.{ℤ}
+use Rattle.model.specs.declared.Action.{Action}
+use Rattle.model.specs.declared.Location.{Location}
+use Rattle.model.specs.declared.ClockGuard.{ClockGuard}
+use Rattle.model.specs.declared.DataGuard.{DataGuard}
+use Rattle.model.specs.declared.Update.{Update}
+use Rattle.model.specs.declared.Pair.{Pair}
+use Rattle.model.specs.Table.{Arc, Component, Read}
+
+abbrev pub location : ℕ → ℕ → Location
+location x q = record { clock = x; bound = q }
+
+abbrev pub clockGuard : ℕ → ℕ → ℕ → ClockGuard
+clockGuard x low high = record { clock = x; low = low; high = high }
+
+abbrev pub update : ℕ → Bool → ℤ → Update
+update v adds n = record { variable = v; adds = adds; number = n }
+
+abbrev pub pairOf : ℕ → ℕ → Pair
+pairOf k l = record { channel = k; location = l }
+
+-- source, destination, reset mask, what it does; clock bounds, data bounds, updates, pairs
+abbrev pub arc : ℕ → ℕ → ℕ → Action → List ClockGuard → List DataGuard → List Update → List Pair → Arc
+arc s d m a cs ds us ps =
+    record {
+      edge = record { source = s; destination = d; mask = m; action = a };
+      clockGuards = cs;
+      dataGuards = ds;
+      updates = us;
+      pairs = ps;
+    }
+
+-- initial location, clocks, variables; locations, edges
+abbrev pub component : ℕ → ℕ → ℕ → List Location → List Arc → Component
+component i x v ls es = record { initial = i; clocks = x; variables = v; locations = ls; arcs = es }
+
+-- channels, horizon; components
+abbrev pub network : ℕ → ℕ → List Component → Read
+network k h cs = record { table = record { channels = k; components = cs }; horizon = h }

@@ -1,0 +1,90 @@
+-- Document 01, "The table": the bytes of a table.
+use mathlib.Core.Bool.{Bool, true, false, cond}
+use mathlib.Core.List.{List, [], _∷_, _++_}
+use Prim.Native.Nat.{ℕ, _+_, _-_}
+use lib.IntN.{ℤ, pos, negsuc}
+use lib.ListN.{length}
+use Rattle.model.specs.declared.Action.{Action}
+use Rattle.model.specs.declared.Action.the-variants.{Internal, Send, Receive}
+use Rattle.model.specs.declared.Location.{Location}
+use Rattle.model.specs.declared.ClockGuard.{ClockGuard}
+use Rattle.model.specs.declared.DataGuard.{DataGuard}
+use Rattle.model.specs.declared.Update.{Update}
+use Rattle.model.specs.declared.Pair.{Pair}
+use Rattle.model.specs.Lists.{be16, each}
+use Rattle.model.specs.Table.{Arc, Component, Table, Read}
+
+-- "two's complement": the number of the two bytes
+abbrev pub unsigned : ℤ → ℕ
+unsigned (pos n) = n
+unsigned (negsuc n) = 65535 - n
+
+-- "Location, 3 bytes: clock, and bound q"
+abbrev pub locationBytes : Location → List ℕ
+locationBytes l = l .clock ∷ be16 (l .bound)
+
+-- "Clock bound, 5 bytes: clock, low, high"
+abbrev pub clockGuardBytes : ClockGuard → List ℕ
+clockGuardBytes g = g .clock ∷ be16 (g .low) ++ be16 (g .high)
+
+-- "Data bound, 5 bytes: variable, low, high, two's complement."
+abbrev pub dataGuardBytes : DataGuard → List ℕ
+dataGuardBytes g = g .variable ∷ be16 (unsigned (g .low)) ++ be16 (unsigned (g .high))
+
+-- "updates of 4 bytes: variable, 0 set or 1 add, signed number"
+abbrev pub updateBytes : Update → List ℕ
+updateBytes u = u .variable ∷ cond (u .adds) 1 0 ∷ be16 (unsigned (u .number))
+
+-- "pairs of channel and location"
+abbrev pub pairBytes : Pair → List ℕ
+pairBytes q = q .channel ∷ q .location ∷ []
+
+-- "internal (0), send (1) or receive (2)"
+abbrev pub kindOf : Action → ℕ
+kindOf Internal = 0
+kindOf (Send k) = 1
+kindOf Receive = 2
+
+-- "Items. Internal: updates. Send: exactly one item, the channel. Receive: pairs."
+abbrev pub itemCount : Arc → Action → ℕ
+itemCount a Internal = length (a .updates)
+itemCount a (Send k) = 1
+itemCount a Receive = length (a .pairs)
+
+unfoldable pub itemBytes : Arc → Action → List ℕ
+unfolding each
+itemBytes a Internal = each updateBytes (a .updates)
+itemBytes a (Send k) = k ∷ []
+itemBytes a Receive = each pairBytes (a .pairs)
+
+-- "7 bytes: kind, source, destination, reset mask, counts of clock bounds, data bounds and items."
+abbrev pub arcHead : Arc → List ℕ
+arcHead a =
+    kindOf (a .edge .action) ∷ a .edge .source ∷ a .edge .destination ∷ a .edge .mask ∷ length (a .clockGuards)
+    ∷ length (a .dataGuards)
+    ∷ itemCount a (a .edge .action)
+    ∷ []
+
+unfoldable pub arcBytes : Arc → List ℕ
+unfolding each itemBytes
+arcBytes a = arcHead a ++ each clockGuardBytes (a .clockGuards) ++ each dataGuardBytes (a .dataGuards) ++ itemBytes a (a .edge .action)
+
+-- "locations; initial location; clocks; variables; edges; then locations, then edges"
+unfoldable pub bodyBytes : Component → List ℕ
+unfolding each arcBytes
+bodyBytes C =
+    (length (C .locations) ∷ C .initial ∷ C .clocks ∷ C .variables ∷ length (C .arcs) ∷ [])
+    ++ each locationBytes (C .locations)
+    ++ each arcBytes (C .arcs)
+
+-- "each component: its length, these two bytes included (2 bytes)"
+unfoldable pub componentBytes : Component → List ℕ
+unfolding bodyBytes
+componentBytes C = be16 (2 + length (bodyBytes C)) ++ bodyBytes C
+
+-- "Header, 7 bytes: version 1; total length (2 bytes); components; channels; horizon H (2 bytes)."
+unfoldable pub tableBytes : Read → List ℕ
+unfolding each componentBytes
+tableBytes t =
+    let rest = each componentBytes (t .table .components) in
+    (1 ∷ be16 (7 + length rest)) ++ (length (t .table .components) ∷ t .table .channels ∷ be16 (t .horizon)) ++ rest

@@ -1,0 +1,39 @@
+-- Words on lists and answers. Nothing of document 01 is here.
+use mathlib.Core.Path.{_≡_}
+use mathlib.Core.Bool.{Bool, true, false, cond, _&&_, _||_}
+use mathlib.Core.List.{List, [], _∷_, _++_}
+use Prim.Native.Nat.{ℕ, zero, suc, _+_, _*_, _/_, _%_, _<_}
+
+module _ {A : Type 0} where
+  abbrev pub any : (A → Bool) → List A → Bool
+  any p [] = false
+  any p (x ∷ xs) = p x || any p xs
+
+  -- P holds of each
+  pub data All (P : A → Type 0) : List A → Type 0 where
+    none : All P []
+    more : {x : A} {xs : List A} → P x → All P xs → All P (x ∷ xs)
+
+  -- the bytes of each, one after the other
+  unfoldable pub each : (A → List ℕ) → List A → List ℕ
+  each f [] = []
+  each f (x ∷ xs) = f x ++ each f xs
+
+-- a list of bytes
+abbrev pub Bytes : List ℕ → Type 0
+Bytes bs = All (λ b. b < 256) bs
+
+-- "big-endian", two bytes
+abbrev pub be16 : ℕ → List ℕ
+be16 n = n / 256 ∷ n % 256 ∷ []
+
+-- accepted with a value, or refused with the number of the question and the component concerned
+pub data Answer (A : Type 0) : Type 0 where
+  accepted : A → Answer A
+  refused : ℕ → ℕ → Answer A
+
+abbrev pub _after_ : {A B : Type 0} → Answer A → (A → Answer B) → Answer B
+_after_ (accepted a) f = f a
+_after_ (refused n c) f = refused n c
+
+infixl 5 _after_

@@ -1,0 +1,4 @@
+pub mod Skim
+pub mod EdgeItems
+pub mod Sequence
+pub mod Whole

@@ -1,0 +1,161 @@
+-- The components of a table one after the other, and the table: by the verdict alone. Assumes nothing.
+use mathlib.Core.Path.{_≡_, refl, sym, ap, ap₂, subst, _∙_}
+use mathlib.Core.Bool.{Bool, true, false, cond, _&&_}
+use mathlib.Core.List.{List, [], _∷_}
+use Prim.Native.Nat.{ℕ, zero, suc, pred, _+_, _-_, _≤_, _<_}
+use native.Mathlib.Omega.{arith}
+use native.Mathlib.Numerals.{add-one}
+use borrow.Author.Tests.{le-leb, lt-leb, ne-eqb}
+use Rattle.model.proofs.Bools.{tests}
+use lib.Dec.{leb, eqb}
+use lib.ListN.{length, take, drop, getD, set, replicate, length-drop, drop-of-length-le}
+use lib.Seq.{drop-drop, drop-cons, getD-drop}
+use Rattle.model.specs.declared.Verdict.{Verdict}
+use Rattle.model.specs.declared.Verdict.the-variants.{Accepted, Refused}
+use Rattle.model.specs.Lists.{Answer, accepted, refused, _after_}
+use Rattle.model.specs.Table.{Component, Read}
+use Rattle.model.specs.Reader.{byte, word, Parsed, ok, fault, readComponent, about, atEnd, lengthFits, readComponents, versionFine, lengthFine, countFine, readWith, readTable}
+use Rattle.model.specs.Calls.{verdictOf}
+use Rattle.table.specs.declared.Tried.{Tried}
+use Rattle.table.specs.declared.Tried.the-variants.{Fine, Fails}
+use Rattle.table.specs.declared.Reading.{Reading}
+use Rattle.table.specs.Place.{triedOf}
+use Rattle.table.specs.Directory.{startOf, startsOf, foundIn, readingFrom, readingOf, refusal}
+use Rattle.table.proofs.Skim.{first-of}
+
+-- ## The reader's answer from a verdict
+
+pub says-refused : {A : Type 0} (bs : List ℕ) (n : ℕ) (a : Answer A) {k c : ℕ} → verdictOf a ≡ Refused k c → refusal k c ≡ readingFrom bs n a
+says-refused bs n (accepted x) e = let z : _≡_ {A = ℕ} 0 1 = cc in absurd (omega arith)
+says-refused bs n (refused m d) {k} {c} e = ap (λ (v : Verdict). record { verdict = v; starts = replicate 8 0 }) (sym e)
+
+pub says-accepted : {A : Type 0} (bs : List ℕ) (n : ℕ) (a : Answer A) (l : List ℕ) → verdictOf a ≡ Accepted → l ≡ startsOf bs n
+    → record { verdict = Accepted; starts = l } ≡ readingFrom bs n a
+says-accepted bs n (accepted x) l e q = ap (λ (k : List ℕ). record { verdict = Accepted; starts = k }) q
+says-accepted bs n (refused m d) l e q = let z : _≡_ {A = ℕ} 0 1 = cc in absurd (omega arith)
+
+verdict-keeps : {A B : Type 0} (a : Answer A) (f : A → B) → verdictOf (a after λ x. accepted (f x)) ≡ verdictOf a
+verdict-keeps (accepted x) f = refl
+verdict-keeps (refused n c) f = refl
+
+-- the table's reading is the components' reading with the header's numbers
+pub reading-keeps : {A B : Type 0} (bs : List ℕ) (n : ℕ) (a : Answer A) (f : A → B) → readingFrom bs n (a after λ x. accepted (f x)) ≡ readingFrom bs n a
+reading-keeps bs n (accepted x) f = refl
+reading-keeps bs n (refused k c) f = refl
+
+-- ## A component
+
+was-fine : {A : Type 0} (m : Parsed A) → triedOf m ≡ Fine → (a : A) × ((c : ℕ) → about c m ≡ accepted a)
+was-fine (ok a r) e = (a, λ c. refl)
+was-fine (fault n) e = let z : _≡_ {A = ℕ} 0 1 = cc in absurd (omega arith)
+
+fails-with : {A : Type 0} (m : Parsed A) {n : ℕ} (c : ℕ) → triedOf m ≡ Fails n → about c m ≡ refused n c
+fails-with (ok a r) c e = let z : _≡_ {A = ℕ} 0 1 = cc in absurd (omega arith)
+fails-with (fault k) {n} c e = let q : k ≡ n = cc in ap (λ (j : ℕ). refused j c) q
+
+module _ (channels c : ℕ) (s : List ℕ) (at n : ℕ) (x : Verdict) (k : ℕ) (h : 0 < k) (inv : verdictOf (readComponents channels k c (drop at s)) ≡ x) where
+  more : k ≡ suc (k - 1)
+  more = omega arith
+
+  here : verdictOf (readComponents channels (suc (k - 1)) c (drop at s)) ≡ x
+  here = subst (λ (i : ℕ). verdictOf (readComponents channels i c (drop at s)) ≡ x) more inv
+
+  -- its length bytes do not fit
+  pub no-length : length s - at < 2 → x ≡ Refused 4 c
+  unfolding readComponents
+  no-length e = sym here ∙ rw (lt-leb 2 (length (drop at s)) (simp length-drop (omega arith)))
+
+  -- its length is the number of the two bytes there
+  stated : n ≡ word s at → word (drop at s) 0 ≡ n
+  stated e = rw (e, first-of s at, getD-drop at s 1 0, add-one at)
+
+  -- its length does not fit
+  pub too-long : at + 2 ≤ length s → n ≡ word s at → length s - at < n → x ≡ Refused 4 c
+  unfolding readComponents
+  too-long f e g =
+      sym here
+      ∙ rw (le-leb 2 (length (drop at s)) (simp length-drop (omega arith)), stated e, lt-leb n (length (drop at s)) (simp length-drop (omega arith)))
+
+  fits : at + 2 ≤ length s → n ≡ word s at → at + n ≤ length s → lengthFits (drop at s) ≡ true
+  fits f e g =
+      rw (le-leb 2 (length (drop at s)) (simp length-drop (omega arith)), stated e, le-leb n (length (drop at s)) (simp length-drop (omega arith)))
+
+  -- it fits and fails
+  pub fails-there : at + 2 ≤ length s → n ≡ word s at → at + n ≤ length s → {j : ℕ} → triedOf (readComponent channels (take n (drop at s))) ≡ Fails j → x ≡ Refused j c
+  unfolding readComponents
+  fails-there f e g q =
+      sym here ∙ rw (fits f e g, stated e, fails-with (readComponent channels (take n (drop at s))) c q)
+
+  -- it is fine: the next one
+  pub fine-there : at + 2 ≤ length s → n ≡ word s at → at + n ≤ length s → triedOf (readComponent channels (take n (drop at s))) ≡ Fine
+      → verdictOf (readComponents channels (k - 1) (c + 1) (drop (at + n) s)) ≡ x
+  unfolding readComponents
+  fine-there f e g q = go (was-fine (readComponent channels (take n (drop at s))) q)
+    where
+      rest : Answer (List Component)
+      rest = readComponents channels (k - 1) (suc c) (drop n (drop at s))
+
+      go : ((C : Component) × ((d : ℕ) → about d (readComponent channels (take n (drop at s))) ≡ accepted C)) → verdictOf (readComponents channels (k - 1) (c + 1) (drop (at + n) s)) ≡ x
+      go (C, a) =
+          let p : verdictOf (readComponents channels (suc (k - 1)) c (drop at s)) ≡ verdictOf rest = rw (fits f e g, stated e, a c) (verdict-keeps rest (λ l. C ∷ l)) in
+          rw (add-one c, ← drop-drop n at s) (sym p ∙ here)
+
+-- ## The end of the components
+
+module _ (channels c : ℕ) (s : List ℕ) (at : ℕ) (x : Verdict) (k : ℕ) (h : k ≤ 0) (inv : verdictOf (readComponents channels k c (drop at s)) ≡ x) where
+  none-left : verdictOf (atEnd (pred c) (drop at s)) ≡ x
+  unfolding readComponents
+  none-left = let z : k ≡ 0 = omega arith in subst (λ (i : ℕ). verdictOf (readComponents channels i c (drop at s)) ≡ x) z inv
+
+  pub bytes-over : (d : ℕ) → d + 1 ≡ c → at < length s → x ≡ Refused 4 d
+  bytes-over d e g =
+      let p : pred c ≡ d = ap pred (sym e ∙ add-one d) in
+      sym none-left ∙ rw (drop-cons s at 0 g, p)
+
+  pub at-the-end : length s ≤ at → x ≡ Accepted
+  at-the-end g = sym none-left ∙ rw (drop-of-length-le s g)
+
+-- ## Where components start
+
+pub start-on : (s : List ℕ) (c at n : ℕ) → at ≡ startOf s c → n ≡ word s at → at + n ≡ startOf s (c + 1)
+unfolding startOf
+start-on s c at n e q = rw (add-one c, q, ← e)
+
+pub starts-on : (s l : List ℕ) (c at : ℕ) → l ≡ startsOf s c → at ≡ startOf s c → set l c at ≡ startsOf s (c + 1)
+unfolding startsOf
+starts-on s l c at e q = rw (add-one c, e, q)
+
+-- ## The table
+
+module _ (bs : List ℕ) where
+  pub first-refused : versionFine bs ≡ false → refusal 1 255 ≡ readingOf bs
+  unfolding readTable
+  first-refused e = rw e
+
+  pub second-refused : versionFine bs ≡ true → lengthFine bs ≡ false → refusal 2 255 ≡ readingOf bs
+  unfolding readTable
+  second-refused e f = rw (e, f)
+
+  pub third-refused : versionFine bs ≡ true → lengthFine bs ≡ true → countFine bs ≡ false → refusal 3 255 ≡ readingOf bs
+  unfolding readTable
+  third-refused e f g = rw (e, f, g)
+
+  pub fourth : versionFine bs ≡ true → lengthFine bs ≡ true → countFine bs ≡ true
+      → readingFrom bs (byte bs 3) (readComponents (byte bs 4) (byte bs 3) 0 (drop 7 bs)) ≡ readingOf bs
+  unfolding readTable
+  fourth e f g = rw (e, f, g) (sym (reading-keeps bs (byte bs 3) (readComponents (byte bs 4) (byte bs 3) 0 (drop 7 bs)) (readWith bs)))
+
+-- ## What the tests of the header say
+
+pub no-version : (bs : List ℕ) → length bs < 1 → versionFine bs ≡ false
+no-version [] h = refl
+no-version (b ∷ bs) h = absurd (omega arith)
+
+pub other-version : (bs : List ℕ) → (getD bs 0 0 ≡ 1 → ⊥) → versionFine bs ≡ false
+other-version bs h = ne-eqb (byte bs 0) 1 h
+
+pub its-length : (bs : List ℕ) → lengthFine bs ≡ true → (7 ≤ length bs) × (length bs ≤ 8192)
+its-length bs e = let t = simp tests at e in (t .0 .0, t .0 .1)
+
+pub its-count : (bs : List ℕ) → countFine bs ≡ true → (1 ≤ byte bs 3) × (byte bs 3 ≤ 8)
+its-count bs e = let t = simp tests at e in (t .0 .0 .0 .0, t .0 .0 .0 .1)

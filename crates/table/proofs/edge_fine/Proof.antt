@@ -1,0 +1,99 @@
+use borrow.Author.Needs.{needs}
+use Rattle.table.proofs.edge_fine.Statement.{statement}
+use Rattle.table.proofs.edge_fine.Tie as tie
+use Rattle.table.proofs.edge_fine.Reads as reads
+use Rattle.table.proofs.edge_fine.Lts as lts
+use Rattle.table.proofs.both.Reads as both-reads
+use Rattle.table.proofs.counts_fine.Reads as counts-fine-reads
+use Rattle.table.proofs.mask_limit.Reads as mask-limit-reads
+
+-- src/lib.rt:247:16
+shared-slice-read-kind : tie.Need-shared-slice-read-kind
+shared-slice-read-kind c = search needs
+
+-- src/lib.rt:248:37
+shared-slice-read-both : tie.Need-shared-slice-read-both
+shared-slice-read-both c = search needs
+
+-- src/lib.rt:248:21
+both-requires : tie.Need-both-requires
+both-requires c κs = search needs
+
+-- src/lib.rt:248:58
+shared-slice-read-both-2 : tie.Need-shared-slice-read-both-2
+shared-slice-read-both-2 c = search needs
+
+-- src/lib.rt:248:9
+both-requires-2 : tie.Need-both-requires-2
+both-requires-2 c κs = search needs
+
+-- src/lib.rt:249:29
+shared-slice-read-both-3 : tie.Need-shared-slice-read-both-3
+shared-slice-read-both-3 c = search needs
+
+-- src/lib.rt:249:36
+mask-limit-requires : tie.Need-mask-limit-requires
+mask-limit-requires c κs = search needs
+
+-- src/lib.rt:249:9
+both-requires-3 : tie.Need-both-requires-3
+both-requires-3 c κs = search needs
+
+-- src/lib.rt:250:23
+shared-slice-read-both-4 : tie.Need-shared-slice-read-both-4
+shared-slice-read-both-4 c = search needs
+
+-- src/lib.rt:250:10
+both-requires-4 : tie.Need-both-requires-4
+both-requires-4 c κs = search needs
+
+-- src/lib.rt:250:53
+shared-slice-read-counts-fine : tie.Need-shared-slice-read-counts-fine
+shared-slice-read-counts-fine c = search needs
+
+-- src/lib.rt:250:59
+shared-slice-read-counts-fine-2 : tie.Need-shared-slice-read-counts-fine-2
+shared-slice-read-counts-fine-2 c = search needs
+
+-- src/lib.rt:250:35
+counts-fine-requires : tie.Need-counts-fine-requires
+counts-fine-requires c κs = search needs
+
+-- src/lib.rt:250:5
+both-requires-5 : tie.Need-both-requires-5
+both-requires-5 c κs = search needs
+
+-- src/lib.rt:243:1
+returns : tie.Need-returns
+returns c =
+    let m = c .before .before .before .before in
+    let n = m .before .before .before .before .before in
+    rw (
+      c .both5 .ensures,
+      c .before .counts-fine .ensures,
+      m .both4 .ensures,
+      m .before .before .both3 .ensures,
+      m .before .before .before .mask-limit .ensures,
+      n .both2 .ensures,
+      n .before .before .before .both .ensures,
+    )
+
+pub edge-fine-spec : {M : Type 1} → statement M
+edge-fine-spec =
+    tie.close
+    (tie.spec
+    shared-slice-read-kind
+    shared-slice-read-both
+    both-requires
+    shared-slice-read-both-2
+    both-requires-2
+    shared-slice-read-both-3
+    mask-limit-requires
+    both-requires-3
+    shared-slice-read-both-4
+    both-requires-4
+    shared-slice-read-counts-fine
+    shared-slice-read-counts-fine-2
+    counts-fine-requires
+    both-requires-5
+    returns)

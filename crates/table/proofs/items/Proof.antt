@@ -1,0 +1,40 @@
+use mathlib.Core.Path.{_≡_}
+use lib.ListN.{drop}
+use Rattle.table.proofs.Sequence.{moved}
+use Rattle.table.proofs.EdgeItems.{items-internal, items-send, items-receive}
+use borrow.Author.Needs.{needs}
+use Rattle.table.proofs.items.Statement.{statement}
+use Rattle.table.proofs.items.Tie as tie
+use Rattle.table.proofs.items.Reads as reads
+use Rattle.table.proofs.items.Lts as lts
+use Rattle.table.proofs.channel.Reads as channel-reads
+use Rattle.table.proofs.pairs.Reads as pairs-reads
+use Rattle.table.proofs.parts.Reads as parts-reads
+
+-- src/lib.rt:209:9
+parts-requires : tie.Need-parts-requires
+parts-requires c κs = search needs
+
+-- src/lib.rt:209:9
+returns : tie.Need-returns
+returns c = let a = c .before .before .before .args in moved (items-internal (a .z) (a .kind) (a .n) (drop (a .at) (a .p .now)) (c .before .if1 .taken)) (c .parts .ensures)
+
+-- src/lib.rt:212:9
+channel-requires : tie.Need-channel-requires
+channel-requires c κs = search needs
+
+-- src/lib.rt:212:9
+returns-2 : tie.Need-returns-2
+returns-2 c = let a = c .before .before .before .before .args in moved (items-send (a .z) (a .kind) (a .n) (drop (a .at) (a .p .now)) (c .before .if2 .taken)) (c .channel .ensures)
+
+-- src/lib.rt:214:5
+pairs-requires : tie.Need-pairs-requires
+pairs-requires c κs = search needs
+
+-- src/lib.rt:204:1
+returns-3 : tie.Need-returns-3
+returns-3 c = let a = c .before .before .before .before .args in moved (items-receive (a .z) (a .kind) (a .n) (drop (a .at) (a .p .now)) (c .before .before .if1 .left) (c .before .if2 .left)) (c .pairs .ensures)
+
+pub items-spec : {M : Type 1} → statement M
+items-spec =
+    tie.close (tie.spec parts-requires returns channel-requires returns-2 pairs-requires returns-3)

@@ -1,0 +1,37 @@
+-- What the reader answers: the verdict of checks 1 to 6, and where each component of an accepted table starts in its bytes.
+use mathlib.Core.List.{List, [], _∷_}
+use Prim.Native.Nat.{ℕ, zero, suc, _+_}
+use lib.ListN.{set, replicate}
+use Rattle.model.specs.Lists.{Answer, accepted, refused}
+use Rattle.model.specs.Table.{Read}
+use Rattle.model.specs.Reader.{byte, word, readTable}
+use Rattle.model.specs.Calls.{verdictOf}
+use Rattle.model.specs.declared.Verdict.the-variants.{Refused}
+use Rattle.table.specs.declared.Reading.{Reading}
+
+-- Where component c starts: the header's 7 bytes, then each component is as long as it says.
+unfoldable pub startOf : List ℕ → ℕ → ℕ
+startOf bs zero = 7
+startOf bs (suc c) = startOf bs c + word bs (startOf bs c)
+
+-- the starts of the first n components, 0 for those that are absent
+unfoldable pub startsOf : List ℕ → ℕ → List ℕ
+unfolding startOf
+startsOf bs zero = replicate 8 0
+startsOf bs (suc n) = set (startsOf bs n) n (startOf bs n)
+
+-- accepted: the starts of all its components; refused: none
+abbrev pub foundIn : {A : Type 0} → List ℕ → ℕ → Answer A → List ℕ
+foundIn bs n (accepted a) = startsOf bs n
+foundIn bs n (refused k c) = replicate 8 0
+
+abbrev pub readingFrom : {A : Type 0} → List ℕ → ℕ → Answer A → Reading
+readingFrom bs n a = record { verdict = verdictOf a; starts = foundIn bs n a }
+
+-- a refusal finds no component
+abbrev pub refusal : ℕ → ℕ → Reading
+refusal n c = record { verdict = Refused n c; starts = replicate 8 0 }
+
+-- the answer of the reader, for any bytes
+abbrev pub readingOf : List ℕ → Reading
+readingOf bs = readingFrom bs (byte bs 3) (readTable bs)

@@ -1,0 +1,71 @@
+//! The exported calls over lent buffers, with checks 13 and 14.
+//!
+//! "Lent buffers keep their bytes; on success so do those past the result."
+
+use crate::checks::verdict;
+use crate::program::{self, program_length, write_program};
+use crate::run::{run_into, Outcome, OBSERVATION};
+use crate::table::Refusal;
+
+/// "14. Are there at most 1,000,000 choices? Else 14."
+pub const MAX_CHOICES: usize = 1_000_000;
+/// The numbers that a passage takes in a lent list: its seven fields.
+pub const FIELDS: usize = 7;
+/// The seventh field of a passage without a message.
+pub const NO_MESSAGE: u32 = u32::MAX;
+
+/// Checks 1 to 12: "A table is accepted when 1 to 12 are passed".
+pub fn check(table: &[u8]) -> Result<(), Refusal> {
+    verdict(table).map(|_| ())
+}
+
+/// Writes the schedule, [`FIELDS`] numbers a passage in the order
+/// "component, edge, location, entry, ready, end, message", and gives the
+/// count of passages.
+pub fn schedule(table: &[u8], list: &mut [u32]) -> Result<usize, Refusal> {
+    let (_, passages) = verdict(table)?;
+    demand_room(list.len() / FIELDS, passages.len())?;
+    for (place, passage) in list.chunks_exact_mut(FIELDS).zip(&passages) {
+        place.copy_from_slice(&passage.fields(NO_MESSAGE));
+    }
+    Ok(passages.len())
+}
+
+/// Writes the program bytes and gives their count.
+pub fn translate(table: &[u8], bytes: &mut [u8]) -> Result<usize, Refusal> {
+    let (table, _) = verdict(table)?;
+    let length = program_length(&table);
+    demand_room(bytes.len(), length)?;
+    write_program(&table, &mut bytes[..length]);
+    Ok(length)
+}
+
+/// "The part of the program bytes that belongs to one node can be had by its
+/// number; a number without a node, or a header or length that runs out of
+/// the bytes, gives an empty part."
+pub fn part(program: &[u8], node: usize) -> &[u8] {
+    program::part_bytes(program, node)
+}
+
+/// Runs a table with choices, writes the observations and gives how it ended
+/// and their count.
+pub fn run(table: &[u8], choices: &[u8], bytes: &mut [u8]) -> Result<(Outcome, usize), Refusal> {
+    let (table, passages) = verdict(table)?;
+    demand_room(bytes.len() / OBSERVATION, passages.len())?;
+    if choices.len() > MAX_CHOICES {
+        return Err(Refusal::whole(14));
+    }
+    let program = program::program(&table);
+    let answer = run_into(&table, &passages, &program, choices, bytes);
+    Ok(answer.expect("the program of an accepted table can be opened"))
+}
+
+/// "13. Does the lent buffer hold the result (the program length, the list's
+/// passages, or a run's 32 bytes for each passage)? Else 13."
+fn demand_room(room: usize, needed: usize) -> Result<(), Refusal> {
+    if needed <= room {
+        Ok(())
+    } else {
+        Err(Refusal::whole(13))
+    }
+}

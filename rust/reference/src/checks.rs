@@ -1,0 +1,126 @@
+//! Checks 10 to 12 over the finished schedule, and the verdict on a table.
+
+use crate::schedule::{schedule, Passage};
+use crate::table::*;
+
+/// Checks 1 to 12: "A table is accepted when 1 to 12 are passed".
+pub fn verdict(bytes: &[u8]) -> Result<(Table, Vec<Passage>), Refusal> {
+    let table = read_table(bytes)?;
+    let passages = schedule(&table)?;
+    check_messages(&table, &passages)?;
+    Ok((table, passages))
+}
+
+/// Checks 10 to 12, each over the whole schedule before the next: "Then over
+/// the schedule, for sends with ready < H". The refusal names the component
+/// "of the first passage in schedule order at fault (a send for 10 and 11,
+/// the receive for 12)".
+pub fn check_messages(table: &Table, passages: &[Passage]) -> Result<(), Refusal> {
+    let roles: Vec<Role> = passages.iter().map(|p| role(table, p)).collect();
+    let notes = take_notes(passages, &roles);
+    refuse(10, passages, |index| notes[index].collides)?;
+    refuse(11, passages, |index| {
+        matches!(roles[index], Role::Send(_)) && !notes[index].heard_once()
+    })?;
+    refuse(12, passages, |index| notes[index].sends > 1)
+}
+
+/// Refuses with the component of the first passage at fault.
+fn refuse(
+    number: u8,
+    passages: &[Passage],
+    at_fault: impl Fn(usize) -> bool,
+) -> Result<(), Refusal> {
+    match (0..passages.len()).find(|index| at_fault(*index)) {
+        Some(index) => Err(Refusal::new(number, passages[index].component)),
+        None => Ok(()),
+    }
+}
+
+/// What a passage does for checks 10 to 12.
+#[derive(Clone, Copy)]
+enum Role {
+    /// A send with ready < H, and its channel.
+    Send(u8),
+    /// A receive, its channels as bits.
+    Receive(u16),
+    /// Anything else.
+    Other,
+}
+
+fn role(table: &Table, passage: &Passage) -> Role {
+    match &passage.edge_in(table).action {
+        Action::Send(channel) if passage.ready < u32::from(table.horizon) => Role::Send(*channel),
+        Action::Receive(pairs) => {
+            Role::Receive(pairs.iter().fold(0, |bits, pair| bits | 1 << pair.channel))
+        }
+        _ => Role::Other,
+    }
+}
+
+/// What is noted of a passage: the first four of a send, the last of a
+/// receive.
+#[derive(Clone, Copy, Default)]
+struct Note {
+    /// It shares a tick with a later send window of another component.
+    collides: bool,
+    /// "For each send the components listening are noted as eight bits".
+    listeners: u8,
+    /// The number of their windows.
+    windows: u32,
+    /// Whether the last window noted starts earlier and ends later.
+    enclosed: bool,
+    /// The number of send windows of other components on its channels.
+    sends: u32,
+}
+
+impl Note {
+    /// "exactly one may be set, by one window", and that window must "start
+    /// earlier and end later".
+    fn heard_once(&self) -> bool {
+        self.listeners.count_ones() == 1 && self.windows == 1 && self.enclosed
+    }
+
+    /// Notes a receive window at its send.
+    fn hear(&mut self, send: &Passage, receive: &Passage) {
+        self.listeners |= 1 << receive.component;
+        self.windows += 1;
+        self.enclosed = receive.ready < send.ready && send.end < receive.end;
+    }
+}
+
+/// Tries each pair of windows that may share a tick. Entries never fall along
+/// the list, so a later passage entered after a window's end ends the search.
+fn take_notes(passages: &[Passage], roles: &[Role]) -> Vec<Note> {
+    let mut notes = vec![Note::default(); passages.len()];
+    for (i, first) in passages.iter().enumerate() {
+        if let Role::Other = roles[i] {
+            continue;
+        }
+        for (j, second) in passages.iter().enumerate().skip(i + 1) {
+            if second.entry > first.end {
+                break;
+            }
+            if first.component != second.component && first.shares_a_tick(second) {
+                note_pair(passages, roles, &mut notes, i, j);
+            }
+        }
+    }
+    notes
+}
+
+/// Notes what windows `i` and `j`, which share a tick, are to each other.
+fn note_pair(passages: &[Passage], roles: &[Role], notes: &mut [Note], i: usize, j: usize) {
+    match (roles[i], roles[j]) {
+        (Role::Send(_), Role::Send(_)) => notes[i].collides = true,
+        (Role::Send(channel), Role::Receive(channels)) if channels >> channel & 1 == 1 => {
+            notes[i].hear(&passages[i], &passages[j]);
+            notes[j].sends += 1;
+        }
+        (Role::Receive(channels), Role::Send(channel)) if channels >> channel & 1 == 1 => {
+            notes[j].hear(&passages[j], &passages[i]);
+            notes[i].sends += 1;
+        }
+        _ => {}
+    }
+}

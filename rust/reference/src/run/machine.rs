@@ -1,0 +1,229 @@
+//! The step machine: all nodes and the tick.
+
+use super::node::Node;
+use super::{OBSERVATION, TICK};
+use crate::program::{part_bytes, NodeProgram, Op};
+use crate::schedule::Passage;
+use crate::table::{Table, MAX_COMPONENTS};
+
+/// What a choice that was carried out did.
+#[derive(Clone, Copy, Debug, PartialEq, Eq)]
+pub enum Happening {
+    /// A node finished a statement that concerns no other and is not listed
+    /// below.
+    Own,
+    /// A node finished a sleep; its observation is due.
+    Slept {
+        /// The node.
+        node: u8,
+    },
+    /// A node finished internal work.
+    Done {
+        /// The node.
+        node: u8,
+    },
+    /// A node finished a listen without a message.
+    Timeout {
+        /// The node.
+        node: u8,
+    },
+    /// A node finished a send, and its listener the listen.
+    Message {
+        /// The node that sent.
+        sender: u8,
+        /// The node that listened.
+        receiver: u8,
+        /// The channel.
+        channel: u8,
+    },
+    /// A tick passed.
+    Ticked {
+        /// The lowest node that it made late.
+        late: Option<u8>,
+    },
+}
+
+/// What lateness needs to know of a node's passages in the schedule.
+#[derive(Clone, Copy, Debug)]
+struct Coming {
+    /// The place of the next passage in the schedule.
+    index: usize,
+    /// Its ready; `u32::MAX` where there is no next passage.
+    ready: u32,
+}
+
+/// The nodes of a program at a tick.
+#[derive(Clone, Debug)]
+pub struct Machine<'a> {
+    nodes: Vec<Node<'a>>,
+    coming: [Coming; MAX_COMPONENTS],
+    clocks: [u8; MAX_COMPONENTS],
+    passages: &'a [Passage],
+    tick: u32,
+    horizon: u32,
+}
+
+impl<'a> Machine<'a> {
+    /// "It starts at tick 0, no observation yet, each node at its program's
+    /// start". Nothing for a program whose parts cannot be opened or that has
+    /// not as many nodes as the table.
+    pub fn new(table: &Table, passages: &'a [Passage], program: &'a [u8]) -> Option<Machine<'a>> {
+        let &[_, _, _, count, high, low] = program.first_chunk()?;
+        let count = usize::from(count);
+        if count != table.components.len() || count > MAX_COMPONENTS {
+            return None;
+        }
+        let mut machine = Machine {
+            nodes: Vec::with_capacity(count),
+            coming: [Coming { index: 0, ready: 0 }; MAX_COMPONENTS],
+            clocks: [0; MAX_COMPONENTS],
+            passages,
+            tick: 0,
+            horizon: u16::from_be_bytes([high, low]).into(),
+        };
+        for number in 0..count {
+            let program = NodeProgram::new(part_bytes(program, number))?;
+            machine.nodes.push(Node::new(program)?);
+            machine.clocks[number] = table.components[number].clocks;
+            machine.expect_passage(number, 0);
+        }
+        Some(machine)
+    }
+
+    /// The present tick.
+    pub fn tick(&self) -> u32 {
+        self.tick
+    }
+
+    /// The horizon of the program.
+    pub fn horizon(&self) -> u32 {
+        self.horizon
+    }
+
+    /// The nodes with their registers.
+    pub fn nodes(&self) -> &[Node<'a>] {
+        &self.nodes
+    }
+
+    /// Carries out a choice: "Choice 0 to 7: that node finishes its
+    /// statement. Choice 255: a tick passes." Nothing, and nothing changed,
+    /// where it is not allowed.
+    #[inline]
+    pub fn choose(&mut self, choice: u8) -> Option<Happening> {
+        if choice == TICK {
+            return self.pass_tick();
+        }
+        let number = usize::from(choice);
+        let statement = self.nodes.get(number)?.statement()?;
+        if statement.op == Op::Send {
+            return self.send(number, statement.a);
+        }
+        let happening = self.nodes[number].finish(choice, statement, self.tick)?;
+        if let Happening::Slept { .. } = happening {
+            self.expect_passage(number, self.coming[number].index + 1);
+        }
+        Some(happening)
+    }
+
+    /// Notes a node's next passage, the first in the schedule from a place on.
+    fn expect_passage(&mut self, number: usize, from: usize) {
+        let passages = self.passages.iter().enumerate().skip(from);
+        let mut own = passages.filter(|(_, p)| usize::from(p.component) == number);
+        self.coming[number] = match own.next() {
+            Some((index, passage)) => Coming {
+                index,
+                ready: passage.ready,
+            },
+            None => Coming {
+                index: self.passages.len(),
+                ready: u32::MAX,
+            },
+        };
+    }
+
+    /// Not allowed: "a send without a listener that names its channel, has
+    /// taken nothing and has listened at least as long". A node that stands
+    /// at its listen has taken nothing; it has listened since its t.
+    fn send(&mut self, sender: usize, channel: u8) -> Option<Happening> {
+        let since = self.nodes[sender].registers.t;
+        let (receiver, pairs, location) = self.listener(channel, since)?;
+        self.nodes[sender].sent();
+        self.nodes[receiver].received(pairs, location);
+        Some(Happening::Message {
+            sender: sender as u8,
+            receiver: receiver as u8,
+            channel,
+        })
+    }
+
+    /// The lowest node that has listened to a channel since a tick: its
+    /// number, its pair count and the paired location.
+    fn listener(&self, channel: u8, since: u32) -> Option<(usize, u8, u8)> {
+        let mut nodes = self.nodes.iter().enumerate();
+        nodes.find_map(|(number, node)| {
+            let (pairs, location) = node.listens_to(channel)?;
+            (node.registers.t <= since).then_some((number, pairs, location))
+        })
+    }
+
+    /// Not allowed: "a tick while a sleep or listen is due".
+    fn pass_tick(&mut self) -> Option<Happening> {
+        if self.nodes.iter().any(|node| is_due(node, self.tick)) {
+            return None;
+        }
+        self.tick += 1;
+        let late = (0..self.nodes.len()).find(|number| self.is_late(*number));
+        Some(Happening::Ticked {
+            late: late.map(|number| number as u8),
+        })
+    }
+
+    /// "Late: a tick takes a node's work past its window's end, or takes a
+    /// node that has yet to reach a sleep past that sleep's ready in the
+    /// schedule."
+    fn is_late(&self, number: usize) -> bool {
+        let node = &self.nodes[number];
+        if node.registers.working {
+            return self.tick > node.window_end();
+        }
+        self.tick > self.coming[number].ready && !stands_at(node, Op::Sleep)
+    }
+
+    /// "Finished sleep writes an observation, due at the passage's ready, 32
+    /// bytes: component, edge, location, 0, tick (4 bytes), four clocks grown
+    /// by n (4 each), four variables (2 each); absent ones 0." The node must
+    /// have finished the sleep by the last choice.
+    pub fn observation(&self, node: u8) -> [u8; OBSERVATION] {
+        let number = usize::from(node);
+        let registers = &self.nodes[number].registers;
+        let mut bytes = [0; OBSERVATION];
+        bytes[..3].copy_from_slice(&[node, registers.edge, registers.location]);
+        bytes[4..8].copy_from_slice(&self.tick.to_be_bytes());
+        let present = usize::from(self.clocks[number]);
+        let clocks = bytes[8..24].chunks_exact_mut(4);
+        for (place, clock) in clocks.zip(&registers.clocks[..present]) {
+            place.copy_from_slice(&clock.saturating_add(registers.n).to_be_bytes());
+        }
+        let variables = bytes[24..].chunks_exact_mut(2);
+        for (place, variable) in variables.zip(&registers.variables) {
+            place.copy_from_slice(&variable.to_be_bytes());
+        }
+        bytes
+    }
+}
+
+/// Whether a node stands at a statement with this op.
+#[inline]
+fn stands_at(node: &Node, op: Op) -> bool {
+    node.statement().is_some_and(|statement| statement.op == op)
+}
+
+/// Whether a node's sleep or listen is due at a tick.
+#[inline]
+fn is_due(node: &Node, tick: u32) -> bool {
+    if node.registers.working {
+        node.window_end() == tick && stands_at(node, Op::Listen)
+    } else {
+        node.registers.t == tick && stands_at(node, Op::Sleep)
+    }
+}

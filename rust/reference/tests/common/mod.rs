@@ -1,0 +1,207 @@
+//! What the tests share: the worked example, hexadecimal, and the vectors.
+#![allow(dead_code)]
+
+use reference::schedule::{schedule, Passage};
+use reference::table::*;
+use std::path::PathBuf;
+
+/// The 103 bytes of "Probe and hub".
+pub const PROBE_AND_HUB: &str = "010067020100140026020001000200000500000a\
+     01000100010001000003ffff0000010001010000000008ffff003a030001010300000600000a00000a\
+     02000200010001000002ffff000100010001010001000009ffff0001000100020001010000000009ffff";
+
+pub fn probe_and_hub() -> Vec<u8> {
+    unhex(PROBE_AND_HUB)
+}
+
+/// The worked example as a table, to be changed by a test.
+pub fn probe_and_hub_table() -> Table {
+    Table {
+        channels: 1,
+        horizon: 20,
+        components: vec![probe(), hub()],
+    }
+}
+
+fn probe() -> Component {
+    Component {
+        initial: 0,
+        clocks: 1,
+        variables: 0,
+        locations: vec![location(5), location(10)],
+        edges: vec![
+            edge(0, 1, 0, 3, Action::Send(0)),
+            edge(1, 0, 1, 8, internal(&[])),
+        ],
+    }
+}
+
+fn hub() -> Component {
+    Component {
+        initial: 0,
+        clocks: 1,
+        variables: 1,
+        locations: vec![location(6), location(10), location(10)],
+        edges: vec![
+            edge(0, 2, 0, 2, receive(&[(0, 1)])),
+            edge(1, 0, 1, 9, internal(&[(Operation::Add, 1)])),
+            edge(2, 0, 1, 9, internal(&[])),
+        ],
+    }
+}
+
+/// A location with the invariant x0 ≤ bound.
+pub fn location(bound: u16) -> Location {
+    Location { clock: 0, bound }
+}
+
+/// An edge with one bound, x0 ≥ low.
+pub fn edge(source: u8, destination: u8, mask: u8, low: u16, action: Action) -> Edge {
+    Edge {
+        source,
+        destination,
+        mask,
+        clock_bounds: [clock_bound(low, None)].into_iter().collect(),
+        data_bounds: List::new(),
+        action,
+    }
+}
+
+pub fn clock_bound(low: u16, high: Option<u16>) -> ClockBound {
+    ClockBound {
+        clock: 0,
+        low,
+        high,
+    }
+}
+
+/// Updates of variable 0.
+pub fn internal(updates: &[(Operation, i16)]) -> Action {
+    let update = |&(operation, number)| Update {
+        variable: 0,
+        operation,
+        number,
+    };
+    Action::Internal(updates.iter().map(update).collect())
+}
+
+pub fn receive(pairs: &[(u8, u8)]) -> Action {
+    let pair = |&(channel, location)| Pair { channel, location };
+    Action::Receive(pairs.iter().map(pair).collect())
+}
+
+pub fn refused(number: u8, component: u8) -> Refusal {
+    Refusal { number, component }
+}
+
+/// Bytes from hexadecimal; `-` is the empty byte string.
+pub fn unhex(text: &str) -> Vec<u8> {
+    if text == "-" {
+        return Vec::new();
+    }
+    let digits: Vec<u32> = text.chars().map(|c| c.to_digit(16).unwrap()).collect();
+    assert_eq!(digits.len() % 2, 0, "odd count of digits");
+    digits
+        .chunks(2)
+        .map(|pair| (pair[0] * 16 + pair[1]) as u8)
+        .collect()
+}
+
+/// Hexadecimal of bytes; `-` for none.
+pub fn hex(bytes: &[u8]) -> String {
+    if bytes.is_empty() {
+        return "-".to_string();
+    }
+    bytes.iter().map(|byte| format!("{byte:02x}")).collect()
+}
+
+/// One case of the vector files.
+pub struct Vector {
+    pub name: String,
+    pub request: Vec<String>,
+    pub answer: String,
+}
+
+/// All cases of both files, in their order. A missing file fails the test.
+pub fn vectors() -> Vec<Vector> {
+    let mut all = Vec::new();
+    for file in ["named.tsv", "random.tsv"] {
+        let path = vector_folder().join(file);
+        let text = std::fs::read_to_string(&path)
+            .unwrap_or_else(|error| panic!("{}: {error}", path.display()));
+        all.extend(text.lines().map(vector));
+    }
+    all
+}
+
+fn vector_folder() -> PathBuf {
+    match std::env::var_os("VECTORS") {
+        Some(folder) => PathBuf::from(folder),
+        None => PathBuf::from(env!("CARGO_MANIFEST_DIR")).join("../../vectors"),
+    }
+}
+
+fn vector(line: &str) -> Vector {
+    let fields: Vec<&str> = line.split('\t').collect();
+    assert_eq!(fields.len(), 3, "three fields: {line}");
+    Vector {
+        name: fields[0].to_string(),
+        request: fields[1].split(' ').map(str::to_string).collect(),
+        answer: fields[2].to_string(),
+    }
+}
+
+/// `refused N C` as a refusal, or nothing for another answer.
+pub fn refusal_of(answer: &str) -> Option<Refusal> {
+    let mut words = answer.strip_prefix("refused ")?.split(' ');
+    let mut number = || words.next().unwrap().parse().unwrap();
+    Some(refused(number(), number()))
+}
+
+/// A small generator of numbers for tests that try many cases.
+pub struct Numbers(pub u64);
+
+impl Numbers {
+    /// A number below `limit`.
+    pub fn below(&mut self, limit: usize) -> usize {
+        self.0 ^= self.0 << 13;
+        self.0 ^= self.0 >> 7;
+        self.0 ^= self.0 << 17;
+        (self.0 % limit as u64) as usize
+    }
+}
+
+/// Calls a test with the schedules of tables that passed checks 1 to 9: those
+/// of the vectors, and those with bytes changed at random.
+pub fn for_each_schedule(rounds: usize, mut test: impl FnMut(&Table, &[Passage])) {
+    let mut numbers = Numbers(88172645463325252);
+    let all = vectors();
+    let requests = all.iter().filter(|v| v.request[0] == "check");
+    let tables: Vec<Vec<u8>> = requests.map(|v| unhex(&v.request[1])).collect();
+    for round in 0..rounds {
+        let mut bytes = tables[round % tables.len()].clone();
+        if round >= tables.len() {
+            change(&mut bytes, &mut numbers);
+        }
+        let Ok(table) = read_table(&bytes) else {
+            continue;
+        };
+        if let Ok(passages) = schedule(&table) {
+            test(&table, &passages);
+        }
+    }
+}
+
+/// Changes up to three bytes behind the header a little, now and then H.
+pub fn change(bytes: &mut [u8], numbers: &mut Numbers) {
+    for _ in 0..1 + numbers.below(3) {
+        let at = [5, 6, 6, numbers.below(bytes.len() + 1)][numbers.below(16).min(3)];
+        if let Some(byte) = bytes.get_mut(at).filter(|_| at >= 5) {
+            *byte = match numbers.below(3) {
+                0 => byte.wrapping_add(1),
+                1 => byte.wrapping_sub(1),
+                _ => numbers.below(24) as u8,
+            };
+        }
+    }
+}

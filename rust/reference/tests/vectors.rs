@@ -1,0 +1,77 @@
+//! All vectors: each request is answered through the exported calls and the
+//! answer compared with that of the file.
+
+mod common;
+
+use common::*;
+use reference::calls;
+use reference::checks::verdict;
+use reference::run::OBSERVATION;
+use reference::schedule;
+use reference::table::Refusal;
+
+fn answer(request: &[String]) -> Result<String, Refusal> {
+    let bytes = unhex(&request[1]);
+    match (request[0].as_str(), &request[2..]) {
+        ("check", []) => calls::check(&bytes).map(|()| "accepted".to_string()),
+        ("schedule", []) => schedule_answer(&bytes),
+        ("program", []) => program_answer(&bytes),
+        ("part", [node]) => Ok(hex(calls::part(&bytes, node.parse().unwrap()))),
+        ("run", [choices]) => run_answer(&bytes, &unhex(choices)),
+        _ => panic!("no such request: {request:?}"),
+    }
+}
+
+/// The list of the call must agree with the printed one.
+fn schedule_answer(bytes: &[u8]) -> Result<String, Refusal> {
+    let (_, passages) = verdict(bytes)?;
+    let mut list = vec![0; 7 * 1024];
+    assert_eq!(calls::schedule(bytes, &mut list), Ok(passages.len()));
+    for (fields, passage) in list.chunks(7).zip(&passages) {
+        assert_eq!(fields, passage.fields(calls::NO_MESSAGE));
+    }
+    let text = schedule::print(&passages);
+    Ok(text.lines().collect::<Vec<_>>().join("|"))
+}
+
+fn program_answer(bytes: &[u8]) -> Result<String, Refusal> {
+    let mut program = vec![0; 65_536];
+    let length = calls::translate(bytes, &mut program)?;
+    Ok(hex(&program[..length]))
+}
+
+fn run_answer(bytes: &[u8], choices: &[u8]) -> Result<String, Refusal> {
+    let mut observations = vec![0; 1024 * OBSERVATION];
+    let (outcome, count) = calls::run(bytes, choices, &mut observations)?;
+    let first = format!(
+        "{} {} {} {}",
+        outcome.end as u8, outcome.node, outcome.tick, outcome.used
+    );
+    let written = observations.chunks(OBSERVATION).take(count).map(hex);
+    let parts: Vec<String> = std::iter::once(first).chain(written).collect();
+    Ok(parts.join("|"))
+}
+
+#[test]
+fn all_vectors() {
+    let mut counts = std::collections::BTreeMap::new();
+    let mut wrong = Vec::new();
+    for vector in vectors() {
+        let given = match answer(&vector.request) {
+            Ok(text) => text,
+            Err(refusal) => format!("refused {} {}", refusal.number, refusal.component),
+        };
+        if given != vector.answer {
+            wrong.push(format!(
+                "{}: {}\n  expected {}\n  given    {given}",
+                vector.name,
+                vector.request.join(" "),
+                vector.answer
+            ));
+        }
+        *counts.entry(vector.request[0].clone()).or_insert(0) += 1;
+    }
+    println!("{counts:?}");
+    assert!(wrong.is_empty(), "{}", wrong.join("\n"));
+    assert!(counts.len() == 5);
+}

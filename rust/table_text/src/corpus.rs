@@ -1,0 +1,137 @@
+//! A folder of tables: for each name a source `NAME.txt` and its bytes
+//! `NAME.bin`, and one file `answers.tsv` with the table reader's answers.
+
+use crate::encode_file;
+use std::collections::BTreeSet;
+use std::fmt;
+use std::fs;
+use std::path::Path;
+
+const ANSWERS: &str = "answers.tsv";
+
+/// What the table reader has to answer.
+#[derive(Debug, Clone, Copy, PartialEq, Eq)]
+pub enum Answer {
+    Accepted,
+    Refused { number: u8, component: u8 },
+}
+
+impl fmt::Display for Answer {
+    fn fmt(&self, out: &mut fmt::Formatter<'_>) -> fmt::Result {
+        match self {
+            Answer::Accepted => write!(out, "accepted"),
+            Answer::Refused { number, component } => write!(out, "refused {number} {component}"),
+        }
+    }
+}
+
+/// Writes `NAME.bin` for every `NAME.txt`. Answers how many, or what went wrong.
+pub fn build(folder: &Path) -> Result<usize, Vec<String>> {
+    let names = names_with(folder, "txt").map_err(|problem| vec![problem])?;
+    let problems: Vec<String> = names
+        .iter()
+        .filter_map(|name| build_one(folder, name).err())
+        .collect();
+    count_unless(problems, names.len())
+}
+
+fn build_one(folder: &Path, name: &str) -> Result<(), String> {
+    let bytes = encode_source(folder, name)?;
+    let file = format!("{name}.bin");
+    fs::write(folder.join(&file), bytes).map_err(|error| format!("{file}: {error}"))
+}
+
+/// Tries that sources, bytes and answers belong together, name by name.
+/// Answers how many names there are, or everything that is wrong.
+pub fn verify(folder: &Path) -> Result<usize, Vec<String>> {
+    let whole = |problem| vec![problem];
+    let sources = names_with(folder, "txt").map_err(whole)?;
+    let tables = names_with(folder, "bin").map_err(whole)?;
+    let answers = read_answers(folder).map_err(whole)?;
+    let answered: BTreeSet<String> = answers.into_iter().map(|(name, _)| name).collect();
+    let mut problems = missing(&tables, &sources, "has no source (.txt)");
+    problems.extend(missing(
+        &answered,
+        &sources,
+        "has an answer and no source (.txt)",
+    ));
+    problems.extend(missing(&sources, &answered, "has no answer"));
+    let differing = sources
+        .iter()
+        .filter_map(|name| verify_one(folder, name).err());
+    problems.extend(differing);
+    count_unless(problems, sources.len())
+}
+
+fn verify_one(folder: &Path, name: &str) -> Result<(), String> {
+    let given = encode_source(folder, name)?;
+    let file = format!("{name}.bin");
+    let stored = fs::read(folder.join(&file)).map_err(|error| format!("{file}: {error}"))?;
+    if stored == given {
+        Ok(())
+    } else {
+        Err(format!("{file}: differs from what {name}.txt gives"))
+    }
+}
+
+fn missing(names: &BTreeSet<String>, among: &BTreeSet<String>, message: &str) -> Vec<String> {
+    let absent = names.difference(among);
+    absent.map(|name| format!("{name}: {message}")).collect()
+}
+
+fn count_unless(problems: Vec<String>, count: usize) -> Result<usize, Vec<String>> {
+    if problems.is_empty() {
+        Ok(count)
+    } else {
+        Err(problems)
+    }
+}
+
+fn encode_source(folder: &Path, name: &str) -> Result<Vec<u8>, String> {
+    let file = format!("{name}.txt");
+    let source = fs::read(folder.join(&file)).map_err(|error| format!("{file}: {error}"))?;
+    encode_file(&source).map_err(|error| format!("{file}: {error}"))
+}
+
+/// The names of a folder's files that end in this extension, sorted.
+fn names_with(folder: &Path, extension: &str) -> Result<BTreeSet<String>, String> {
+    let unreadable = |error| format!("{}: {error}", folder.display());
+    let mut names = BTreeSet::new();
+    for entry in fs::read_dir(folder).map_err(unreadable)? {
+        let path = entry.map_err(unreadable)?.path();
+        if path.extension().is_some_and(|found| found == extension) {
+            let stem = path.file_stem().unwrap_or_default();
+            names.insert(stem.to_string_lossy().into_owned());
+        }
+    }
+    Ok(names)
+}
+
+/// The lines of `answers.tsv`: sorted names, each with its answer.
+pub fn read_answers(folder: &Path) -> Result<Vec<(String, Answer)>, String> {
+    let text = fs::read_to_string(folder.join(ANSWERS)).map_err(|e| format!("{ANSWERS}: {e}"))?;
+    let mut answers: Vec<(String, Answer)> = Vec::new();
+    for (index, line) in text.lines().enumerate() {
+        let at_line = |message: &str| format!("{ANSWERS}: line {}: {message}", index + 1);
+        let (name, answer) = read_answer_line(line)
+            .ok_or_else(|| at_line("write: NAME, a tab, then: accepted, or: refused N C"))?;
+        if answers.last().is_some_and(|(before, _)| *before >= name) {
+            return Err(at_line("names must be sorted, each once"));
+        }
+        answers.push((name, answer));
+    }
+    Ok(answers)
+}
+
+fn read_answer_line(line: &str) -> Option<(String, Answer)> {
+    let (name, answer) = line.split_once('\t')?;
+    let answer = match answer.split(' ').collect::<Vec<_>>().as_slice() {
+        ["accepted"] => Answer::Accepted,
+        ["refused", number, component] => Answer::Refused {
+            number: number.parse().ok()?,
+            component: component.parse().ok()?,
+        },
+        _ => return None,
+    };
+    Some((name.to_string(), answer))
+}

@@ -1,0 +1,162 @@
+//! An edge line and the lines inside it.
+
+use super::expect_depth;
+use super::forms::{misfit, Level};
+use crate::line::Line;
+use crate::source::{EdgeKind, EdgePart, EdgeSource, NO_HIGH, OP_ADD, OP_SET};
+use crate::SourceError;
+
+/// Reads an edge line and the lines inside it.
+pub fn parse_edge(kind: EdgeKind, head: &Line, inside: &[Line]) -> Result<EdgeSource, SourceError> {
+    let (mut edge, channel) = edge_head(kind, head)?;
+    for line in inside {
+        expect_depth(line, Level::Edge)?;
+        edge_line(&mut edge, line)?;
+    }
+    if let Some(channel) = channel {
+        insert_channel(&mut edge, channel);
+    }
+    Ok(edge)
+}
+
+/// The edge without its bounds and items, and the channel named by a send.
+fn edge_head(kind: EdgeKind, head: &Line) -> Result<(EdgeSource, Option<u8>), SourceError> {
+    let (source, destination, channel) = match (kind, &head.words[1..]) {
+        (_, [source, "->", destination]) => (source, destination, None),
+        (EdgeKind::Send, [source, "->", destination, "on", channel]) => {
+            (source, destination, Some(head.number(channel)?))
+        }
+        _ => return Err(misfit(head, Level::Component)),
+    };
+    let edge = EdgeSource {
+        line: head.number,
+        kind,
+        source: head.number(source)?,
+        destination: head.number(destination)?,
+        resets: 0,
+        stated_kind: None,
+        reset_mask: None,
+        clock_guards: None,
+        data_guards: None,
+        items: None,
+        parts: Vec::new(),
+    };
+    Ok((edge, channel))
+}
+
+fn edge_line(edge: &mut EdgeSource, line: &Line) -> Result<(), SourceError> {
+    match line.words.as_slice() {
+        ["kind", number] => line.set(&mut edge.stated_kind, number),
+        ["mask", number] => line.set(&mut edge.reset_mask, number),
+        ["clock", "bounds", number] => line.set(&mut edge.clock_guards, number),
+        ["data", "bounds", number] => line.set(&mut edge.data_guards, number),
+        ["items", number] => line.set(&mut edge.items, number),
+        ["reset", clocks @ ..] if !clocks.is_empty() => add_resets(edge, line, clocks),
+        _ => {
+            let part = edge_part(line)?;
+            check_kind(edge.kind, &part, line)?;
+            check_order(&edge.parts, &part, line)?;
+            edge.parts.push(part);
+            Ok(())
+        }
+    }
+}
+
+fn edge_part(line: &Line) -> Result<EdgePart, SourceError> {
+    match line.words.as_slice() {
+        ["when", clock, "from", low] => clock_guard(line, clock, low, None),
+        ["when", clock, "from", low, "to", high] => clock_guard(line, clock, low, Some(high)),
+        ["data", variable, "from", low, "to", high] => Ok(EdgePart::DataGuard {
+            variable: line.named('v', variable)?,
+            low: line.number(low)?,
+            high: line.number(high)?,
+        }),
+        ["set", variable, number] => update(line, OP_SET, variable, number),
+        ["add", variable, number] => update(line, OP_ADD, variable, number),
+        ["op", op, variable, number] => update(line, line.number(op)?, variable, number),
+        ["on", channel, "->", location] => Ok(EdgePart::ReceivePair {
+            channel: line.number(channel)?,
+            location: line.number(location)?,
+        }),
+        ["bytes", ..] => Ok(EdgePart::Bytes(line.raw_bytes()?)),
+        _ => Err(misfit(line, Level::Edge)),
+    }
+}
+
+fn clock_guard(
+    line: &Line,
+    clock: &str,
+    low: &str,
+    high: Option<&str>,
+) -> Result<EdgePart, SourceError> {
+    Ok(EdgePart::ClockGuard {
+        clock: line.named('x', clock)?,
+        low: line.number(low)?,
+        high: high.map_or(Ok(NO_HIGH), |word| line.number(word))?,
+    })
+}
+
+fn update(line: &Line, op: u8, variable: &str, number: &str) -> Result<EdgePart, SourceError> {
+    Ok(EdgePart::Update {
+        variable: line.named('v', variable)?,
+        op,
+        number: line.number(number)?,
+    })
+}
+
+fn add_resets(edge: &mut EdgeSource, line: &Line, clocks: &[&str]) -> Result<(), SourceError> {
+    for word in clocks {
+        let clock = line.named('x', word)?;
+        let bit = 1u8
+            .checked_shl(u32::from(clock))
+            .ok_or_else(|| line.error(format!("{word} has no bit in the mask (x0 to x7)")))?;
+        if edge.resets & bit != 0 {
+            return Err(line.error(format!("{word} is reset a second time")));
+        }
+        edge.resets |= bit;
+    }
+    Ok(())
+}
+
+/// Updates belong to internal edges, pairs to receive edges.
+fn check_kind(kind: EdgeKind, part: &EdgePart, line: &Line) -> Result<(), SourceError> {
+    match (part, kind) {
+        (EdgePart::Update { .. }, EdgeKind::Send | EdgeKind::Receive) => {
+            Err(line.error("updates belong to internal edges"))
+        }
+        (EdgePart::ReceivePair { .. }, EdgeKind::Internal | EdgeKind::Send) => {
+            Err(line.error("'on N -> N' belongs to receive edges"))
+        }
+        _ => Ok(()),
+    }
+}
+
+/// Clock bounds come before data bounds, and both before items.
+fn check_order(before: &[EdgePart], part: &EdgePart, line: &Line) -> Result<(), SourceError> {
+    let stage = stage_of(part);
+    if stage > 0 && before.iter().any(|earlier| stage_of(earlier) > stage) {
+        return Err(line.error("out of order: first 'when', then 'data', then the items"));
+    }
+    Ok(())
+}
+
+/// 0 for raw bytes, which may stand anywhere.
+fn stage_of(part: &EdgePart) -> u8 {
+    match part {
+        EdgePart::Bytes(_) => 0,
+        EdgePart::ClockGuard { .. } => 1,
+        EdgePart::DataGuard { .. } => 2,
+        EdgePart::Update { .. } | EdgePart::SendChannel(_) | EdgePart::ReceivePair { .. } => 3,
+    }
+}
+
+/// The channel of a send stands directly after its last bound.
+fn insert_channel(edge: &mut EdgeSource, channel: u8) {
+    let is_guard = |part: &EdgePart| matches!(stage_of(part), 1 | 2);
+    let place = edge
+        .parts
+        .iter()
+        .rposition(is_guard)
+        .map_or(0, |last| last + 1);
+    edge.parts.insert(place, EdgePart::SendChannel(channel));
+}

@@ -1,0 +1,152 @@
+//! The program: standard input and output, exit status, build and verify.
+
+use std::env;
+use std::fs;
+use std::io::Write;
+use std::path::{Path, PathBuf};
+use std::process::{Command, Output, Stdio};
+
+const SOURCE: &str = "horizon 5\nchannels 0\n";
+const TABLE: [u8; 7] = [1, 0, 7, 0, 0, 0, 5];
+
+fn run(words: &[&str], input: &[u8]) -> Output {
+    let mut program = Command::new(env!("CARGO_BIN_EXE_table_text"))
+        .args(words)
+        .stdin(Stdio::piped())
+        .stdout(Stdio::piped())
+        .stderr(Stdio::piped())
+        .spawn()
+        .unwrap();
+    program.stdin.take().unwrap().write_all(input).unwrap();
+    program.wait_with_output().unwrap()
+}
+
+fn status(output: &Output) -> Option<i32> {
+    output.status.code()
+}
+
+fn messages(output: &Output) -> String {
+    String::from_utf8(output.stderr.clone()).unwrap()
+}
+
+#[test]
+fn encode_and_decode() {
+    let encoded = run(&["encode"], SOURCE.as_bytes());
+    assert_eq!(
+        (status(&encoded), encoded.stdout.as_slice()),
+        (Some(0), &TABLE[..])
+    );
+    let decoded = run(&["decode"], &TABLE);
+    assert_eq!(
+        (status(&decoded), decoded.stdout.as_slice()),
+        (Some(0), SOURCE.as_bytes())
+    );
+}
+
+#[test]
+fn faults_are_told_and_nothing_is_written() {
+    let encoded = run(&["encode"], b"horizon 5\nchannel 0\n");
+    assert_eq!((status(&encoded), encoded.stdout.len()), (Some(1), 0));
+    assert_eq!(
+        messages(&encoded),
+        "line 2: 'channel' begins no line of this text form\n"
+    );
+    let decoded = run(&["decode"], &TABLE[..6]);
+    assert_eq!((status(&decoded), decoded.stdout.len()), (Some(1), 0));
+    let not_text = run(&["encode"], b"horizon 5\n# \xff\n");
+    assert_eq!(status(&not_text), Some(1));
+    assert_eq!(
+        messages(&not_text),
+        "line 2: a byte that is not UTF-8 text\n"
+    );
+}
+
+#[test]
+fn wrong_use() {
+    for words in [&[][..], &["encode", "file"], &["build"], &["something"]] {
+        let output = run(words, b"");
+        assert_eq!(status(&output), Some(2));
+        assert!(messages(&output).starts_with("usage:"));
+    }
+}
+
+/// A folder of its own for each test, with one source in it.
+fn folder_with_one(test: &str) -> PathBuf {
+    let name = format!("table_text-{test}-{}", std::process::id());
+    let folder = env::temp_dir().join(name);
+    fs::create_dir_all(&folder).unwrap();
+    fs::write(folder.join("one.txt"), SOURCE).unwrap();
+    fs::write(folder.join("answers.tsv"), "one\trefused 3 255\n").unwrap();
+    folder
+}
+
+fn call(word: &str, folder: &Path) -> (Option<i32>, String) {
+    let output = run(&[word, folder.to_str().unwrap()], b"");
+    let said = String::from_utf8(output.stdout.clone()).unwrap() + &messages(&output);
+    (status(&output), said)
+}
+
+#[test]
+fn build_then_verify() {
+    let folder = folder_with_one("build");
+    assert_eq!(call("build", &folder), (Some(0), "1 tables built\n".into()));
+    assert_eq!(fs::read(folder.join("one.bin")).unwrap(), TABLE);
+    assert_eq!(
+        call("verify", &folder),
+        (Some(0), "1 tables verified\n".into())
+    );
+    fs::remove_dir_all(folder).unwrap();
+}
+
+#[test]
+fn build_names_file_and_line() {
+    let folder = folder_with_one("fault");
+    fs::write(folder.join("two.txt"), "horizon\n").unwrap();
+    let told = "two.txt: line 1: write: horizon N\n".to_string();
+    assert_eq!(call("build", &folder), (Some(1), told));
+    fs::remove_dir_all(folder).unwrap();
+}
+
+#[test]
+fn verify_finds_what_does_not_belong() {
+    let folder = folder_with_one("verify");
+    let (code, said) = call("verify", &folder);
+    assert_eq!(code, Some(1));
+    assert!(said.starts_with("one.bin: "), "{said}");
+
+    fs::write(folder.join("one.bin"), [1, 0, 7]).unwrap();
+    let differs = "one.bin: differs from what one.txt gives\n".to_string();
+    assert_eq!(call("verify", &folder), (Some(1), differs));
+
+    fs::write(folder.join("one.bin"), TABLE).unwrap();
+    fs::write(folder.join("two.bin"), TABLE).unwrap();
+    fs::write(folder.join("answers.tsv"), "three\taccepted\n").unwrap();
+    let lines = [
+        "two: has no source (.txt)\n",
+        "three: has an answer and no source (.txt)\n",
+        "one: has no answer\n",
+    ];
+    assert_eq!(call("verify", &folder), (Some(1), lines.concat()));
+    fs::remove_dir_all(folder).unwrap();
+}
+
+#[test]
+fn verify_reads_the_answers_strictly() {
+    let folder = folder_with_one("answers");
+    fs::write(folder.join("one.bin"), TABLE).unwrap();
+    let form = "write: NAME, a tab, then: accepted, or: refused N C";
+    for bad in [
+        "one accepted",
+        "one\trefused 3",
+        "one\tgood",
+        "one\tmaybe accepted",
+    ] {
+        fs::write(folder.join("answers.tsv"), bad).unwrap();
+        let told = format!("answers.tsv: line 1: {form}\n");
+        assert_eq!(call("verify", &folder), (Some(1), told), "{bad}");
+    }
+    fs::write(folder.join("answers.tsv"), "one\taccepted\none\taccepted\n").unwrap();
+    let sorted = "answers.tsv: line 2: names must be sorted, each once\n".to_string();
+    assert_eq!(call("verify", &folder), (Some(1), sorted));
+    fs::remove_dir_all(folder).unwrap();
+}
