@@ -22,7 +22,7 @@ abbrev pub concernedOf : Verdict → ℕ
 concernedOf Accepted = 255
 concernedOf (Refused n c) = c
 
--- check: "A table is accepted when 1 to 12 are passed". So far 1 to 6. It is lent no bytes to write.
-unfoldable pub check : List ℕ → Verdict
+-- The call `check`: "A table is accepted when 1 to 12 are passed". So far 1 to 6. It is lent no bytes to write.
+unfoldable pub checkCall : List ℕ → Verdict
 unfolding readTable
-check table = verdictOf (readTable table)
+checkCall table = verdictOf (readTable table)

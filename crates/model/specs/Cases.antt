@@ -13,7 +13,7 @@ use Rattle.model.specs.Table.{Component, Read}
 use Rattle.model.specs.Build.{location, clockGuard, update, pairOf, arc, component, network}
 use Rattle.model.specs.Bytes.{tableBytes}
 use Rattle.model.specs.Reader.{readTable}
-use Rattle.model.specs.Calls.{check}
+use Rattle.model.specs.Calls.{checkCall}
 
 -- "Probe 0: L0 x0 ≤ 5, L1 x0 ≤ 10; e0 send L0 to L1, low 3; e1 internal L1 to L0, low 8, resets x0."
 abbrev pub probe : Component
@@ -58,7 +58,7 @@ pub data Row : Type 0 where
 abbrev pub Holds : Row → Type 0
 Holds (bytes t bs) = tableBytes t ≡ bs
 Holds (reads bs a) = readTable bs ≡ a
-Holds (checks bs v) = check bs ≡ v
+Holds (checks bs v) = checkCall bs ≡ v
 
 abbrev pub rows : List Row
 rows =
@@ -73,5 +73,5 @@ rows =
     ∷ []
 
 pub cases : All Holds rows
-unfolding tableBytes readTable check
+unfolding tableBytes readTable checkCall
 cases = more refl (more refl (more refl (more refl (more refl none))))

@@ -115,6 +115,23 @@ fn check_10_sends_of_two_components() {
     assert_eq!(two(21, (5, 30), (20, 40)), Some(refused(10, 0)));
 }
 
+/// A passage that is entered at a window's end, ready at once, shares it.
+#[test]
+fn windows_that_touch_at_an_entry() {
+    let second = |action| twice((2, 5), (5, 9), [internal(&[]), action]);
+    let sender = || once((3, 5), sends(0));
+    let listener = || once((2, 6), hears(&[0]));
+    let ten = vec![sender(), second(sends(1)), listener()];
+    assert_eq!(refusal(20, ten), Some(refused(10, 0)));
+    let eleven = vec![sender(), second(hears(&[0])), listener()];
+    assert_eq!(refusal(20, eleven), Some(refused(11, 0)));
+    let twelve = vec![
+        once((3, 5), hears(&[0, 1])),
+        twice((2, 5), (5, 9), [sends(0), sends(1)]),
+    ];
+    assert_eq!(refusal(20, twelve), Some(refused(11, 1)));
+}
+
 #[test]
 fn check_10_one_component_may_touch_itself() {
     let both = twice((3, 5), (5, 7), [sends(0), sends(1)]);

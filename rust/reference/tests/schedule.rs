@@ -192,6 +192,56 @@ fn bounds_hold(location: &Location, edge: &Edge, clocks: Clocks) -> bool {
         })
 }
 
+/// "the one ending first, ties to the lowest component", whichever opened
+/// first.
+#[test]
+fn which_message_is_taken() {
+    let early = |channel, end| {
+        component(
+            &[end, 99],
+            vec![
+                edge(0, 1, 0, 3, Action::Send(channel)),
+                edge(1, 1, 0, 98, internal(&[])),
+            ],
+        )
+    };
+    let late = |channel, end| {
+        component(
+            &[2, end, 99],
+            vec![
+                edge(0, 1, 0, 1, internal(&[])),
+                edge(1, 2, 0, 3, Action::Send(channel)),
+                edge(2, 2, 0, 98, internal(&[])),
+            ],
+        )
+    };
+    let hub = component(
+        &[9, 99, 99],
+        vec![
+            edge(0, 1, 0, 2, receive(&[(0, 1), (1, 2)])),
+            edge(1, 1, 0, 98, internal(&[])),
+            edge(2, 2, 0, 98, internal(&[])),
+        ],
+    );
+    let message = |first: Component, second: Component| {
+        let mut case = table(20, vec![first, second, hub.clone()]);
+        case.channels = 2;
+        let passages = schedule(&case).unwrap();
+        let place = passages.iter().position(|p| p.component == 2).unwrap();
+        let next = passages.iter().rfind(|p| p.component == 2).unwrap();
+        let message = passages[place].message;
+        assert_eq!(next.location, message.map_or(1, |channel| channel + 1));
+        message
+    };
+    assert_eq!(message(early(0, 8), late(1, 8)), Some(0));
+    assert_eq!(message(late(0, 8), early(1, 8)), Some(0));
+    assert_eq!(message(early(1, 8), late(0, 8)), Some(1));
+    assert_eq!(message(late(1, 8), early(0, 8)), Some(1));
+    assert_eq!(message(early(0, 8), late(1, 7)), Some(1));
+    assert_eq!(message(late(0, 8), early(1, 7)), Some(1));
+    assert_eq!(message(early(0, 9), late(1, 10)), None);
+}
+
 /// The message of every receive passage against its definition over the
 /// finished schedule, and what holds along every list.
 #[test]
