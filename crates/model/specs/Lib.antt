@@ -3,6 +3,7 @@ pub mod Table
 pub mod Limits
 pub mod Bytes
 pub mod Reader
+pub mod Places
 pub mod Calls
 pub mod Build
 pub mod Cases

@@ -15,12 +15,13 @@ use Rattle.model.specs.declared.Verdict.the-variants.{Accepted, Refused}
 use Rattle.model.specs.Lists.{Answer, accepted, refused, _after_}
 use Rattle.model.specs.Table.{Component, Read}
 use Rattle.model.specs.Reader.{byte, word, Parsed, ok, fault, readComponent, about, atEnd, lengthFits, readComponents, versionFine, lengthFine, countFine, readWith, readTable}
+use Rattle.model.specs.Places.{startOf}
 use Rattle.model.specs.Calls.{verdictOf}
 use Rattle.table.specs.declared.Tried.{Tried}
 use Rattle.table.specs.declared.Tried.the-variants.{Fine, Fails}
 use Rattle.table.specs.declared.Reading.{Reading}
 use Rattle.table.specs.Place.{triedOf}
-use Rattle.table.specs.Directory.{startOf, startsOf, foundIn, readingFrom, readingOf, refusal}
+use Rattle.table.specs.Directory.{startsOf, foundIn, readingFrom, readingOf, refusal}
 use Rattle.table.proofs.Skim.{first-of}
 
 -- ## The reader's answer from a verdict

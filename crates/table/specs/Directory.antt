@@ -1,18 +1,14 @@
 -- What the reader answers: the verdict of checks 1 to 6, and where each component of an accepted table starts in its bytes.
 use mathlib.Core.List.{List, [], _∷_}
-use Prim.Native.Nat.{ℕ, zero, suc, _+_}
+use Prim.Native.Nat.{ℕ, zero, suc}
 use lib.ListN.{set, replicate}
 use Rattle.model.specs.Lists.{Answer, accepted, refused}
 use Rattle.model.specs.Table.{Read}
 use Rattle.model.specs.Reader.{byte, word, readTable}
+use Rattle.model.specs.Places.{startOf}
 use Rattle.model.specs.Calls.{verdictOf}
 use Rattle.model.specs.declared.Verdict.the-variants.{Refused}
 use Rattle.table.specs.declared.Reading.{Reading}
-
--- Where component c starts: the header's 7 bytes, then each component is as long as it says.
-unfoldable pub startOf : List ℕ → ℕ → ℕ
-startOf bs zero = 7
-startOf bs (suc c) = startOf bs c + word bs (startOf bs c)
 
 -- the starts of the first n components, 0 for those that are absent
 unfoldable pub startsOf : List ℕ → ℕ → List ℕ

@@ -5,9 +5,10 @@ use Prim.Native.Nat.{ℕ, _+_, _-_, _≤_}
 use native.Mathlib.Omega.{arith}
 use lib.ListN.{length, take, drop}
 use Rattle.model.specs.Reader.{word, readComponent, readComponents}
+use Rattle.model.specs.Places.{startOf}
 use Rattle.model.specs.Calls.{verdictOf}
 use Rattle.table.specs.Place.{triedOf}
-use Rattle.table.specs.Directory.{startOf, startsOf}
+use Rattle.table.specs.Directory.{startsOf}
 use Rattle.table.proofs.Whole.{says-refused, says-accepted, no-length, too-long, fails-there, fine-there, bytes-over, at-the-end, start-on, starts-on}
 use Rattle.table.proofs.components.Statement.{statement}
 use Rattle.table.proofs.components.Tie as tie

@@ -1,0 +1,98 @@
+-- Document 01, "The table": where the parts of a table stand in its bytes, and what stands there. Nothing is tested here:
+-- for the bytes of an accepted table these are its parts (the law `located` in proofs/Located.antt).
+use mathlib.Core.Path.{_≡_}
+use mathlib.Core.List.{List, [], _∷_}
+use Prim.Native.Nat.{ℕ, zero, suc, _+_, _*_, _≤_, _<_}
+use lib.ListN.{length, drop}
+use Rattle.model.specs.declared.Action.{Action}
+use Rattle.model.specs.declared.Action.the-variants.{Internal, Send, Receive}
+use Rattle.model.specs.declared.Pair.{Pair}
+use Rattle.model.specs.declared.Update.{Update}
+use Rattle.model.specs.Table.{Arc, Component, Read, size, componentOf, locationOf, arcOf}
+use Rattle.model.specs.Reader.{byte, word, locationAt, clockGuardAt, dataGuardAt, updateAt, pairAt, edgeAt}
+
+-- n parts of width w, one after the other
+unfoldable pub listAt : {A : Type 0} → (List ℕ → A) → ℕ → ℕ → List ℕ → List A
+listAt value w zero bs = []
+listAt value w (suc n) bs = value bs ∷ listAt value w n (drop w bs)
+
+-- ## An edge, from its first byte on: the kind at 0, the counts of clock bounds at 4, data bounds at 5, items at 6
+
+-- how many bytes n items have: updates of 4 bytes, the one channel, pairs of 2
+abbrev pub itemsLength : ℕ → ℕ → ℕ
+itemsLength zero n = n * 4
+itemsLength (suc zero) n = 1
+itemsLength (suc (suc k)) n = n * 2
+
+-- the items stand after the 7 bytes and the bounds
+abbrev pub itemsPlace : List ℕ → ℕ
+itemsPlace h = 7 + (byte h 4 + byte h 5) * 5
+
+abbrev pub arcLength : List ℕ → ℕ
+arcLength h = itemsPlace h + itemsLength (byte h 0) (byte h 6)
+
+-- the kind, and the first byte of the items
+abbrev pub actionAt : ℕ → ℕ → Action
+actionAt zero k = Internal
+actionAt (suc zero) k = Send k
+actionAt (suc (suc n)) k = Receive
+
+unfoldable pub updatesAt : ℕ → ℕ → List ℕ → List Update
+unfolding listAt
+updatesAt zero n bs = listAt updateAt 4 n bs
+updatesAt (suc k) n bs = []
+
+unfoldable pub pairsAt : ℕ → ℕ → List ℕ → List Pair
+unfolding listAt
+pairsAt zero n bs = []
+pairsAt (suc zero) n bs = []
+pairsAt (suc (suc k)) n bs = listAt pairAt 2 n bs
+
+unfoldable pub arcAt : List ℕ → Arc
+unfolding listAt updatesAt pairsAt
+arcAt h =
+    record {
+      edge = edgeAt h (actionAt (byte h 0) (byte h (itemsPlace h)));
+      clockGuards = listAt clockGuardAt 5 (byte h 4) (drop 7 h);
+      dataGuards = listAt dataGuardAt 5 (byte h 5) (drop (7 + byte h 4 * 5) h);
+      updates = updatesAt (byte h 0) (byte h 6) (drop (itemsPlace h) h);
+      pairs = pairsAt (byte h 0) (byte h 6) (drop (itemsPlace h) h)
+    }
+
+-- ## Places in the table's bytes
+
+-- Where component c starts: after the header's 7 bytes each component is as long as it says.
+unfoldable pub startOf : List ℕ → ℕ → ℕ
+startOf bs zero = 7
+startOf bs (suc c) = startOf bs c + word bs (startOf bs c)
+
+-- Location l of the component that starts at b: after its first 7 bytes.
+abbrev pub locationPlace : ℕ → ℕ → ℕ
+locationPlace b l = b + 7 + l * 3
+
+-- Edge e of the component that starts at b: after its locations, each edge as long as its counts say.
+unfoldable pub arcPlace : List ℕ → ℕ → ℕ → ℕ
+arcPlace bs b zero = locationPlace b (byte bs (b + 2))
+arcPlace bs b (suc e) = arcPlace bs b e + arcLength (drop (arcPlace bs b e) bs)
+
+-- ## What the law says
+
+-- component C stands at b in the bytes, whole
+pub record ComponentAt (bs : List ℕ) (b : ℕ) (C : Component) : Type 0 where
+  pub fits : b + 7 ≤ length bs
+  pub locations : byte bs (b + 2) ≡ length (C .locations)
+  pub initial : byte bs (b + 3) ≡ C .initial
+  pub clocks : byte bs (b + 4) ≡ C .clocks
+  pub variables : byte bs (b + 5) ≡ C .variables
+  pub arcs : byte bs (b + 6) ≡ length (C .arcs)
+  pub locationFits : (l : ℕ) → l < length (C .locations) → locationPlace b l + 3 ≤ length bs
+  pub location : (l : ℕ) → l < length (C .locations) → locationAt (drop (locationPlace b l) bs) ≡ locationOf C l
+  pub arcFits : (e : ℕ) → e < length (C .arcs) → arcPlace bs b e + arcLength (drop (arcPlace bs b e) bs) ≤ length bs
+  pub arc : (e : ℕ) → e < length (C .arcs) → arcAt (drop (arcPlace bs b e) bs) ≡ arcOf C e
+
+-- the table stands in the bytes, whole
+pub record Located (bs : List ℕ) (t : Read) : Type 0 where
+  pub count : byte bs 3 ≡ size (t .table)
+  pub channels : byte bs 4 ≡ t .table .channels
+  pub horizon : word bs 5 ≡ t .horizon
+  pub component : (c : ℕ) → c < size (t .table) → ComponentAt bs (startOf bs c) (componentOf (t .table) c)
