@@ -1,5 +1,5 @@
 -- Document 01, "The table": the bytes of a table.
-use mathlib.Core.Bool.{Bool, true, false, cond}
+use mathlib.Core.Bool.{cond}
 use mathlib.Core.List.{List, [], _∷_, _++_}
 use Prim.Native.Nat.{ℕ, _+_, _-_}
 use lib.IntN.{ℤ, pos, negsuc}
@@ -12,7 +12,7 @@ use Rattle.model.specs.declared.DataGuard.{DataGuard}
 use Rattle.model.specs.declared.Update.{Update}
 use Rattle.model.specs.declared.Pair.{Pair}
 use Rattle.model.specs.Lists.{be16, each}
-use Rattle.model.specs.Table.{Arc, Component, Table, Read}
+use Rattle.model.specs.Table.{Arc, Component, Read}
 
 -- "two's complement": the number of the two bytes
 abbrev pub unsigned : ℤ → ℕ

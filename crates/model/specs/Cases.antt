@@ -1,14 +1,13 @@
 -- Document 01, "Probe and hub": the cases marked there, as one table with one theorem.
 use mathlib.Core.Path.{_≡_, refl}
-use mathlib.Core.Bool.{Bool, true, false}
+use mathlib.Core.Bool.{true}
 use mathlib.Core.List.{List, [], _∷_}
 use Prim.Native.Nat.{ℕ}
-use lib.IntN.{ℤ, pos, negsuc}
+use lib.IntN.{pos}
 use Rattle.model.specs.declared.Action.the-variants.{Internal, Send, Receive}
-use Rattle.model.specs.declared.Update.{Update}
 use Rattle.model.specs.declared.Verdict.{Verdict}
 use Rattle.model.specs.declared.Verdict.the-variants.{Accepted, Refused}
-use Rattle.model.specs.Lists.{All, none, more, Answer, accepted, refused}
+use Rattle.model.specs.Lists.{All, none, more, Answer, accepted}
 use Rattle.model.specs.Table.{Component, Read}
 use Rattle.model.specs.Build.{location, clockGuard, update, pairOf, arc, component, network}
 use Rattle.model.specs.Bytes.{tableBytes}

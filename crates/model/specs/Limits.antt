@@ -1,8 +1,7 @@
 -- Document 01, "The table": the ranges of its numbers. What "a network in the paper's limits" is, without the reader.
 use mathlib.Core.Path.{_≡_}
 use mathlib.Core.Logic.{_⊎_}
-use mathlib.Core.Bool.{Bool, true, false}
-use mathlib.Core.List.{List, [], _∷_, map}
+use mathlib.Core.List.{List, [], _∷_}
 use Prim.Native.Nat.{ℕ, _^_, _≤_, _<_}
 use lib.IntN.{ℤ, pos, negsuc}
 use lib.ListN.{length}
@@ -15,7 +14,7 @@ use Rattle.model.specs.declared.Update.{Update}
 use Rattle.model.specs.declared.Pair.{Pair}
 use Rattle.model.specs.declared.Sizes.{Sizes}
 use Rattle.model.specs.Lists.{All}
-use Rattle.model.specs.Table.{Arc, Component, Table, Read, sizesOf}
+use Rattle.model.specs.Table.{Arc, Component, Read, sizesOf}
 use Rattle.model.specs.Bytes.{tableBytes}
 
 -- "−32,768 to 32,767"

@@ -56,7 +56,7 @@ arcAt h =
       clockGuards = listAt clockGuardAt 5 (byte h 4) (drop 7 h);
       dataGuards = listAt dataGuardAt 5 (byte h 5) (drop (7 + byte h 4 * 5) h);
       updates = updatesAt (byte h 0) (byte h 6) (drop (itemsPlace h) h);
-      pairs = pairsAt (byte h 0) (byte h 6) (drop (itemsPlace h) h)
+      pairs = pairsAt (byte h 0) (byte h 6) (drop (itemsPlace h) h);
     }
 
 -- ## Places in the table's bytes

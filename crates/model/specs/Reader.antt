@@ -1,5 +1,5 @@
 -- Document 01, "Checks, in this order", 1 to 6: from bytes to the table with its horizon, front to back, the first fault counts.
-use mathlib.Core.Bool.{Bool, true, false, cond, _&&_, _||_}
+use mathlib.Core.Bool.{Bool, cond, _&&_, _||_}
 use mathlib.Core.List.{List, [], _∷_}
 use Prim.Native.Nat.{ℕ, zero, suc, pred, _+_, _-_, _*_, _^_}
 use lib.Dec.{leb, ltb, eqb}
@@ -15,7 +15,7 @@ use Rattle.model.specs.declared.Update.{Update}
 use Rattle.model.specs.declared.Pair.{Pair}
 use Rattle.model.specs.declared.Sizes.{Sizes}
 use Rattle.model.specs.Lists.{any, Answer, accepted, refused, _after_}
-use Rattle.model.specs.Table.{Arc, Component, Table, Read}
+use Rattle.model.specs.Table.{Arc, Component, Read}
 
 -- "All fields are unsigned, big-endian": the byte, and the number of two bytes, that stand at i.
 abbrev pub byte : List ℕ → ℕ → ℕ

@@ -1,9 +1,8 @@
 -- Document 01, "The table": what a table is. Its lists have no padding.
-use mathlib.Core.List.{List, [], _∷_}
+use mathlib.Core.List.{List, []}
 use Prim.Native.Nat.{ℕ}
 use lib.ListN.{length, getD}
-use Rattle.model.specs.declared.Action.{Action}
-use Rattle.model.specs.declared.Action.the-variants.{Internal, Send, Receive}
+use Rattle.model.specs.declared.Action.the-variants.{Internal}
 use Rattle.model.specs.declared.Edge.{Edge}
 use Rattle.model.specs.declared.Location.{Location}
 use Rattle.model.specs.declared.ClockGuard.{ClockGuard}

@@ -1,4 +1,2 @@
-pub mod Skim
-pub mod EdgeItems
-pub mod Sequence
+pub mod Pieces
 pub mod Whole

@@ -1,28 +1,25 @@
 -- The components of a table one after the other, and the table: by the verdict alone. Assumes nothing.
-use mathlib.Core.Path.{_≡_, refl, sym, ap, ap₂, subst, _∙_}
-use mathlib.Core.Bool.{Bool, true, false, cond, _&&_}
+use mathlib.Core.Path.{_≡_, refl, sym, ap, subst, _∙_}
+use mathlib.Core.Bool.{true, false}
 use mathlib.Core.List.{List, [], _∷_}
-use Prim.Native.Nat.{ℕ, zero, suc, pred, _+_, _-_, _≤_, _<_}
+use Prim.Native.Nat.{ℕ, suc, pred, _+_, _-_, _≤_, _<_}
 use native.Mathlib.Omega.{arith}
 use native.Mathlib.Numerals.{add-one}
 use borrow.Author.Tests.{le-leb, lt-leb, ne-eqb}
 use Rattle.model.proofs.Bools.{tests}
-use lib.Dec.{leb, eqb}
 use lib.ListN.{length, take, drop, getD, set, replicate, length-drop, drop-of-length-le}
 use lib.Seq.{drop-drop, drop-cons, getD-drop}
 use Rattle.model.specs.declared.Verdict.{Verdict}
 use Rattle.model.specs.declared.Verdict.the-variants.{Accepted, Refused}
 use Rattle.model.specs.Lists.{Answer, accepted, refused, _after_}
-use Rattle.model.specs.Table.{Component, Read}
+use Rattle.model.specs.Table.{Component}
 use Rattle.model.specs.Reader.{byte, word, Parsed, ok, fault, readComponent, about, atEnd, lengthFits, readComponents, versionFine, lengthFine, countFine, readWith, readTable}
 use Rattle.model.specs.Places.{startOf}
 use Rattle.model.specs.Calls.{verdictOf}
-use Rattle.table.specs.declared.Tried.{Tried}
 use Rattle.table.specs.declared.Tried.the-variants.{Fine, Fails}
-use Rattle.table.specs.declared.Reading.{Reading}
-use Rattle.table.specs.Place.{triedOf}
-use Rattle.table.specs.Directory.{startsOf, foundIn, readingFrom, readingOf, refusal}
-use Rattle.table.proofs.Skim.{first-of}
+use Rattle.table.specs.Directory.{triedOf}
+use Rattle.table.specs.Directory.{startsOf, readingFrom, readingOf, refusal}
+use Rattle.parts.proofs.Skim.{first-of}
 
 -- ## The reader's answer from a verdict
 

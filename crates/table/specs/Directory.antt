@@ -1,14 +1,20 @@
 -- What the reader answers: the verdict of checks 1 to 6, and where each component of an accepted table starts in its bytes.
-use mathlib.Core.List.{List, [], _∷_}
+use mathlib.Core.List.{List}
 use Prim.Native.Nat.{ℕ, zero, suc}
 use lib.ListN.{set, replicate}
 use Rattle.model.specs.Lists.{Answer, accepted, refused}
-use Rattle.model.specs.Table.{Read}
-use Rattle.model.specs.Reader.{byte, word, readTable}
+use Rattle.model.specs.Reader.{byte, Parsed, ok, fault, readTable}
 use Rattle.model.specs.Places.{startOf}
 use Rattle.model.specs.Calls.{verdictOf}
 use Rattle.model.specs.declared.Verdict.the-variants.{Refused}
 use Rattle.table.specs.declared.Reading.{Reading}
+use Rattle.table.specs.declared.Tried.{Tried}
+use Rattle.table.specs.declared.Tried.the-variants.{Fine, Fails}
+
+-- whether a whole component is fine
+abbrev pub triedOf : {A : Type 0} → Parsed A → Tried
+triedOf (ok a r) = Fine
+triedOf (fault n) = Fails n
 
 -- the starts of the first n components, 0 for those that are absent
 unfoldable pub startsOf : List ℕ → ℕ → List ℕ

@@ -2,7 +2,6 @@
 // definition in model's specs/Calls.antt, for all inputs.
 ghost use mathlib.Core.Path.{_≡_};
 ghost use Rattle.model.specs.Calls.{checkCall, numberOf, concernedOf};
-
 use model::Verdict;
 
 // A verdict as two numbers: 0 for accepted, else the number of the refusal; and the component concerned, 255 for none.

@@ -1,64 +1,48 @@
-use mathlib.Core.Path.{_≡_, sym, subst, ap, _∙_}
+-- `table::body` meets its contract. Assumes nothing.
+use mathlib.Core.Path.{sym, subst, ap, _∙_}
 use lib.ListN.{length, drop}
-use Rattle.model.specs.Reader.{sizesAt}
-use Rattle.table.specs.Place.{placed, Within}
-use Rattle.table.proofs.Sequence.{locations-fail, arcs-fail, bytes-left, ends-there}
+use Rattle.parts.specs.Place.{placed, Within}
+use Rattle.table.proofs.Pieces.{locations-fail, arcs-fail, bytes-left, ends-there}
 use borrow.Author.Needs.{needs}
 use Rattle.table.proofs.body.Statement.{statement}
 use Rattle.table.proofs.body.Tie as tie
-use Rattle.table.proofs.body.Reads as reads
-use Rattle.table.proofs.body.Lts as lts
-use Rattle.table.proofs.arcs.Reads as arcs-reads
-use Rattle.table.proofs.parts.Reads as parts-reads
 
--- src/lib.rt:322:13
 shared-slice-read-n : tie.Need-shared-slice-read-n
 shared-slice-read-n c = search needs
 
--- src/lib.rt:326:17
 shared-slice-read-t12 : tie.Need-shared-slice-read-t12
 shared-slice-read-t12 c = search needs
 
--- src/lib.rt:327:20
 shared-slice-read-t15 : tie.Need-shared-slice-read-t15
 shared-slice-read-t15 c = search needs
 
--- src/lib.rt:329:9
 parts-requires : tie.Need-parts-requires
 parts-requires c κs = search needs
 
--- src/lib.rt:331:21
 enum-known-l : tie.Need-enum-known-l
 enum-known-l c = search needs
 
--- src/lib.rt:332:18
 enum-known-l-2 : tie.Need-enum-known-l-2
 enum-known-l-2 c = search needs
 
--- src/lib.rt:333:32
 shared-slice-read-arcs : tie.Need-shared-slice-read-arcs
 shared-slice-read-arcs c = search needs
 
--- src/lib.rt:333:17
 arcs-requires : tie.Need-arcs-requires
 arcs-requires c κs = (subst (Within 7 (length (c .before .before .before .before .before .before .before .before .before .args .p .now))) (c .before .before .l2 .given .1) (c .before .before .before .before .parts .ensures .within) .1, c .before .before .before .before .before .before .before .before .before .pre .1)
 
--- src/lib.rt:335:29
 enum-known-e : tie.Need-enum-known-e
 enum-known-e c = search needs
 
--- src/lib.rt:336:26
 enum-known-e-2 : tie.Need-enum-known-e-2
 enum-known-e-2 c = search needs
 
--- src/lib.rt:318:1
 returns : tie.Need-returns
 returns c =
     let a = c .before .before .before .before .before .before .before .before .args in
     let p = a .p .now in
     sym (locations-fail (a .channels) p (drop 7 p) (c .before .before .before .parts .ensures .says ∙ ap (placed p) (c .before .l .given .1)))
 
--- src/lib.rt:318:1
 returns-2 : tie.Need-returns-2
 returns-2 c =
     let a = c .before .before .before .before .before .before .before .before .before .before .before .before .before .args in
@@ -66,7 +50,6 @@ returns-2 c =
     let e = c .before .before .before .before .before .before .before .before .parts .ensures .says ∙ ap (placed p) (c .before .before .before .before .before .before .l2 .given .1) in
     sym (arcs-fail (a .channels) p (drop 7 p) _ e (c .before .before .before .arcs .ensures .says ∙ ap (placed p) (c .before .e .given .1)))
 
--- src/lib.rt:318:1
 returns-3 : tie.Need-returns-3
 returns-3 c =
     let a = c .before .before .before .before .before .before .before .before .before .before .before .before .before .before .args in
@@ -74,7 +57,6 @@ returns-3 c =
     let e = c .before .before .before .before .before .before .before .before .before .parts .ensures .says ∙ ap (placed p) (c .before .before .before .before .before .before .before .l2 .given .1) in
     sym (bytes-left (a .channels) p (drop 7 p) _ e p (c .before .before .e2 .given .0 .0) (c .if1 .taken) (c .before .before .before .before .arcs .ensures .says ∙ ap (placed p) (c .before .before .e2 .given .1)))
 
--- src/lib.rt:318:1
 returns-4 : tie.Need-returns-4
 returns-4 c =
     let a = c .before .before .before .before .before .before .before .before .before .before .before .before .before .before .args in

@@ -1,22 +1,17 @@
+-- `table::components` meets its contract. Assumes nothing.
 use borrow.Author.Needs.{needs}
-use mathlib.Core.Path.{_≡_, refl, sym, ap, subst, _∙_}
-use mathlib.Core.List.{List}
+use mathlib.Core.Path.{_≡_, refl, sym, ap, _∙_}
 use Prim.Native.Nat.{ℕ, _+_, _-_, _≤_}
 use native.Mathlib.Omega.{arith}
 use lib.ListN.{length, take, drop}
-use Rattle.model.specs.Reader.{word, readComponent, readComponents}
+use Rattle.model.specs.Reader.{readComponent, readComponents}
 use Rattle.model.specs.Places.{startOf}
 use Rattle.model.specs.Calls.{verdictOf}
-use Rattle.table.specs.Place.{triedOf}
+use Rattle.table.specs.Directory.{triedOf}
 use Rattle.table.specs.Directory.{startsOf}
 use Rattle.table.proofs.Whole.{says-refused, says-accepted, no-length, too-long, fails-there, fine-there, bytes-over, at-the-end, start-on, starts-on}
 use Rattle.table.proofs.components.Statement.{statement}
 use Rattle.table.proofs.components.Tie as tie
-use Rattle.table.proofs.components.Reads as reads
-use Rattle.table.proofs.components.Lts as lts
-use Rattle.table.proofs.component.Reads as component-reads
-use Rattle.table.proofs.refused.Reads as refused-reads
-use Rattle.table.proofs.word_at.Reads as word-at-reads
 
 abbrev Inv-loop : tie.InvT-loop
 Inv-loop s count channels starts₀ at₀ c₀ starts at c =
@@ -26,21 +21,17 @@ Inv-loop s count channels starts₀ at₀ c₀ starts at c =
 abbrev μ-loop : tie.MeasureT-loop
 μ-loop s count channels starts₀ at₀ c₀ starts at c = count - c
 
--- src/lib.rt:378:5
 loop-holds : tie.Need-loop-holds Inv-loop μ-loop
 unfolding startOf startsOf
 loop-holds c =
     let z : c .before .args .count - 0 ≡ c .before .args .count = omega arith in (search needs, search needs, refl, refl, rw z)
 
--- src/lib.rt:379:12
 sub-if1 : tie.Need-sub-if1 Inv-loop μ-loop
 sub-if1 c = search needs
 
--- src/lib.rt:380:13
 refused-requires : tie.Need-refused-requires Inv-loop μ-loop
 refused-requires c κs = search needs
 
--- src/lib.rt:380:13
 returns : tie.Need-returns Inv-loop μ-loop
 returns c =
     let a = c .before .before .before .before .before .args in
@@ -50,23 +41,18 @@ returns c =
     let e = no-length (a .channels) (l .c) s (l .at) 0 (verdictOf all) (a .count - l .c) (omega arith) (l .inv .4) (c .before .if1 .taken) in
     c .refused .ensures ∙ says-refused s (a .count) all e
 
--- src/lib.rt:382:17
 word-at-requires : tie.Need-word-at-requires Inv-loop μ-loop
 word-at-requires c κs = search needs
 
--- src/lib.rt:382:17
 cast-n : tie.Need-cast-n Inv-loop μ-loop
 cast-n c = search needs
 
--- src/lib.rt:383:12
 sub-if2 : tie.Need-sub-if2 Inv-loop μ-loop
 sub-if2 c = search needs
 
--- src/lib.rt:384:13
 refused-requires-2 : tie.Need-refused-requires-2 Inv-loop μ-loop
 refused-requires-2 c κs = search needs
 
--- src/lib.rt:384:13
 returns-2 : tie.Need-returns-2 Inv-loop μ-loop
 returns-2 c =
     let a = c .before .before .before .before .before .before .before .args in
@@ -76,35 +62,27 @@ returns-2 c =
     let e = too-long (a .channels) (l .c) s (l .at) (c .before .before .word-at .result) (verdictOf all) (a .count - l .c) (omega arith) (l .inv .4) (omega arith) (c .before .before .word-at .ensures) (c .before .if2 .taken) in
     c .refused2 .ensures ∙ says-refused s (a .count) all e
 
--- src/lib.rt:386:34
 add-component : tie.Need-add-component Inv-loop μ-loop
 add-component c = search needs
 
--- src/lib.rt:386:27
 sub-component : tie.Need-sub-component Inv-loop μ-loop
 sub-component c = search needs
 
--- src/lib.rt:386:27
 part-component-start : tie.Need-part-component-start Inv-loop μ-loop
 part-component-start c = search needs
 
--- src/lib.rt:386:27
 part-component-end : tie.Need-part-component-end Inv-loop μ-loop
 part-component-end c = search needs
 
--- src/lib.rt:386:13
 component-requires : tie.Need-component-requires Inv-loop μ-loop
 component-requires c κs = search needs
 
--- src/lib.rt:388:26
 enum-known-t : tie.Need-enum-known-t Inv-loop μ-loop
 enum-known-t c = search needs
 
--- src/lib.rt:389:17
 refused-requires-3 : tie.Need-refused-requires-3 Inv-loop μ-loop
 refused-requires-3 c κs = search needs
 
--- src/lib.rt:389:17
 returns-3 : tie.Need-returns-3 Inv-loop μ-loop
 returns-3 c =
     let a = c .before .before .before .before .before .before .before .before .before .before .before .before .args in
@@ -121,35 +99,27 @@ returns-3 c =
 enum-told : tie.Need-enum-told Inv-loop μ-loop
 enum-told c = search needs
 
--- src/lib.rt:393:30
 cast-starts : tie.Need-cast-starts Inv-loop μ-loop
 cast-starts c = search needs
 
--- src/lib.rt:393:16
 cast-starts-2 : tie.Need-cast-starts-2 Inv-loop μ-loop
 cast-starts-2 c = search needs
 
--- src/lib.rt:393:9
 mul-starts : tie.Need-mul-starts Inv-loop μ-loop
 mul-starts c = search needs
 
--- src/lib.rt:393:9
 array-write-starts : tie.Need-array-write-starts Inv-loop μ-loop
 array-write-starts c = search needs
 
--- src/lib.rt:394:9
 add-at : tie.Need-add-at Inv-loop μ-loop
 add-at c = search needs
 
--- src/lib.rt:395:9
 add-c : tie.Need-add-c Inv-loop μ-loop
 add-c c = search needs
 
--- src/lib.rt:378:5
 loop-less : tie.Need-loop-less Inv-loop μ-loop
 loop-less c = search needs
 
--- src/lib.rt:378:5
 loop-again : tie.Need-loop-again Inv-loop μ-loop
 loop-again c =
     let a = c .before .before .before .before .before .before .before .before .before .before .args in
@@ -169,15 +139,12 @@ loop-again c =
       rw k e,
     )
 
--- src/lib.rt:398:27
 sub-refused : tie.Need-sub-refused Inv-loop μ-loop
 sub-refused c = search needs
 
--- src/lib.rt:398:9
 refused-requires-4 : tie.Need-refused-requires-4 Inv-loop μ-loop
 refused-requires-4 c κs = search needs
 
--- src/lib.rt:398:9
 returns-4 : tie.Need-returns-4 Inv-loop μ-loop
 returns-4 c =
     let a = c .before .before .before .before .before .args in
@@ -188,7 +155,6 @@ returns-4 c =
     let e = bytes-over (a .channels) (l .c) s (l .at) (verdictOf all) (a .count - l .c) (omega arith) (l .inv .4) (a .count - 1) d (c .before .if3 .taken) in
     c .refused4 .ensures ∙ says-refused s (a .count) all e
 
--- src/lib.rt:371:1
 returns-5 : tie.Need-returns-5 Inv-loop μ-loop
 returns-5 c =
     let a = c .before .before .before .before .args in

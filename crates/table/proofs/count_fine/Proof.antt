@@ -1,40 +1,29 @@
+-- `table::count_fine` meets its contract. Assumes nothing.
 use borrow.Author.Needs.{needs}
 use Rattle.table.proofs.count_fine.Statement.{statement}
 use Rattle.table.proofs.count_fine.Tie as tie
-use Rattle.table.proofs.count_fine.Reads as reads
-use Rattle.table.proofs.count_fine.Lts as lts
-use Rattle.table.proofs.both.Reads as both-reads
-use Rattle.table.proofs.word_at.Reads as word-at-reads
 
--- src/lib.rt:420:13
 shared-slice-read-n : tie.Need-shared-slice-read-n
 shared-slice-read-n c = search needs
 
--- src/lib.rt:421:9
 word-at-requires : tie.Need-word-at-requires
 word-at-requires c κs = search needs
 
--- src/lib.rt:422:9
 both-requires : tie.Need-both-requires
 both-requires c κs = search needs
 
--- src/lib.rt:423:27
 shared-slice-read-both : tie.Need-shared-slice-read-both
 shared-slice-read-both c = search needs
 
--- src/lib.rt:423:15
 both-requires-2 : tie.Need-both-requires-2
 both-requires-2 c κs = search needs
 
--- src/lib.rt:423:10
 both-requires-3 : tie.Need-both-requires-3
 both-requires-3 c κs = search needs
 
--- src/lib.rt:423:5
 both-requires-4 : tie.Need-both-requires-4
 both-requires-4 c κs = search needs
 
--- src/lib.rt:416:1
 returns : tie.Need-returns
 returns c =
     rw (c .both4 .ensures, c .before .both3 .ensures, c .before .before .both2 .ensures, c .before .before .before .before .both .ensures, c .before .before .before .before .before .word-at .ensures)

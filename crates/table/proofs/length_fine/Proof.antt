@@ -1,35 +1,25 @@
-use mathlib.Core.Path.{_≡_}
+-- `table::length_fine` meets its contract. Assumes nothing.
 use borrow.Author.Tests.{lt-leb}
 use lib.ListN.{length}
 use borrow.Author.Needs.{needs}
 use Rattle.table.proofs.length_fine.Statement.{statement}
 use Rattle.table.proofs.length_fine.Tie as tie
-use Rattle.table.proofs.length_fine.Reads as reads
-use Rattle.table.proofs.length_fine.Lts as lts
-use Rattle.table.proofs.both.Reads as both-reads
-use Rattle.table.proofs.word_at.Reads as word-at-reads
 
--- src/lib.rt:411:9
 returns : tie.Need-returns
 returns c = rw (lt-leb 7 (length (c .before .before .args .s .now)) (c .if1 .taken))
 
--- src/lib.rt:413:10
 both-requires : tie.Need-both-requires
 both-requires c κs = search needs
 
--- src/lib.rt:413:35
 word-at-requires : tie.Need-word-at-requires
 word-at-requires c κs = search needs
 
--- src/lib.rt:413:35
 cast-both : tie.Need-cast-both
 cast-both c = search needs
 
--- src/lib.rt:413:5
 both-requires-2 : tie.Need-both-requires-2
 both-requires-2 c κs = search needs
 
--- src/lib.rt:406:1
 returns-2 : tie.Need-returns-2
 returns-2 c =
     rw (c .both2 .ensures, c .before .before .both .ensures, c .before .word-at .ensures)

@@ -1,76 +1,56 @@
-use mathlib.Core.Path.{_≡_, sym, _∙_}
-use mathlib.Core.Bool.{true, false}
+-- `table::read` meets its contract. Assumes nothing.
+use mathlib.Core.Path.{sym, _∙_}
 use native.Mathlib.Omega.{arith}
 use borrow.Author.Tests.{not-true, not-false, eq-eqb}
 use Rattle.table.proofs.Whole.{first-refused, second-refused, third-refused, fourth, no-version, other-version, its-length, its-count}
 use borrow.Author.Needs.{needs}
 use Rattle.table.proofs.read.Statement.{statement}
 use Rattle.table.proofs.read.Tie as tie
-use Rattle.table.proofs.read.Reads as reads
-use Rattle.table.proofs.read.Lts as lts
-use Rattle.table.proofs.components.Reads as components-reads
-use Rattle.table.proofs.count_fine.Reads as count-fine-reads
-use Rattle.table.proofs.length_fine.Reads as length-fine-reads
-use Rattle.table.proofs.refused.Reads as refused-reads
 
--- src/lib.rt:431:9
 refused-requires : tie.Need-refused-requires
 refused-requires c κs = search needs
 
--- src/lib.rt:431:9
 returns : tie.Need-returns
 returns c = let bs = c .before .before .before .args .table .now in c .refused .ensures ∙ first-refused bs (no-version bs (c .before .if1 .taken))
 
--- src/lib.rt:433:8
 shared-slice-read-if2 : tie.Need-shared-slice-read-if2
 shared-slice-read-if2 c = search needs
 
--- src/lib.rt:434:9
 refused-requires-2 : tie.Need-refused-requires-2
 refused-requires-2 c κs = search needs
 
--- src/lib.rt:434:9
 returns-2 : tie.Need-returns-2
 returns-2 c = let bs = c .before .before .before .before .before .args .table .now in c .refused2 .ensures ∙ first-refused bs (other-version bs (c .before .if2 .taken))
 
--- src/lib.rt:436:9
 length-fine-requires : tie.Need-length-fine-requires
 length-fine-requires c κs = search needs
 
--- src/lib.rt:437:9
 refused-requires-3 : tie.Need-refused-requires-3
 refused-requires-3 c κs = search needs
 
--- src/lib.rt:437:9
 returns-3 : tie.Need-returns-3
 returns-3 c =
     let bs = c .before .before .before .before .before .before .before .args .table .now in
     c .refused3 .ensures ∙ second-refused bs (eq-eqb _ _ (c .before .before .before .if2 .left)) (sym (c .before .before .length-fine .ensures) ∙ not-true _ (c .before .if3 .taken))
 
--- src/lib.rt:439:9
 count-fine-requires : tie.Need-count-fine-requires
 count-fine-requires c κs = its-length (c .before .before .before .before .before .before .args .table .now) (sym (c .before .length-fine .ensures) ∙ not-false _ (c .if3 .left)) .0
 
--- src/lib.rt:440:9
 refused-requires-4 : tie.Need-refused-requires-4
 refused-requires-4 c κs = search needs
 
--- src/lib.rt:440:9
 returns-4 : tie.Need-returns-4
 returns-4 c =
     let bs = c .before .before .before .before .before .before .before .before .before .args .table .now in
     c .refused4 .ensures
     ∙ third-refused bs (eq-eqb _ _ (c .before .before .before .before .before .if2 .left)) (sym (c .before .before .before .before .length-fine .ensures) ∙ not-false _ (c .before .before .before .if3 .left)) (sym (c .before .before .count-fine .ensures) ∙ not-true _ (c .before .if4 .taken))
 
--- src/lib.rt:442:23
 shared-slice-read-components : tie.Need-shared-slice-read-components
 shared-slice-read-components c = let h = its-length (c .before .before .before .before .before .before .before .before .before .args .table .now) (sym (c .before .before .before .before .length-fine .ensures) ∙ not-false _ (c .before .before .before .if3 .left)) in omega (arith, h .0)
 
--- src/lib.rt:442:33
 shared-slice-read-components-2 : tie.Need-shared-slice-read-components-2
 shared-slice-read-components-2 c = let h = its-length (c .before .before .before .before .before .before .before .before .before .before .args .table .now) (sym (c .before .before .before .before .before .length-fine .ensures) ∙ not-false _ (c .before .before .before .before .if3 .left)) in omega (arith, h .0)
 
--- src/lib.rt:442:5
 components-requires : tie.Need-components-requires
 components-requires c κs =
     let bs = c .before .before .before .before .before .before .before .before .before .before .args .table .now in
@@ -78,7 +58,6 @@ components-requires c κs =
     let n = its-count bs (sym (c .before .before .before .count-fine .ensures) ∙ not-false _ (c .before .before .if4 .left)) in
     (h .0, h .1, n .0, n .1)
 
--- src/lib.rt:427:1
 returns-5 : tie.Need-returns-5
 returns-5 c =
     let bs = c .before .before .before .before .before .before .before .before .before .before .before .args .table .now in

@@ -1,18 +1,14 @@
+-- `timed_network::check` meets its contract. Assumes nothing.
 use mathlib.Core.Path.{ap}
 use Rattle.table.specs.declared.Reading.{Reading}
 use Rattle.model.specs.Calls.{checkCall}
 use borrow.Author.Needs.{needs}
 use Rattle.timed_network.proofs.check.Statement.{statement}
 use Rattle.timed_network.proofs.check.Tie as tie
-use Rattle.timed_network.proofs.check.Reads as reads
-use Rattle.timed_network.proofs.check.Lts as lts
-use Rattle.table.proofs.read.Reads as read-reads
 
--- src/lib.rt:19:9
 read-requires : tie.Need-read-requires
 read-requires c κs = search needs
 
--- src/lib.rt:16:1
 returns : tie.Need-returns
 unfolding checkCall
 returns c = ap (λ (r : Reading). r .verdict) (c .read .ensures)

@@ -1,0 +1,3 @@
+pub mod Skim
+pub mod EdgeItems
+pub mod Sequence

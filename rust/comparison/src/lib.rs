@@ -1,0 +1,1 @@
+//! Holds the exported library against the second implementation.

@@ -1,0 +1,64 @@
+//! The safe call: the worked example and what is next to it.
+
+use timed_network::{check, Verdict};
+
+/// "Probe and hub": 103 bytes.
+const PROBE_AND_HUB: [u8; 103] = [
+    1, 0, 103, 2, 1, 0, 20, // header
+    0, 38, 2, 0, 1, 0, 2, // component 0, the probe
+    0, 0, 5, // location 0
+    0, 0, 10, // location 1
+    1, 0, 1, 0, 1, 0, 1, // edge 0, a send
+    0, 0, 3, 255, 255, // its clock bound
+    0, // its channel
+    0, 1, 0, 1, 1, 0, 0, // edge 1, internal
+    0, 0, 8, 255, 255, // its clock bound
+    0, 58, 3, 0, 1, 1, 3, // component 1, the hub
+    0, 0, 6, // location 0
+    0, 0, 10, // location 1
+    0, 0, 10, // location 2
+    2, 0, 2, 0, 1, 0, 1, // edge 0, a receive
+    0, 0, 2, 255, 255, // its clock bound
+    0, 1, // its pair
+    0, 1, 0, 1, 1, 0, 1, // edge 1, internal
+    0, 0, 9, 255, 255, // its clock bound
+    0, 1, 0, 1, // its update
+    0, 2, 0, 1, 1, 0, 0, // edge 2, internal
+    0, 0, 9, 255, 255, // its clock bound
+];
+
+fn refused(number: u8, component: u8) -> Verdict {
+    Verdict::Refused { number, component }
+}
+
+/// The worked example with one byte changed.
+fn with(at: usize, byte: u8) -> Vec<u8> {
+    let mut table = PROBE_AND_HUB.to_vec();
+    table[at] = byte;
+    table
+}
+
+#[test]
+fn the_worked_example_is_accepted() {
+    assert_eq!(check(&PROBE_AND_HUB), Verdict::Accepted);
+}
+
+#[test]
+fn the_empty_table_is_refused() {
+    assert_eq!(check(&[]), refused(1, 255));
+}
+
+#[test]
+fn a_refusal_gives_its_number_and_its_component() {
+    assert_eq!(check(&with(0, 2)), refused(1, 255));
+    assert_eq!(check(&PROBE_AND_HUB[..102]), refused(2, 255));
+    assert_eq!(check(&with(6, 0)), refused(3, 255));
+    assert_eq!(check(&with(8, 37)), refused(4, 0));
+    assert_eq!(check(&with(48, 3)), refused(5, 1));
+}
+
+#[test]
+fn verdicts_are_written_as_the_vectors_write_them() {
+    assert_eq!(Verdict::Accepted.to_string(), "accepted");
+    assert_eq!(refused(4, 1).to_string(), "refused 4 1");
+}
