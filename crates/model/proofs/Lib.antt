@@ -7,3 +7,6 @@ pub mod Edges
 pub mod Components
 pub mod Written
 pub mod RoundTrip
+pub mod Walk
+pub mod ArcPlaces
+pub mod Located
