@@ -18,7 +18,9 @@ fn main() {
 fn demand(library: &Path) {
     if !library.is_file() {
         eprintln!("The static library is missing: {}", library.display());
-        eprintln!("Run `rt staticlib timed_network` in the root of the repository, then build again.");
+        eprintln!(
+            "Run `rt staticlib timed_network` in the root of the repository, then build again."
+        );
         exit(1);
     }
 }

@@ -8,7 +8,7 @@ use lib.ListN.{length, take, drop, length-append, take-append-drop}
 use lib.Seq.{length-take-le, getD-take, take-append-seam, drop-append-seam}
 use Rattle.model.specs.declared.Location.{Location}
 use Rattle.model.specs.declared.Sizes.{Sizes}
-use Rattle.model.specs.Lists.{All, none, more, Bytes, be16, each, accepted}
+use Rattle.model.specs.Lists.{All, empty, more, Bytes, be16, each, accepted}
 use Rattle.model.specs.Table.{Arc, Component, sizesOf}
 use Rattle.model.specs.Bytes.{locationBytes, arcBytes, bodyBytes, componentBytes}
 use Rattle.model.specs.Limits.{LocationIn, ArcIn, ComponentIn}
@@ -107,7 +107,7 @@ module _ (channels : ℕ) where
   -- components written are read back
   pub components-reads : {Cs : List Component} (c : ℕ) → All (ComponentIn channels) Cs → readComponents channels (length Cs) c (each componentBytes Cs) ≡ accepted Cs
   unfolding readComponents each
-  components-reads c none = refl
+  components-reads c empty = refl
   components-reads c (more {x = C} {xs = Cs} h a) =
       let B = componentBytes C in
       let R = each componentBytes Cs in
@@ -138,7 +138,7 @@ module _ (channels : ℕ) where
   -- no component is left
   at-end : (c : ℕ) (Cs : List Component) (bs : List ℕ) → atEnd c bs ≡ accepted Cs → Saids 0 bs Cs
   unfolding each
-  at-end c Cs [] e = subst (Saids 0 []) (accepted-same e) (refl, none, refl)
+  at-end c Cs [] e = subst (Saids 0 []) (accepted-same e) (refl, empty, refl)
   at-end c Cs (b ∷ bs) e = refused-clash 4 c Cs e
 
   -- components read are written so

@@ -13,7 +13,7 @@ use Rattle.model.specs.declared.ClockGuard.{ClockGuard}
 use Rattle.model.specs.declared.DataGuard.{DataGuard}
 use Rattle.model.specs.declared.Pair.{Pair}
 use Rattle.model.specs.declared.Sizes.{Sizes}
-use Rattle.model.specs.Lists.{All, none, more, Bytes, each}
+use Rattle.model.specs.Lists.{All, empty, more, Bytes, each}
 use Rattle.model.specs.Table.{Arc}
 use Rattle.model.specs.Bytes.{updateBytes, pairBytes, kindOf, itemCount, itemBytes}
 use Rattle.model.specs.Limits.{PairIn, UpdateIn, Distinct, ActionIn}
@@ -31,12 +31,12 @@ Fresh seen ps = All (λ q. listed (q .channel) seen ≡ false) ps
 
 -- one more channel that no pair names
 fresh-more : {ps : List Pair} (c : ℕ) (seen : List ℕ) → All (λ p. p .channel ≡ c → ⊥) ps → Fresh seen ps → Fresh (c ∷ seen) ps
-fresh-more c seen none none = none
+fresh-more c seen empty empty = empty
 fresh-more c seen (more {x = p} h a) (more f b) = more {x = p} (rw (ne-eqb c (p .channel) (λ e. h (sym e)), f)) (fresh-more c seen a b)
 
 -- one channel less
 fresh-less : {ps : List Pair} (c : ℕ) (seen : List ℕ) → Fresh (c ∷ seen) ps → All (λ p. p .channel ≡ c → ⊥) ps × Fresh seen ps
-fresh-less c seen none = (none, none)
+fresh-less c seen empty = (empty, empty)
 fresh-less c seen (more {x = p} h a) =
     let t = neither (eqb c (p .channel)) (listed (p .channel) seen) h in
     let u = fresh-less c seen a in
@@ -53,7 +53,7 @@ module _ (s : Sizes) where
   -- pairs written are read back
   pairs-reads : {ps : List Pair} (seen r : List ℕ) → All (PairIn s) ps → Distinct ps → Fresh seen ps → readPairs s (length ps) seen (each pairBytes ps ++ r) ≡ ok ps r
   unfolding readPairs each
-  pairs-reads seen r none nil none = refl
+  pairs-reads seen r empty nil empty = refl
   pairs-reads seen r (more {x = q} {xs = qs} h a) (cons d ds) (more f fs) =
       let rest = pairs-reads (q .channel ∷ seen) r a ds (fresh-more (q .channel) seen d fs) in
       rw (pair-agrees s .reads q (each pairBytes qs ++ r) h, f, rest)
@@ -63,7 +63,7 @@ module _ (s : Sizes) where
   unfolding readPairs each
   pairs-wrote zero seen bs ps r a e =
       let q = ok-same e in
-      said-is (q .0) (q .1) (record { within = record { count = refl; pairs = none; distinct = nil; fresh = none }; same = refl; bytes = a })
+      said-is (q .0) (q .1) (record { within = record { count = refl; pairs = empty; distinct = nil; fresh = empty }; same = refl; bytes = a })
   pairs-wrote (suc n) seen bs ps r a e =
       let t = then-ok (readPair s bs) _ e in
       let q = t .0 in
@@ -117,7 +117,7 @@ items-reads s a Receive r h =
     (ap {B = Parsed Items} (λ us. ok (record { action = Receive; updates = us; pairs = a .pairs }) r) (sym (h .updates)))
   where
     unlisted : (ps : List Pair) → All (λ q. listed (q .channel) [] ≡ false) ps
-    unlisted [] = none
+    unlisted [] = empty
     unlisted (q ∷ qs) = more refl (unlisted qs)
 
 -- what the items read say of their arc: kind k, n items, in range, and the bytes are theirs and the rest

@@ -8,7 +8,7 @@ use borrow.Author.Tests.{leb-true, le-leb}
 use lib.Dec.{leb}
 use lib.ListN.{length, drop, length-append}
 use lib.Seq.{drop-at, drop-cons}
-use Rattle.model.specs.Lists.{All, none, more, Bytes, each, Answer, accepted, refused, _after_}
+use Rattle.model.specs.Lists.{All, empty, more, Bytes, each, Answer, accepted, refused, _after_}
 use Rattle.model.specs.Reader.{byte, Parsed, ok, fault, _then_, part, many, about}
 use Rattle.model.proofs.Words.{all-after}
 
@@ -122,7 +122,7 @@ firsts-rest n bs h =
 -- what is left of a list of bytes are bytes
 pub bytes-drop : (n : ℕ) {bs : List ℕ} → Bytes bs → Bytes (drop n bs)
 bytes-drop zero a = a
-bytes-drop (suc n) none = none
+bytes-drop (suc n) empty = empty
 bytes-drop (suc n) (more h a) = bytes-drop n a
 
 -- two parts and what is left, one after the other
@@ -176,7 +176,7 @@ module _ {A : Type 0} (p : List ℕ → Parsed A) (In : A → Type 0) (f : A →
   -- several parts written are read back
   many-reads : {xs : List A} → All In xs → (r : List ℕ) → many p (length xs) (each f xs ++ r) ≡ ok xs r
   unfolding many each
-  many-reads none r = refl
+  many-reads empty r = refl
   many-reads (more {x = x} {xs = xs} h a) r =
       rw (append-assoc, k .reads x (each f xs ++ r) h, many-reads a r)
 
@@ -195,7 +195,7 @@ module _ {A : Type 0} (p : List ℕ → Parsed A) (In : A → Type 0) (f : A →
   unfolding many each
   many-wrote zero bs xs r a e =
       let q = ok-same e in
-      said-is (q .0) (q .1) (record { within = (refl, none); same = refl; bytes = a })
+      said-is (q .0) (q .1) (record { within = (refl, empty); same = refl; bytes = a })
   many-wrote (suc n) bs xs r a e =
       let t = then-ok (p bs) _ e in
       let u = k .wrote bs (t .0) (t .1) a (t .2) in

@@ -5,13 +5,13 @@ use Prim.Native.Nat.{ℕ, zero, suc, _+_, _*_, _≤_, _<_}
 use native.Mathlib.Omega.{arith}
 use lib.ListN.{length, drop, getD, length-append, List·getD-append}
 use lib.Seq.{drop-append-seam, drop-at, drop-drop, getD-drop}
-use Rattle.model.specs.Lists.{All, none, more, each}
+use Rattle.model.specs.Lists.{All, empty, more, each}
 use Rattle.model.specs.Reader.{byte, word}
 use Rattle.model.specs.Places.{listAt}
 
 -- what holds of each holds by number
 pub all-at : {A : Type 0} {P : A → Type 0} {xs : List A} (d : A) → All P xs → (i : ℕ) → i < length xs → P (getD xs i d)
-all-at d none i h = absurd (omega arith)
+all-at d empty i h = absurd (omega arith)
 all-at d (more p a) zero h = p
 all-at d (more p a) (suc i) h = all-at d a i (omega arith)
 
@@ -78,7 +78,7 @@ module _ {A : Type 0} (f : A → List ℕ) (len : List ℕ → ℕ) (In : A → 
   pub walk : {xs : List A} (place : ℕ → ℕ) → ((e : ℕ) → place (suc e) ≡ place e + len (drop (place e) bs)) → All In xs → Stands bs (place 0) (each f xs)
       → (e : ℕ) → e < length xs → Stands bs (place e) (f (getD xs e d))
   unfolding each
-  walk place next none h e k = absurd (omega arith)
+  walk place next empty h e k = absurd (omega arith)
   walk place next (more {x = x} {xs = xs} i a) h zero k = stands-first bs (place 0) (f x) (each f xs) h
   walk place next (more {x = x} {xs = xs} i a) h (suc e) k =
       let first = stands-first bs (place 0) (f x) (each f xs) h in
@@ -99,7 +99,7 @@ module _ {A : Type 0} (f : A → List ℕ) (w : ℕ) (sized : (x : A) → length
   pub list-back : (value : List ℕ → A) (In : A → Type 0) → ((x : A) (r : List ℕ) → In x → value (f x ++ r) ≡ x) → {xs : List A} → All In xs → (r : List ℕ)
       → listAt value w (length xs) (each f xs ++ r) ≡ xs
   unfolding each listAt
-  list-back value In back none r = refl
+  list-back value In back empty r = refl
   list-back value In back (more {x = x} {xs = xs} h a) r =
       let e = append-assoc (f x) (each f xs) r in
       let t = list-back value In back a r in

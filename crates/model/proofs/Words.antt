@@ -7,7 +7,7 @@ use native.Mathlib.Omega.{arith}
 use borrow.Author.Tests.{ltb-true, ltb-false, lt-ltb, le-ltb}
 use lib.Dec.{ltb}
 use lib.IntN.{ℤ, pos, negsuc}
-use Rattle.model.specs.Lists.{All, none, more, Bytes, be16}
+use Rattle.model.specs.Lists.{All, empty, more, Bytes, be16}
 use Rattle.model.specs.Bytes.{unsigned}
 use Rattle.model.specs.Limits.{Int16}
 use Rattle.model.specs.Reader.{byte, word, complement}
@@ -16,13 +16,13 @@ use Rattle.model.specs.Reader.{byte, word, complement}
 
 -- what stands anywhere in a list of bytes is a byte
 pub byte-small : {bs : List ℕ} → Bytes bs → (i : ℕ) → byte bs i < 256
-byte-small none i = omega arith
+byte-small empty i = omega arith
 byte-small (more h a) zero = h
 byte-small (more h a) (suc i) = byte-small a i
 
 -- all of two lists, one after the other
 pub all-join : {A : Type 0} {P : A → Type 0} {xs ys : List A} → All P xs → All P ys → All P (xs ++ ys)
-all-join none b = b
+all-join empty b = b
 all-join (more h a) b = more h (all-join a b)
 
 -- the second of two lists
@@ -32,7 +32,7 @@ all-after (x ∷ xs) (more h a) = all-after xs a
 
 -- the first of two lists
 pub all-before : {A : Type 0} {P : A → Type 0} (xs ys : List A) → All P (xs ++ ys) → All P xs
-all-before [] ys a = none
+all-before [] ys a = empty
 all-before (x ∷ xs) ys (more h a) = more h (all-before xs ys a)
 
 -- ## Two bytes
@@ -61,7 +61,7 @@ pub be16-bytes : (n : ℕ) → n < 65536 → Bytes (be16 n)
 be16-bytes n h =
     let high : n / 256 < 256 = omega arith in
     let low : n % 256 < 256 = omega arith in
-    more high (more low none)
+    more high (more low empty)
 
 -- ## Two's complement
 

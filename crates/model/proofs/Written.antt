@@ -14,7 +14,7 @@ use Rattle.model.specs.declared.DataGuard.{DataGuard}
 use Rattle.model.specs.declared.Update.{Update}
 use Rattle.model.specs.declared.Pair.{Pair}
 use Rattle.model.specs.declared.Sizes.{Sizes}
-use Rattle.model.specs.Lists.{All, none, more, Bytes, each}
+use Rattle.model.specs.Lists.{All, empty, more, Bytes, each}
 use Rattle.model.specs.Table.{Arc, Component, Read, sizesOf}
 use Rattle.model.specs.Bytes.{unsigned, locationBytes, clockGuardBytes, dataGuardBytes, updateBytes, pairBytes, kindOf, itemCount, itemBytes, arcHead, arcBytes, bodyBytes, componentBytes, tableBytes}
 use Rattle.model.specs.Limits.{LocationIn, ClockGuardIn, DataGuardIn, UpdateIn, PairIn, ActionIn, ArcIn, ComponentIn, InLimits}
@@ -24,7 +24,7 @@ use Rattle.model.proofs.Items.{kind-small}
 -- each part's bytes are bytes: so are those of all, one after the other
 each-bytes : {A : Type 0} {In : A → Type 0} (f : A → List ℕ) → ((x : A) → In x → Bytes (f x)) → {xs : List A} → All In xs → Bytes (each f xs)
 unfolding each
-each-bytes f k none = none
+each-bytes f k empty = empty
 each-bytes f k (more {x = x} h a) = all-join (k x h) (each-bytes f k a)
 
 -- the sizes of a component in the limits
@@ -76,13 +76,13 @@ module _ (s : Sizes) (small : Small s) where
 
   -- a pair
   pair-bytes : (q : Pair) → PairIn s q → Bytes (pairBytes q)
-  pair-bytes q h = byte-more (q .channel) (omega arith) (byte-more (q .location) (omega arith) none)
+  pair-bytes q h = byte-more (q .channel) (omega arith) (byte-more (q .location) (omega arith) empty)
 
   -- the items of an edge: there are few, and their bytes are bytes
   item-bytes : (a : Arc) (act : Action) → ActionIn s a act → (length (a .dataGuards) ≤ 4) × (itemCount a act ≤ 8) × Bytes (itemBytes a act)
   unfolding itemBytes
   item-bytes a Internal h = (h .guards, omega arith, each-bytes updateBytes update-bytes (h .updates))
-  item-bytes a (Send k) h = (h .guards, omega arith, byte-more k (omega arith) none)
+  item-bytes a (Send k) h = (h .guards, omega arith, byte-more k (omega arith) empty)
   item-bytes a Receive h = (omega (arith, ap length (h .guards)), h .most, each-bytes pairBytes pair-bytes (h .pairs))
 
   -- an edge with its lists
@@ -92,7 +92,7 @@ module _ (s : Sizes) (small : Small s) where
       let i = item-bytes a (a .edge .action) (h .action) in
       let k = kind-small (a .edge .action) in
       let m = mask-small (s .clocks) (small .clocks) in
-      let two = byte-more (length (a .dataGuards)) (omega arith) (byte-more (itemCount a (a .edge .action)) (omega arith) none) in
+      let two = byte-more (length (a .dataGuards)) (omega arith) (byte-more (itemCount a (a .edge .action)) (omega arith) empty) in
       let four = byte-more (a .edge .mask) (omega arith) (byte-more (length (a .clockGuards)) (omega arith) two) in
       let six = byte-more (a .edge .source) (omega arith) (byte-more (a .edge .destination) (omega arith) four) in
       let head : Bytes (arcHead a) = byte-more (kindOf (a .edge .action)) (omega arith) six in
@@ -105,7 +105,7 @@ component-bytes channels k C p =
     let h = p .0 in
     let s = sizesOf channels C in
     let small : Small s = record { channels = k; locations = h .mostLocations; clocks = h .mostClocks; variables = h .variables } in
-    let three = byte-more (C .clocks) (omega arith) (byte-more (C .variables) (omega arith) (byte-more (length (C .arcs)) (omega arith) none)) in
+    let three = byte-more (C .clocks) (omega arith) (byte-more (C .variables) (omega arith) (byte-more (length (C .arcs)) (omega arith) empty)) in
     let five = byte-more (length (C .locations)) (omega arith) (byte-more (C .initial) (omega arith) three) in
     let body = all-join (all-join five (each-bytes locationBytes (location-bytes s small) (h .locations))) (each-bytes arcBytes (arc-bytes s small) (h .arcs)) in
     all-join (be16-bytes (2 + length (bodyBytes C)) (omega (arith, p .1))) body
@@ -113,7 +113,7 @@ component-bytes channels k C p =
 -- where the bytes of all components are few, so are those of each
 each-few : {P : Component → Type 0} {Cs : List Component} → All P Cs → length (each componentBytes Cs) ≤ 8192 → All (λ C. P C × (length (componentBytes C) ≤ 8192)) Cs
 unfolding each
-each-few none n = none
+each-few empty n = empty
 each-few (more {x = C} {xs = Cs} h a) n =
     let l = length-append (componentBytes C) (each componentBytes Cs) in
     let few : length (componentBytes C) ≤ 8192 = omega arith in

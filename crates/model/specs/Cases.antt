@@ -7,7 +7,7 @@ use lib.IntN.{pos}
 use Rattle.model.specs.declared.Action.the-variants.{Internal, Send, Receive}
 use Rattle.model.specs.declared.Verdict.{Verdict}
 use Rattle.model.specs.declared.Verdict.the-variants.{Accepted, Refused}
-use Rattle.model.specs.Lists.{All, none, more, Answer, accepted}
+use Rattle.model.specs.Lists.{All, empty, more, Answer, accepted}
 use Rattle.model.specs.Table.{Component, Read}
 use Rattle.model.specs.Build.{location, clockGuard, update, pairOf, arc, component, network}
 use Rattle.model.specs.Bytes.{tableBytes}
@@ -73,4 +73,4 @@ rows =
 
 pub cases : All Holds rows
 unfolding tableBytes readTable checkCall
-cases = more refl (more refl (more refl (more refl (more refl none))))
+cases = more refl (more refl (more refl (more refl (more refl empty))))

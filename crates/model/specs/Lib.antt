@@ -4,6 +4,10 @@ pub mod Limits
 pub mod Bytes
 pub mod Reader
 pub mod Places
+pub mod Window
+pub mod Schedule
+pub mod Checks
+pub mod Chains
 pub mod Calls
 pub mod Build
 pub mod Cases

@@ -1,16 +1,49 @@
 -- Words on lists and answers. Nothing of document 01 is here.
-use mathlib.Core.Bool.{Bool, false, _||_}
+use mathlib.Core.Path.{_≡_}
+use mathlib.Core.Bool.{Bool, true, false, cond, _&&_, _||_}
 use mathlib.Core.List.{List, [], _∷_, _++_}
+use mathlib.Core.Option.{Option, none, some}
 use Prim.Native.Nat.{ℕ, _/_, _%_, _<_}
 
 module _ {A : Type 0} where
+  abbrev pub all : (A → Bool) → List A → Bool
+  all p [] = true
+  all p (x ∷ xs) = p x && all p xs
+
   abbrev pub any : (A → Bool) → List A → Bool
   any p [] = false
   any p (x ∷ xs) = p x || any p xs
 
+  -- those of which p holds, in order
+  abbrev pub only : (A → Bool) → List A → List A
+  only p [] = []
+  only p (x ∷ xs) = cond (p x) (x ∷ only p xs) (only p xs)
+
+  -- the first of which p holds
+  abbrev pub first : (A → Bool) → List A → Option A
+  first p [] = none
+  first p (x ∷ xs) = cond (p x) (some x) (first p xs)
+
+  abbrev pub snoc : List A → A → List A
+  snoc xs x = xs ++ (x ∷ [])
+
+  abbrev pub isNone : Option A → Bool
+  isNone none = true
+  isNone (some a) = false
+
+  abbrev pub orElse : Option A → A → A
+  orElse none d = d
+  orElse (some a) d = a
+
+  -- x is one of them
+  pub data _∈_ (x : A) : List A → Type 0 where
+    here : {y : A} {xs : List A} → x ≡ y → x ∈ (y ∷ xs)
+    there : {y : A} {xs : List A} → x ∈ xs → x ∈ (y ∷ xs)
+
+  infix 4 _∈_
   -- P holds of each
   pub data All (P : A → Type 0) : List A → Type 0 where
-    none : All P []
+    empty : All P []
     more : {x : A} {xs : List A} → P x → All P xs → All P (x ∷ xs)
 
   -- the bytes of each, one after the other

@@ -10,13 +10,30 @@ pub struct Field {
     pub at: usize,
     /// Its bytes, 1 or 2.
     pub width: usize,
-    /// The greatest value that document 01 allows here, 65,535 for none of a
-    /// high bound left aside.
+    /// The greatest value that document 01 allows here; for a high bound the
+    /// greatest one below the 65,535 that stands for none.
     pub greatest: u16,
 }
 
-/// A part of which a table has a number that it counts: a component, a
-/// location, an edge, a bound or an item.
+impl Field {
+    /// The values at the ends of its range and of other ranges, and next to
+    /// them, each once.
+    pub fn bounds(&self) -> Vec<u16> {
+        let own = self.greatest;
+        let mut values = vec![0, 1, 2, 4, 5, 127, 128, 254, 255];
+        values.extend([own.saturating_sub(1), own, own.saturating_add(1)]);
+        if self.width == 2 {
+            values.extend([256, 32_767, 32_768, 65_534, 65_535]);
+            values.extend([MAX_TICKS - 1, MAX_TICKS, MAX_TICKS + 1]);
+        }
+        values.sort();
+        values.dedup();
+        values
+    }
+}
+
+/// A part that is counted: a component, a location, an edge, a bound or an
+/// item.
 #[derive(Clone, Debug, PartialEq, Eq)]
 pub struct Part {
     /// The byte that counts parts like this one.
@@ -51,12 +68,6 @@ impl Layout {
             walk.component(component, table.channels);
         }
         walk.layout
-    }
-
-    /// The number that stands at this byte. There must be one.
-    pub fn field_at(&self, at: usize) -> &Field {
-        let field = self.fields.iter().find(|field| field.at == at);
-        field.expect("a number starts at this byte")
     }
 }
 

@@ -10,7 +10,7 @@ const PROBE_AND_HUB: [u8; 103] = [
     0, 0, 10, // location 1
     1, 0, 1, 0, 1, 0, 1, // edge 0, a send
     0, 0, 3, 255, 255, // its clock bound
-    0, // its channel
+    0,   // its channel
     0, 1, 0, 1, 1, 0, 0, // edge 1, internal
     0, 0, 8, 255, 255, // its clock bound
     0, 58, 3, 0, 1, 1, 3, // component 1, the hub

@@ -1,0 +1,50 @@
+//! The valid tables that other classes change place by place.
+
+use crate::random::Random;
+use crate::tables::{of_length, table, Shape, Values, WORKED_EXAMPLE};
+use reference::table::{read_table, write_table, Table};
+
+/// A valid table and its bytes.
+pub(super) struct Base {
+    pub(super) table: Table,
+    pub(super) bytes: Vec<u8>,
+}
+
+impl Base {
+    fn new(table: Table) -> Base {
+        let bytes = write_table(&table);
+        Base { table, bytes }
+    }
+}
+
+/// The worked example.
+pub(super) fn worked_example() -> Base {
+    let table = read_table(&WORKED_EXAMPLE);
+    Base::new(table.expect("the worked example is accepted"))
+}
+
+/// The worked example and some generated tables of up to about 1,000 bytes.
+pub(super) fn a_few(random: &mut Random) -> Vec<Base> {
+    let mut bases = vec![worked_example()];
+    bases.push(Base::new(table(random, &Shape::small())));
+    bases.push(Base::new(of_length(random, 300, Values::Any)));
+    bases.push(Base::new(of_length(random, 600, Values::Ends)));
+    bases.push(Base::new(of_length(random, 1000, Values::Small)));
+    bases
+}
+
+/// A table of the greatest length.
+pub(super) fn longest(random: &mut Random) -> Base {
+    Base::new(of_length(random, 8192, Values::Any))
+}
+
+/// A table of any shape, mostly a small one.
+pub(super) fn any(random: &mut Random) -> Base {
+    let values = random.pick(&[Values::Small, Values::Any, Values::Ends]);
+    let shape = if random.once_in(8) {
+        Shape::any()
+    } else {
+        Shape::small()
+    };
+    Base::new(table(random, &shape.with_values(values)))
+}

@@ -1,0 +1,71 @@
+//! The classes of cases.
+
+mod bases;
+mod cuts;
+mod generated;
+mod limits;
+mod one_byte;
+mod random_bytes;
+mod shifted;
+mod stored;
+
+use crate::random::Random;
+use crate::trial::{Outcome, Trial};
+
+/// How much is tried.
+#[derive(Clone, Copy, Debug, PartialEq, Eq)]
+pub struct Extent {
+    /// How often a class makes something at random; each class takes a
+    /// multiple of it.
+    pub rounds: usize,
+    /// A class that goes along the bytes of a table tries each so-manieth
+    /// place: 1 for all of them.
+    pub step: usize,
+}
+
+impl Extent {
+    /// All that the comparison tries.
+    pub const FULL: Extent = Extent {
+        rounds: 1000,
+        step: 1,
+    };
+    /// A few cases of each class.
+    pub const SHORT: Extent = Extent {
+        rounds: 10,
+        step: 41,
+    };
+}
+
+/// A class of cases.
+#[derive(Clone, Copy)]
+pub struct Class {
+    /// What it tries, in a few words.
+    pub name: &'static str,
+    /// Tries all its cases.
+    pub run: fn(&mut Trial, &mut Random, &Extent) -> Outcome,
+}
+
+const fn class(name: &'static str, run: fn(&mut Trial, &mut Random, &Extent) -> Outcome) -> Class {
+    Class { name, run }
+}
+
+/// All classes, in the order in which they are tried.
+pub const CLASSES: [Class; 17] = [
+    class("vectors", stored::vectors),
+    class("corpus", stored::corpus),
+    class("random bytes", random_bytes::anything),
+    class("random bytes, length stated", random_bytes::length_stated),
+    class("random bytes after a header", random_bytes::after_header),
+    class("random parts in a component", random_bytes::in_component),
+    class("worked example, one byte changed", one_byte::worked_example),
+    class("larger tables, one byte changed", one_byte::larger),
+    class("truncations", cuts::kept),
+    class("truncations, table length stated", cuts::total_stated),
+    class("truncations, both lengths stated", cuts::both_stated),
+    class("well-formed tables", generated::well_formed),
+    class("at and near the limits", limits::counts),
+    class("each number at and past its bounds", limits::numbers),
+    class("random numbers changed", generated::numbers_changed),
+    class("parts repeated or left out", shifted::parts),
+    class("lengths and bytes shifted", shifted::bytes),
+];

@@ -1,0 +1,21 @@
+//! The tables that the repository keeps, with their answers.
+
+use super::Extent;
+use crate::random::Random;
+use crate::stored::{self, Stored};
+use crate::trial::{Outcome, Stop, Trial};
+
+pub(super) fn vectors(trial: &mut Trial, _: &mut Random, _: &Extent) -> Outcome {
+    expect_all(trial, stored::vectors())
+}
+
+pub(super) fn corpus(trial: &mut Trial, _: &mut Random, _: &Extent) -> Outcome {
+    expect_all(trial, stored::corpus())
+}
+
+fn expect_all(trial: &mut Trial, tables: Result<Vec<Stored>, String>) -> Outcome {
+    for table in tables.map_err(Stop::Unreadable)? {
+        trial.expect(&table.bytes, table.answer)?;
+    }
+    Ok(())
+}
