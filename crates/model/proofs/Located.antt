@@ -1,17 +1,19 @@
 -- The law of places: in the bytes of an accepted table its parts stand where they are looked for, and are in the limits. Assumes nothing.
-use mathlib.Core.Path.{_≡_, refl, ap, _∙_}
+use mathlib.Core.Path.{_≡_, refl, sym, ap, _∙_}
+use mathlib.Core.Bool.{true}
 use mathlib.Core.List.{List, [], _∷_, _++_}
-use Prim.Native.Nat.{ℕ, _+_, _*_, _<_}
+use Prim.Native.Nat.{ℕ, suc, _+_, _*_, _<_}
 use native.Mathlib.Omega.{arith}
-use lib.ListN.{length}
+use lib.ListN.{length, getD}
 use Rattle.model.specs.declared.Location.{Location}
 use Rattle.model.specs.declared.Sizes.{Sizes}
-use Rattle.model.specs.Lists.{Bytes, be16, each, accepted}
+use Rattle.model.specs.Lists.{empty, more, Bytes, be16, each, Answer, accepted, refused}
 use Rattle.model.specs.Table.{Component, Read, sizesOf, noLocation, noArc, noComponent, size, componentOf, locationOf, arcOf}
 use Rattle.model.specs.Bytes.{locationBytes, arcBytes, bodyBytes, componentBytes, tableBytes}
 use Rattle.model.specs.Limits.{LocationIn, ArcIn, ComponentIn, InLimits}
 use Rattle.model.specs.Reader.{byte, word, locationFine, locationAt, readTable}
-use Rattle.model.specs.Places.{arcLength, arcAt, startOf, locationPlace, arcPlace, ComponentAt, Located}
+use Rattle.model.specs.Places.{arcLength, arcAt, startOf, locationPlace, arcPlace, ComponentAt, Located, readFrom, readOf, isAccepted, Valid, componentIn}
+use Rattle.model.proofs.Bools.{clash}
 use Rattle.model.proofs.Words.{word-back}
 use Rattle.model.proofs.Parts.{part-ok}
 use Rattle.model.proofs.Fixed.{location-agrees}
@@ -121,3 +123,24 @@ located bs t b e = let w = written-read bs t b e in table-at t (w .0) bs (stands
 -- each component of an accepted table is in the limits
 pub component-in : (bs : List ℕ) (t : Read) → Bytes bs → readTable bs ≡ accepted t → (c : ℕ) → c < size (t .table) → ComponentIn (t .table .channels) (componentOf (t .table) c)
 component-in bs t b e = all-at noComponent (written-read bs t b e .0 .components)
+
+-- ## The same for bytes that pass checks 1 to 6
+
+was-accepted : {A : Type 0} (a : Answer A) → isAccepted a ≡ true → (x : A) × (a ≡ accepted x)
+was-accepted (accepted x) e = (x, refl)
+was-accepted (refused n c) e = clash e
+
+-- bytes, each by its number, are bytes
+pub are-bytes : (bs : List ℕ) → ((i : ℕ) → getD bs i 0 < 256) → Bytes bs
+are-bytes [] h = empty
+are-bytes (b ∷ bs) h = more (h 0) (are-bytes bs (λ i. h (suc i)))
+
+pub valid-read : (bs : List ℕ) → Valid bs → readTable bs ≡ accepted (readOf bs)
+unfolding Valid readOf
+valid-read bs v = let (t, e) = was-accepted (readTable bs) v in e ∙ ap accepted (sym (ap readFrom e))
+
+pub valid-located : (bs : List ℕ) → Bytes bs → Valid bs → Located bs (readOf bs)
+valid-located bs b v = located bs (readOf bs) b (valid-read bs v)
+
+pub valid-in : (bs : List ℕ) → Bytes bs → Valid bs → (c : ℕ) → c < size (readOf bs .table) → ComponentIn (readOf bs .table .channels) (componentIn bs c)
+valid-in bs b v = component-in bs (readOf bs) b (valid-read bs v)

@@ -1,6 +1,7 @@
 -- Document 01, "The table": where the parts of a table stand in its bytes, and what stands there. Nothing is tested here:
 -- for the bytes of an accepted table these are its parts (the law `located` in proofs/Located.antt).
 use mathlib.Core.Path.{_≡_}
+use mathlib.Core.Bool.{Bool, true, false}
 use mathlib.Core.List.{List, [], _∷_}
 use Prim.Native.Nat.{ℕ, zero, suc, _+_, _*_, _≤_, _<_}
 use lib.ListN.{length, drop}
@@ -8,8 +9,9 @@ use Rattle.model.specs.declared.Action.{Action}
 use Rattle.model.specs.declared.Action.the-variants.{Internal, Send, Receive}
 use Rattle.model.specs.declared.Pair.{Pair}
 use Rattle.model.specs.declared.Update.{Update}
+use Rattle.model.specs.Lists.{Answer, accepted, refused}
 use Rattle.model.specs.Table.{Arc, Component, Read, size, componentOf, locationOf, arcOf}
-use Rattle.model.specs.Reader.{byte, word, locationAt, clockGuardAt, dataGuardAt, updateAt, pairAt, edgeAt}
+use Rattle.model.specs.Reader.{byte, word, locationAt, clockGuardAt, dataGuardAt, updateAt, pairAt, edgeAt, readTable}
 
 -- n parts of width w, one after the other
 unfoldable pub listAt : {A : Type 0} → (List ℕ → A) → ℕ → ℕ → List ℕ → List A
@@ -96,3 +98,27 @@ pub record Located (bs : List ℕ) (t : Read) : Type 0 where
   pub channels : byte bs 4 ≡ t .table .channels
   pub horizon : word bs 5 ≡ t .horizon
   pub component : (c : ℕ) → c < size (t .table) → ComponentAt bs (startOf bs c) (componentOf (t .table) c)
+
+-- ## The table that stands in the bytes
+
+-- what was read; a refusal has read nothing
+abbrev pub readFrom : Answer Read → Read
+readFrom (accepted t) = t
+readFrom (refused n c) = record { table = record { channels = 0; components = [] }; horizon = 0 }
+
+unfoldable pub readOf : List ℕ → Read
+unfolding readTable
+readOf bs = readFrom (readTable bs)
+
+abbrev pub isAccepted : {A : Type 0} → Answer A → Bool
+isAccepted (accepted a) = true
+isAccepted (refused n c) = false
+
+-- the bytes pass checks 1 to 6
+unfoldable pub Valid : List ℕ → Type 0
+unfolding readTable
+Valid bs = isAccepted (readTable bs) ≡ true
+
+-- component c of the table that the bytes are
+abbrev pub componentIn : List ℕ → ℕ → Component
+componentIn bs c = componentOf (readOf bs .table) c

@@ -18,8 +18,8 @@ pub struct Extent {
     /// How often a class makes something at random; each class takes a
     /// multiple of it.
     pub rounds: usize,
-    /// A class that goes along the bytes of a table tries each so-manieth
-    /// place: 1 for all of them.
+    /// A class that goes along a table goes on by so many places: with 1 it
+    /// tries them all.
     pub step: usize,
 }
 

@@ -8,8 +8,9 @@ use reference::table::*;
 /// The lengths of edges used here. With a variable there is an internal edge
 /// of each of them: 7 bytes, up to 8 bounds of 5 bytes, up to 4 updates of 4.
 const EDGE: [usize; 2] = [23, 47];
-/// The lengths of components used here: an edge of each least length fits
-/// beside 16 locations, 32 edges of the greatest length beside 1 location.
+/// The lengths of components used here: from 16 locations and one edge of the
+/// least length to 1 location and 32 edges of the greatest length. Between
+/// them each length can be had with each number of locations.
 const COMPONENT: [usize; 2] = [
     HEAD + 16 * LOCATION + EDGE[0],
     HEAD + LOCATION + MAX_EDGES as usize * EDGE[1],
