@@ -8,6 +8,7 @@ pub mod Window
 pub mod Schedule
 pub mod Checks
 pub mod Chains
+pub mod Program
 pub mod Calls
 pub mod Build
 pub mod Cases

@@ -3,7 +3,7 @@ use mathlib.Core.Path.{_≡_}
 use mathlib.Core.Bool.{Bool, true, false, cond, _&&_, _||_}
 use mathlib.Core.List.{List, [], _∷_, _++_}
 use mathlib.Core.Option.{Option, none, some}
-use Prim.Native.Nat.{ℕ, _/_, _%_, _<_}
+use Prim.Native.Nat.{ℕ, zero, suc, _/_, _%_, _<_}
 
 module _ {A : Type 0} where
   abbrev pub all : (A → Bool) → List A → Bool
@@ -50,6 +50,14 @@ module _ {A : Type 0} where
   unfoldable pub each : (A → List ℕ) → List A → List ℕ
   each f [] = []
   each f (x ∷ xs) = f x ++ each f xs
+
+-- the numbers from i on, so many; and those below n
+abbrev pub from : ℕ → ℕ → List ℕ
+from i zero = []
+from i (suc n) = i ∷ from (suc i) n
+
+abbrev pub below : ℕ → List ℕ
+below n = from 0 n
 
 -- a list of bytes
 abbrev pub Bytes : List ℕ → Type 0
