@@ -9,6 +9,7 @@ pub mod Schedule
 pub mod Checks
 pub mod Chains
 pub mod Program
+pub mod Network
 pub mod Calls
 pub mod Build
 pub mod Cases

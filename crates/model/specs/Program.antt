@@ -1,5 +1,5 @@
 -- Document 01, "The program": statements, the blocks, the bytes, and the part of one node.
-use mathlib.Core.Bool.{Bool, true, false, cond, _&&_}
+use mathlib.Core.Bool.{cond}
 use mathlib.Core.List.{List, [], _∷_, _++_, map}
 use Prim.Native.Nat.{ℕ, zero, suc, _+_, _/_}
 use lib.Dec.{leb, ltb, eqb}
@@ -13,7 +13,7 @@ use Rattle.model.specs.declared.DataGuard.{DataGuard}
 use Rattle.model.specs.declared.Update.{Update}
 use Rattle.model.specs.declared.Pair.{Pair}
 use Rattle.model.specs.Lists.{be16, each, below}
-use Rattle.model.specs.Table.{Arc, Component, Table, Read, size, arcOf, locationOf}
+use Rattle.model.specs.Table.{Arc, Component, Read, size, arcOf, locationOf}
 use Rattle.model.specs.Bytes.{unsigned}
 use Rattle.model.specs.Reader.{byte, word}
 use Rattle.model.specs.Window.{masked}
