@@ -10,3 +10,6 @@ pub mod RoundTrip
 pub mod Walk
 pub mod ArcPlaces
 pub mod Located
+pub mod Members
+pub mod Heard
+pub mod Independence

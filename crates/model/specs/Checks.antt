@@ -25,9 +25,9 @@ startsEarlier v w = ltb (v .ready) (w .ready)
 abbrev pub endsLater : Visit → Visit → Bool
 endsLater v w = ltb (w .end) (v .end)
 
--- which sends disturb each other: any two
-abbrev pub disturb : Visit → Visit → Bool
-disturb v w = true
+-- which sends disturb each other: in a table of version 1 any two
+abbrev pub disturb : Table → Visit → Visit → Bool
+disturb T v w = true
 
 -- ## The three questions
 
@@ -40,7 +40,7 @@ isReceive T v = listens (visitArc T v)
 
 -- 10. "Do no two send windows of different components share a tick?" This one does with o.
 abbrev pub meets : Table → ℕ → Visit → Visit → Bool
-meets T H s o = isSend T H o && others o s && disturb s o && shareTick s o
+meets T H s o = isSend T H o && others o s && disturb T s o && shareTick s o
 
 abbrev pub collides : Table → ℕ → List Visit → Visit → Bool
 collides T H S s = isSend T H s && any (meets T H s) S
@@ -82,7 +82,7 @@ unfoldable pub plan : ℕ → Table → ℕ → Answer (List Visit)
 unfolding schedule checked
 plan limit T H = schedule limit T H after λ S. checked T H S
 
--- "at most 1,024 passages"
+-- 7. "Are fewer than 1,024 passages open or closed?"
 abbrev pub limit : ℕ
 limit = 1024
 
@@ -131,7 +131,7 @@ pub record Heard (T : Table) (S : List Visit) (s : Visit) : Type 0 where
 
 pub record Independent (T : Table) (H : ℕ) (S : List Visit) : Type 0 where
   -- no tick lies in the send windows of two components that disturb each other
-  pub apart : (s o : Visit) → s ∈ S → o ∈ S → isSend T H s ≡ true → isSend T H o ≡ true → others o s ≡ true → disturb s o ≡ true
+  pub apart : (s o : Visit) → s ∈ S → o ∈ S → isSend T H s ≡ true → isSend T H o ≡ true → others o s ≡ true → disturb T s o ≡ true
       → (t : ℕ) → InWindow t s → InWindow t o → ⊥
   pub heard : (s : Visit) → s ∈ S → isSend T H s ≡ true → Heard T S s
   -- no receive window shares a tick with two send windows of other components on its channels

@@ -10,6 +10,8 @@ pub mod Checks
 pub mod Chains
 pub mod Program
 pub mod Network
+pub mod Machine
+pub mod Run
 pub mod Calls
 pub mod Build
 pub mod Cases
