@@ -12,6 +12,7 @@ pub mod Program
 pub mod Network
 pub mod Machine
 pub mod Run
+pub mod Demand3
 pub mod Calls
 pub mod Build
 pub mod Cases

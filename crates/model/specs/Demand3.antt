@@ -1,0 +1,224 @@
+-- Demand 3: what holds of every run of an accepted table's programs, as one record with a field for each of its sentences.
+use mathlib.Core.Path.{_≡_}
+use mathlib.Core.Logic.{_⊎_}
+use mathlib.Core.Bool.{Bool, true, false, cond, _&&_, not}
+use mathlib.Core.List.{List, [], _∷_, _++_, map}
+use mathlib.Core.Option.{Option, none, some}
+use Prim.Native.Nat.{ℕ, zero, suc, pred, _+_, _≤_, _<_}
+use lib.Dec.{ltb, eqb}
+use lib.ListN.{length, getD, take}
+use Rattle.model.specs.Lists.{only, Answer, accepted}
+use Rattle.model.specs.Table.{Table, Read, size, componentOf}
+use Rattle.model.specs.Reader.{readTable}
+use Rattle.model.specs.Schedule.{Visit, own}
+use Rattle.model.specs.Checks.{planOf}
+use Rattle.model.specs.Network.{State, Label, Taken, Place, Work, one, two, Observation, start, follow, passagesOn, worksOn, observationsOn}
+use Rattle.model.specs.Machine.{Node}
+use Rattle.model.specs.Run.{Setting, settingOf, Run, Result, Outcome, forbidden, on, over, Stand, sleeping, sending, listening, finishing, adding, working, taking, elsewhere, nowhere, standOf, nodeOf, windowEnd, listeners, run, startRun, choose1}
+
+-- ## "passes as the schedule says"
+
+-- "location, entry and, once stepped in, edge and message"; clocks and variables at entry too
+abbrev pub TakenAs : Option Taken → Visit → Type 0
+TakenAs none v = Unit {0}
+TakenAs (some w) v = (w .edge ≡ v .edge) × (w .message ≡ v .message)
+
+-- "each component's passages on it are its first in the schedule"
+abbrev pub PassAs : List Place → List Visit → Type 0
+PassAs [] vs = Unit {0}
+PassAs (p ∷ ps) [] = ⊥
+PassAs (p ∷ ps) (v ∷ vs) = (p .entry ≡ v .entry) × TakenAs (p .waiting) v × PassAs ps vs
+
+-- every passage of the schedule that ends before the tick is on the path, stepped in
+abbrev pub IsStepped : Option Taken → Type 0
+IsStepped none = ⊥
+IsStepped (some w) = Unit {0}
+
+abbrev pub SteppedBefore : ℕ → List Place → List Visit → Type 0
+SteppedBefore t ps [] = Unit {0}
+SteppedBefore t [] (v ∷ vs) = (t ≤ v .end) × SteppedBefore t [] vs
+SteppedBefore t (p ∷ ps) (v ∷ vs) = (v .end < t → IsStepped (p .waiting)) × SteppedBefore t ps vs
+
+-- ## What a run did
+
+-- xs are the first of ys
+pub record Begins {A : Type 0} (xs ys : List A) : Type 0 where
+  pub rest : List A
+  pub is : xs ++ rest ≡ ys
+
+abbrev pub observationsOf : ℕ → Result → List Observation
+observationsOf c r = only (λ o. eqb (o .component) c) (r .state .observations)
+
+-- a work of component c: its own, or a message that it sends or receives
+abbrev pub workOf : ℕ → Work → Bool
+workOf c (one a t) = eqb a c
+workOf c (two a b k t) = cond (eqb a c) true (eqb b c)
+
+abbrev pub worksOf : ℕ → List Work → List Work
+worksOf c ws = only (workOf c) ws
+
+abbrev pub isLateEnd : Result → Bool
+isLateEnd r = eqb (r .end) 2
+
+-- the tick that the network reaches: it may be unable to pass the late tick
+abbrev pub reached : Result → ℕ
+reached r = cond (isLateEnd r) (pred (r .state .tick)) (r .state .tick)
+
+-- ticks among choices
+unfoldable pub ticksIn : List ℕ → ℕ
+ticksIn [] = 0
+ticksIn (b ∷ bs) = cond (eqb b 255) (suc (ticksIn bs)) (ticksIn bs)
+
+-- ## In the words of the schedule
+
+-- passage k of a component lies there, and its end (its ready) lies before now
+abbrev pub endBefore : List Visit → ℕ → ℕ → Bool
+endBefore [] k now = false
+endBefore (v ∷ vs) zero now = ltb (v .end) now
+endBefore (v ∷ vs) (suc k) now = endBefore vs k now
+
+abbrev pub readyBefore : List Visit → ℕ → ℕ → Bool
+readyBefore [] k now = false
+readyBefore (v ∷ vs) zero now = ltb (v .ready) now
+readyBefore (v ∷ vs) (suc k) now = readyBefore vs k now
+
+-- "past its window's end with its work unfinished, or past its next sleep's tick before it gets there": the passage whose sleep was finished
+-- last has its end before now; the next passage has its ready before now
+abbrev pub lateIn : List Visit → ℕ → Node → Stand → Bool
+lateIn vs now r sleeping = false
+lateIn vs now r (sending k) = endBefore vs (pred (r .sleeps)) now
+lateIn vs now r (listening qs) = endBefore vs (pred (r .sleeps)) now
+lateIn vs now r finishing = endBefore vs (pred (r .sleeps)) now
+lateIn vs now r (adding v z) = endBefore vs (pred (r .sleeps)) now
+lateIn vs now r working = endBefore vs (pred (r .sleeps)) now
+lateIn vs now r taking = readyBefore vs (r .sleeps) now
+lateIn vs now r elsewhere = readyBefore vs (r .sleeps) now
+lateIn vs now r nowhere = readyBefore vs (r .sleeps) now
+
+abbrev pub isLate : List Visit → Run → ℕ → Bool
+isLate S s c = lateIn (own c S) (s .tick) (nodeOf s c) (standOf (nodeOf s c))
+
+-- passage k of the component is there with that ready (end)
+abbrev pub readyIs : List Visit → ℕ → ℕ → Type 0
+readyIs [] k t = ⊥
+readyIs (v ∷ vs) zero t = v .ready ≡ t
+readyIs (v ∷ vs) (suc k) t = readyIs vs k t
+
+abbrev pub endIs : List Visit → ℕ → ℕ → Type 0
+endIs [] k t = ⊥
+endIs (v ∷ vs) zero t = v .end ≡ t
+endIs (v ∷ vs) (suc k) t = endIs vs k t
+
+-- a node stands at a sleep or a listen that is due at the tick
+abbrev pub DueIn : List Visit → ℕ → Node → Stand → Type 0
+DueIn vs t r sleeping = readyIs vs (r .sleeps) t
+DueIn vs t r (sending k) = ⊥
+DueIn vs t r (listening qs) = endIs vs (pred (r .sleeps)) t
+DueIn vs t r finishing = ⊥
+DueIn vs t r (adding v z) = ⊥
+DueIn vs t r working = ⊥
+DueIn vs t r taking = ⊥
+DueIn vs t r elsewhere = ⊥
+DueIn vs t r nowhere = ⊥
+
+-- it stands at one that is not due, or beyond its last passage
+abbrev pub NotDueIn : List Visit → ℕ → Node → Stand → Type 0
+NotDueIn vs t r sleeping = (readyIs vs (r .sleeps) t → ⊥)
+NotDueIn vs t r (sending k) = length vs < r .sleeps
+NotDueIn vs t r (listening qs) = (endIs vs (pred (r .sleeps)) t → ⊥)
+NotDueIn vs t r finishing = length vs < r .sleeps
+NotDueIn vs t r (adding v z) = length vs < r .sleeps
+NotDueIn vs t r working = length vs < r .sleeps
+NotDueIn vs t r taking = length vs ≤ r .sleeps
+NotDueIn vs t r elsewhere = length vs ≤ r .sleeps
+NotDueIn vs t r nowhere = length vs ≤ r .sleeps
+
+-- a node past its sleep and yet to send, in its window: exactly one node stands at a listen that names its channel, has taken nothing, and
+-- began earlier
+abbrev pub HasListener : List Visit → Run → ℕ → Stand → Type 0
+HasListener vs s c sleeping = Unit {0}
+HasListener vs s c (sending k) =
+    (endBefore vs (pred (nodeOf s c .sleeps)) (s .tick) ≡ false) → (i : ℕ) × (listeners s c k ≡ i ∷ []) × (nodeOf s i .t < nodeOf s c .t)
+HasListener vs s c (listening qs) = Unit {0}
+HasListener vs s c finishing = Unit {0}
+HasListener vs s c (adding v z) = Unit {0}
+HasListener vs s c working = Unit {0}
+HasListener vs s c taking = Unit {0}
+HasListener vs s c elsewhere = Unit {0}
+HasListener vs s c nowhere = Unit {0}
+
+-- ## The states that a run goes through, after each number of choices carried out
+
+abbrev pub furtherStates : Outcome → (Run → List Run) → List Run
+furtherStates forbidden f = []
+furtherStates (on t) f = f t
+furtherStates (over t e n) f = t ∷ []
+
+unfoldable pub states : Setting → List ℕ → Run → List Run
+unfolding choose1
+states g [] s = s ∷ []
+states g (b ∷ bs) s = s ∷ furtherStates (choose1 g s b) (λ t. states g bs t)
+
+-- ## The demand
+
+module _ (t : Read) (S : List Visit) (cs : List ℕ) where
+  abbrev pub setting : Setting
+  setting = settingOf t S
+
+  abbrev pub result : Result
+  result = run setting cs
+
+  -- the state after k choices carried out
+  abbrev pub stateAfter : ℕ → Run
+  stateAfter k = getD (states setting cs (startRun setting)) k (startRun setting)
+
+  -- "LateAt k c": choice k is a tick that takes node c past its window's end or its next sleep
+  abbrev pub LateAt : ℕ → ℕ → Type 0
+  LateAt k c = (getD cs k 0 ≡ 255) × (isLate S (stateAfter (suc k)) c ≡ true)
+
+  -- passages of c due before the tick
+  abbrev pub dueBefore : ℕ → ℕ → ℕ
+  dueBefore c now = length (only (λ v. ltb (v .ready) now) (own c S))
+
+  -- how the run ended, and that it had not ended before
+  pub data Ended : Type 0 where
+    horizon : result .end ≡ 0 → result .state .tick ≡ t .horizon → ((c : ℕ) → c < size (t .table) → isLate S (result .state) c ≡ false) → Ended
+    usedUp : result .end ≡ 1 → result .state .used ≡ length cs → result .state .tick < t .horizon → Ended
+    late : result .end ≡ 2 → Ended
+    notAllowed : result .end ≡ 3 → result .state .used < length cs → choose1 setting (result .state) (getD cs (result .state .used) 0) ≡ forbidden → Ended
+
+  -- why a choice was not allowed, in the words of the schedule
+  pub data Refused (b : ℕ) : Type 0 where
+    noNode : size (t .table) ≤ b → (b ≡ 255 → ⊥) → Refused b
+    notDue : b < size (t .table) → NotDueIn (own b S) (result .state .tick) (nodeOf (result .state) b) (standOf (nodeOf (result .state) b)) → Refused b
+    due : b ≡ 255 → (c : ℕ) → c < size (t .table) → DueIn (own c S) (result .state .tick) (nodeOf (result .state) c) (standOf (nodeOf (result .state) c)) → Refused b
+
+  pub record Demand3 : Type 0 where
+    -- one path of the network, for all nodes together
+    pub path : List Label
+    pub last : State
+    pub valid : follow (t .table) (start (t .table)) path ≡ some last
+    pub reach : last .tick ≡ reached result
+    pub scheduled : (c : ℕ) → c < size (t .table) → PassAs (passagesOn (t .table) c (start (t .table)) path) (own c S)
+    pub kept : (c : ℕ) → c < size (t .table) → SteppedBefore (last .tick) (passagesOn (t .table) c (start (t .table)) path) (own c S)
+    pub worked : (c : ℕ) → c < size (t .table) → worksOf c (worksOn (t .table) (start (t .table)) path) ≡ worksOf c (result .state .works)
+    pub observed : (c : ℕ) → c < size (t .table)
+        → Begins (observationsOf c result)
+        (observationsOn (componentOf (t .table) c) c (last .tick) (passagesOn (t .table) c (start (t .table)) path) (map (λ v. v .edge) (own c S)))
+    pub complete : (c : ℕ) → c < size (t .table)
+        → dueBefore c (result .state .tick) ≤ length (observationsOf c result) + cond (isLateEnd result && isLate S (result .state) c) 1 0
+    pub listener : (k : ℕ) → k ≤ result .state .used → (c : ℕ) → c < size (t .table) → HasListener (own c S) (stateAfter k) c (standOf (nodeOf (stateAfter k) c))
+    -- a late node at choice k: the run ends there and then, with the lowest one
+    pub lateEnds : (k : ℕ) → k < result .state .used → (c : ℕ) → c < size (t .table) → LateAt k c
+        → (suc k ≡ result .state .used) × (result .end ≡ 2) × (result .node ≤ c)
+    pub lateIs : result .end ≡ 2 → (0 < result .state .used) × (result .node < size (t .table)) × LateAt (pred (result .state .used)) (result .node)
+    pub node : (result .end ≡ 2 → ⊥) → result .node ≡ 255
+    pub used : result .state .used ≤ length cs
+    pub ticks : result .state .tick ≡ ticksIn (take (result .state .used) cs)
+    pub ended : Ended
+    pub notBefore : (k : ℕ) → k < result .state .used → stateAfter k .tick < t .horizon
+    pub refused : result .end ≡ 3 → Refused (getD cs (result .state .used) 0)
+
+-- for every accepted table and every list of choices
+abbrev pub Promise : Type 0
+Promise = (bytes : List ℕ) (t : Read) (S : List Visit) → readTable bytes ≡ accepted t → planOf t ≡ accepted S → (cs : List ℕ) → Demand3 t S cs
