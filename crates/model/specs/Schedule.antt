@@ -145,3 +145,19 @@ schedule limit T H = begin limit 0 (T .components) [] after λ vs.
 abbrev pub sevenOf : Visit → List ℕ
 sevenOf v =
     v .component ∷ v .edge ∷ v .entry .location ∷ v .entry .tick ∷ v .ready ∷ v .end ∷ orElse (v .message) 255 ∷ []
+
+-- what the seven fields tell of a passage: all but the clocks and variables at entry
+abbrev pub light : Visit → Visit
+light v =
+    record {
+      component = v .component;
+      edge = v .edge;
+      entry = record { location = v .entry .location; tick = v .entry .tick; clocks = []; values = [] };
+      ready = v .ready;
+      end = v .end;
+      message = v .message
+    }
+
+-- the same without its message
+abbrev pub bare : Visit → Visit
+bare v = withMessage (light v) none
