@@ -13,3 +13,14 @@ pub mod Located
 pub mod Members
 pub mod Heard
 pub mod Independence
+pub mod Interval
+pub mod Choice
+pub mod Opening
+pub mod Soonest
+pub mod Messages
+pub mod Own
+pub mod Loop
+pub mod Scheduled
+pub mod Passages
+pub mod Retrace
+pub mod Exactly

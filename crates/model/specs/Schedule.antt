@@ -155,7 +155,7 @@ light v =
       entry = record { location = v .entry .location; tick = v .entry .tick; clocks = []; values = [] };
       ready = v .ready;
       end = v .end;
-      message = v .message
+      message = v .message;
     }
 
 -- the same without its message
