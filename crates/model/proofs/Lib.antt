@@ -24,3 +24,10 @@ pub mod Scheduled
 pub mod Passages
 pub mod Retrace
 pub mod Exactly
+pub mod DecodeStatement
+pub mod DecodeBlock
+pub mod DecodeInside
+pub mod DecodeNode
+pub mod DecodeProgram
+pub mod DecodeSize
+pub mod DecodeBytes

@@ -39,7 +39,8 @@ decodings bs =
     ∷ some choose
     ∷ []
 
--- the statement at the front; none where the bytes run out or the op is unknown
+-- The statement at the front; none where fewer than four bytes are left or the op is unknown, and then the block breaks off there and the
+-- node cannot be chosen. Only the bytes of `programBytes` are run, where neither happens and each field that is not named is 0.
 unfoldable pub statementAt : List ℕ → Option Statement
 unfolding listAt
 statementAt bs = let found = getD (decodings bs) (byte bs 0) none in cond (leb 4 (length bs)) found none
