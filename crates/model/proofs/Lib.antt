@@ -31,3 +31,15 @@ pub mod DecodeNode
 pub mod DecodeProgram
 pub mod DecodeSize
 pub mod DecodeBytes
+pub mod BlockTrial
+pub mod BlockLaw
+pub mod BlockChoice
+pub mod NodeChoosing
+pub mod NodeAgeing
+pub mod NodeWorking
+pub mod NodePhase
+pub mod NodeFacts
+pub mod NodeListening
+pub mod NodePassage
+pub mod NodeSchedule
+pub mod NodeRefused
