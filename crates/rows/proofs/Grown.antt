@@ -1,0 +1,180 @@
+-- Rows one by one: what a row added, or messages put, make of the rows and of what is known of them. Assumes nothing.
+use mathlib.Core.Path.{_≡_, refl, ap₂, _∙_}
+use mathlib.Core.List.{List, [], _∷_, map}
+use mathlib.Core.Option.{none}
+use Prim.Native.Nat.{ℕ, zero, suc, _+_, _*_, _≤_, _<_}
+use native.Mathlib.Omega.{arith}
+use borrow.Author.Count.{below-more}
+use lib.ListN.{length, getD}
+use lib.Seq.{sets, length-sets}
+use Rattle.model.specs.Lists.{snoc}
+use Rattle.model.specs.Table.{size}
+use Rattle.model.specs.Places.{arcPlace, startOf, readOf, componentIn}
+use Rattle.model.specs.Schedule.{Visit, messageIn, withMessage, finished}
+use Rattle.rows.specs.Rows.{num, rowVisit, rowsFrom, rowsOf, RowPlaced, RowsPlaced, MessagesPut}
+use Rattle.rows.proofs.Stored.{row-others, row-written}
+use Rattle.rows.proofs.Sought.{rows-split}
+use Rattle.rows.proofs.Relabelled.{same-placed, same-rows}
+
+-- ## The rows as passages
+
+-- rows of the same numbers are the same passages
+pub rows-same : (l k : List ℕ) (i n : ℕ) → ((j m : ℕ) → i ≤ j → j < i + n → m < 9 → num k j m ≡ num l j m) → rowsFrom k i n ≡ rowsFrom l i n
+unfolding rowsFrom
+rows-same l k i zero h = refl
+rows-same l k i (suc n) h =
+    ap₂ (λ (v : Visit) (vs : List Visit). v ∷ vs) first (rows-same l k (suc i) n (λ j m a b c. h j m (omega arith) (omega arith) c))
+  where
+    first : rowVisit k i ≡ rowVisit l i
+    first =
+        rw (
+          h i 0 (omega arith) (omega arith) (omega arith),
+          h i 1 (omega arith) (omega arith) (omega arith),
+          h i 2 (omega arith) (omega arith) (omega arith),
+          h i 3 (omega arith) (omega arith) (omega arith),
+          h i 4 (omega arith) (omega arith) (omega arith),
+          h i 5 (omega arith) (omega arith) (omega arith),
+          h i 6 (omega arith) (omega arith) (omega arith),
+        )
+
+-- one row more
+pub rows-snoc : (l : List ℕ) (n : ℕ) → rowsOf l (n + 1) ≡ snoc (rowsOf l n) (rowVisit l n)
+unfolding rowsFrom
+rows-snoc l n = let e : 0 + n ≡ n = omega arith in rows-split l 0 n 1 ∙ rw e
+
+-- ## A row added
+
+-- what is asked of the numbers of a row that is added after n rows
+pub record RowFits (bs l : List ℕ) (n component edge entry ready end place low : ℕ) : Type 0 where
+  pub present : component < size (readOf bs .table)
+  pub there : edge < length (componentIn bs component .arcs)
+  pub stands : place ≡ arcPlace bs (startOf bs component) edge
+  pub early : entry ≤ ready
+  pub window : ready < end
+  pub small : end ≤ 200000
+  pub order : (j : ℕ) → j < n → num l j 3 ≤ entry
+  pub among : low ≤ n
+  pub swept : (j : ℕ) → j < low → num l j 5 < entry
+
+module _ (l : List ℕ) (n component edge location entry ready end place low : ℕ) (fits : n * 9 + 9 ≤ length l) where
+  -- what `put_row` writes, and the rows then
+  abbrev pub newRow : List ℕ
+  newRow = component ∷ edge ∷ location ∷ entry ∷ ready ∷ end ∷ 255 ∷ place ∷ low ∷ []
+
+  abbrev pub added : List ℕ
+  added = sets l (n * 9) newRow
+
+  new-number : (k : ℕ) → k < 9 → num added n k ≡ getD newRow k 0
+  new-number k h = row-written l newRow n refl k fits h
+
+  old-number : (j k : ℕ) → j < n → k < 9 → num added j k ≡ num l j k
+  old-number j k a h = row-others l newRow n refl j k (λ e. omega arith) h
+
+  abbrev pub newVisit : Visit
+  newVisit =
+      record {
+        component = component;
+        edge = edge;
+        entry = record { location = location; tick = entry; clocks = []; values = [] };
+        ready = ready;
+        end = end;
+        message = none;
+      }
+
+  pub visit-added : rowVisit added n ≡ newVisit
+  visit-added =
+      rw (
+        new-number 0 (omega arith),
+        new-number 1 (omega arith),
+        new-number 2 (omega arith),
+        new-number 3 (omega arith),
+        new-number 4 (omega arith),
+        new-number 5 (omega arith),
+        new-number 6 (omega arith),
+      )
+
+  pub rows-added : rowsOf added (n + 1) ≡ snoc (rowsOf l n) newVisit
+  rows-added =
+      rows-snoc added n
+      ∙ ap₂ snoc (rows-same l added 0 n (λ j m a b c. old-number j m (omega arith) c)) visit-added
+
+  module _ (bs : List ℕ) (r : RowsPlaced bs l n) (f : RowFits bs l n component edge entry ready end place low) where
+    new-placed : RowPlaced bs added n
+    new-placed =
+        record {
+          present = rw (new-number 0 (omega arith)) (f .present);
+          there = rw (new-number 0 (omega arith), new-number 1 (omega arith)) (f .there);
+          place = rw (new-number 0 (omega arith), new-number 1 (omega arith), new-number 7 (omega arith)) (f .stands);
+          early = rw (new-number 3 (omega arith), new-number 4 (omega arith)) (f .early);
+          window = rw (new-number 4 (omega arith), new-number 5 (omega arith)) (f .window);
+          small = rw (new-number 5 (omega arith)) (f .small);
+        }
+
+    old-placed : (i : ℕ) → i < n → RowPlaced bs added i
+    old-placed i h = same-placed l added n (λ j m a b d. old-number j m a b) bs i h (r .row i h)
+
+    new-order : (i : ℕ) → i < n → num added i 3 ≤ num added n 3
+    new-order i h = rw (old-number i 3 h (omega arith), new-number 3 (omega arith)) (f .order i h)
+
+    old-order : (j : ℕ) → j < n → (i : ℕ) → i ≤ j → num added i 3 ≤ num added j 3
+    old-order j h i a = rw (old-number i 3 (omega arith) (omega arith), old-number j 3 h (omega arith)) (r .order i j a h)
+
+    old-low : (j : ℕ) → j < n → num added j 8 ≤ j
+    old-low j h = rw (old-number j 8 h (omega arith)) (r .low j h)
+
+    new-low : num added n 8 ≤ n
+    new-low = rw (new-number 8 (omega arith)) (f .among)
+
+    old-swept : (j : ℕ) → j < n → (i : ℕ) → i < num added j 8 → num added i 5 < num added j 3
+    old-swept j h i a =
+        let b : i < num l j 8 = omega (arith, old-number j 8 h (omega arith)) in
+        let c : i < n = omega (arith, r .low j h) in
+        rw (old-number i 5 c (omega arith), old-number j 3 h (omega arith)) (r .swept j i h b)
+
+    new-swept : (i : ℕ) → i < num added n 8 → num added i 5 < num added n 3
+    new-swept i a =
+        let b : i < low = omega (arith, new-number 8 (omega arith)) in
+        rw (old-number i 5 (omega (arith, f .among)) (omega arith), new-number 3 (omega arith)) (f .swept i b)
+
+    -- n + 1 rows of a schedule
+    pub placed-added : n < 1024 → RowsPlaced bs added (n + 1)
+    placed-added h =
+        record {
+          valid = r .valid;
+          few = omega arith;
+          fits = omega (arith, length-sets l (n * 9) newRow);
+          row = below-more (RowPlaced bs added) n old-placed new-placed;
+          order = λ i j a b.
+              below-more (λ (k : ℕ). (m : ℕ) → m ≤ k → num added m 3 ≤ num added k 3) n old-order
+              (λ m c. below-more (λ (k : ℕ). num added k 3 ≤ num added n 3) n new-order (omega arith) m (omega arith)) j b i a;
+          low = below-more (λ (k : ℕ). num added k 8 ≤ k) n old-low new-low;
+          swept = λ j i b a. below-more (λ (k : ℕ). (m : ℕ) → m < num added k 8 → num added m 5 < num added k 3) n old-swept new-swept j b i a;
+        }
+
+-- ## Messages put
+
+module _ (bs : List ℕ) (H n : ℕ) (before after : List ℕ) (p : MessagesPut bs H n before after) where
+  pub put-placed : RowsPlaced bs before n → RowsPlaced bs after n
+  put-placed r = same-rows before after n (p .rest) bs (p .same) r
+
+  visit-put : (i : ℕ) → i < n → rowVisit after i ≡ withMessage (rowVisit before i) (messageIn (readOf bs .table) H (rowsOf before n) (rowVisit before i))
+  visit-put i h =
+      rw (
+        p .rest i 0 h (omega arith) (λ e. omega arith),
+        p .rest i 1 h (omega arith) (λ e. omega arith),
+        p .rest i 2 h (omega arith) (λ e. omega arith),
+        p .rest i 3 h (omega arith) (λ e. omega arith),
+        p .rest i 4 h (omega arith) (λ e. omega arith),
+        p .rest i 5 h (omega arith) (λ e. omega arith),
+        p .message i h,
+      )
+
+  rows-put : (i m : ℕ) → i + m ≤ n → rowsFrom after i m ≡ map (λ v. withMessage v (messageIn (readOf bs .table) H (rowsOf before n) v)) (rowsFrom before i m)
+  unfolding rowsFrom
+  rows-put i zero h = refl
+  rows-put i (suc m) h = ap₂ (λ (v : Visit) (vs : List Visit). v ∷ vs) (visit-put i (omega arith)) (rows-put (suc i) m (omega arith))
+
+  -- the rows are the finished schedule
+  pub rows-finished : rowsOf after n ≡ finished (readOf bs .table) H (rowsOf before n)
+  unfolding finished
+  rows-finished = rows-put 0 n (omega arith)

@@ -1,0 +1,110 @@
+-- What is known of a row of a valid table's passages: its edge stands at its place, whole, and is within the limits. Assumes nothing.
+use mathlib.Core.Path.{_≡_, refl, ap, subst}
+use mathlib.Core.List.{List}
+use Prim.Native.Nat.{ℕ, zero, suc, _+_, _-_, _≤_, _<_}
+use native.Mathlib.Omega.{arith}
+use borrow.Author.Tests.{le-leb}
+use mir.Val.{Fits}
+use mir.Syntax.{w8}
+use lib.Dec.{leb}
+use lib.ListN.{length, take, drop, getD, length-drop}
+use Rattle.model.specs.declared.Sizes.{Sizes}
+use Rattle.model.specs.declared.Action.the-variants.{Send}
+use Rattle.model.specs.Lists.{Bytes}
+use Rattle.model.specs.Table.{sizesOf, noArc, size}
+use Rattle.model.specs.Limits.{ActionIn, ArcIn}
+use Rattle.model.specs.Window.{receives, listens}
+use Rattle.model.specs.Reader.{byte}
+use Rattle.model.specs.Places.{itemsPlace, arcLength, actionAt, arcAt, startOf, arcPlace, ComponentAt, Valid, readOf, componentIn}
+use Rattle.model.specs.Schedule.{visitArc}
+use Rattle.model.proofs.Words.{byte-small}
+use Rattle.model.proofs.Walk.{all-at}
+use Rattle.model.proofs.Located.{are-bytes, valid-read, valid-located, valid-in}
+use Rattle.model.proofs.RoundTrip.{written-read}
+use Rattle.decoder.specs.Decoded.{Decodable}
+use Rattle.decoder.proofs.Callers.{decodable}
+use Rattle.parts.proofs.Skim.{tail, first-of}
+use Rattle.rows.specs.Rows.{num, rowVisit, RowPlaced, RowsPlaced, EdgeStands, RowKnown}
+
+-- a send's channel is one of the table's
+channel-below : (s : Sizes) (h : List ℕ) → ArcIn s (arcAt h) → byte h 0 ≡ 1 → byte h (itemsPlace h) < s .channels
+unfolding arcAt
+channel-below s h a e =
+    let p : ActionIn s (arcAt h) (Send (byte h (itemsPlace h))) = subst (λ (k : ℕ). ActionIn s (arcAt h) (actionAt k (byte h (itemsPlace h)))) e (a .action) in
+    p .channel
+
+-- kinds from 2 on receive
+receiving : (kind k : ℕ) → leb 2 kind ≡ receives (actionAt kind k)
+receiving zero k = refl
+receiving (suc zero) k = refl
+receiving (suc (suc n)) k = le-leb 2 (suc (suc n)) (omega arith)
+
+receives-is : (h : List ℕ) → leb 2 (byte h 0) ≡ listens (arcAt h)
+unfolding arcAt
+receives-is h = receiving (byte h 0) (byte h (itemsPlace h))
+
+module _ (bs l : List ℕ) (i : ℕ) (b : Bytes bs) (v : Valid bs) (r : RowPlaced bs l i) where
+  component-there : ComponentAt bs (startOf bs (num l i 0)) (componentIn bs (num l i 0))
+  component-there = valid-located bs b v .component (num l i 0) (r .present)
+
+  -- the row's edge stands at its place ..
+  pub row-arc : arcAt (drop (num l i 7) bs) ≡ visitArc (readOf bs .table) (rowVisit l i)
+  row-arc = rw (r .place) (component-there .arc (num l i 1) (r .there))
+
+  -- .. whole ..
+  pub row-whole : num l i 7 + arcLength (drop (num l i 7) bs) ≤ length bs
+  row-whole = rw (r .place) (component-there .arcFits (num l i 1) (r .there))
+
+  -- .. and is within the limits
+  pub row-in : ArcIn (sizesOf (readOf bs .table .channels) (componentIn bs (num l i 0))) (arcAt (drop (num l i 7) bs))
+  row-in = rw row-arc (all-at noArc (valid-in bs b v (num l i 0) (r .present) .arcs) (num l i 1) (r .there))
+
+  pub row-decodable : Decodable (drop (num l i 7) bs)
+  row-decodable =
+      let h = drop (num l i 7) bs in
+      decodable _ h (arcAt h) (simp length-drop (omega (arith, row-whole))) refl row-in
+
+  pub row-stands : EdgeStands (drop (num l i 7) bs)
+  row-stands =
+      let h = drop (num l i 7) bs in
+      record {
+        head = row-decodable .head;
+        whole = row-decodable .whole;
+        channel = λ e. omega (arith, channel-below _ h row-in e, valid-located bs b v .channels, byte-small b 4);
+      }
+
+-- ## Small places
+
+-- a valid table has at most 8,192 bytes
+pub valid-small : (bs : List ℕ) → Bytes bs → Valid bs → length bs ≤ 8192
+valid-small bs b v = let w = written-read bs (readOf bs) b (valid-read bs v) in omega (arith, w .0 .bytes, ap length (w .1))
+
+-- so an edge's place is below that
+pub place-small : (bs : List ℕ) (c e : ℕ) → Bytes bs → Valid bs → c < size (readOf bs .table) → e < length (componentIn bs c .arcs) → arcPlace bs (startOf bs c) e < 8192
+place-small bs c e b v h k = omega (arith, valid-located bs b v .component c h .arcFits e k, valid-small bs b v)
+
+-- ## For callees
+
+-- one of n rows
+pub row-known : (bs l : List ℕ) (n i : ℕ) → RowsPlaced bs l n → i < n → RowKnown bs l i
+row-known bs l n i r h = record { valid = r .valid; row = r .row i h; fits = omega (arith, r .fits) }
+
+-- the bytes of a lent slice: what `c .shared-slice-known .given` says
+pub known-bytes : (bs : List ℕ) → ((j : ℕ) → Fits w8 (getD bs j 0)) → Bytes bs
+known-bytes bs b = are-bytes bs (λ j. b j .fits)
+
+-- at a place that was read from the row: the bytes from there on are lent
+module _ (bs l : List ℕ) (i at : ℕ) (b : (j : ℕ) → Fits w8 (getD bs j 0)) (r : RowKnown bs l i) (e : at ≡ num l i 7) where
+  pub at-within : at < length bs
+  at-within = omega (arith, row-whole bs l i (known-bytes bs b) (r .valid) (r .row))
+
+  pub at-stands : EdgeStands (take (length bs - at) (drop at bs))
+  at-stands = rw (tail bs at, e) (row-stands bs l i (known-bytes bs b) (r .valid) (r .row))
+
+  pub at-arc : arcAt (take (length bs - at) (drop at bs)) ≡ visitArc (readOf bs .table) (rowVisit l i)
+  at-arc = rw (tail bs at, e) (row-arc bs l i (known-bytes bs b) (r .valid) (r .row))
+
+  -- the kind tells whether the edge receives
+  pub at-receives : leb 2 (getD bs at 0) ≡ listens (visitArc (readOf bs .table) (rowVisit l i))
+  at-receives =
+      rw (e, ← first-of bs (num l i 7), receives-is (drop (num l i 7) bs)) (ap listens (row-arc bs l i (known-bytes bs b) (r .valid) (r .row)))

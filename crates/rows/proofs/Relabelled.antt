@@ -1,0 +1,177 @@
+-- Messages are sought by component, edge, ready and end alone: rows that agree in all but the message find the same. Assumes nothing.
+use mathlib.Core.Path.{_≡_, refl, sym, ap, ap₂, _∙_}
+use mathlib.Core.Bool.{Bool, true, false, cond}
+use mathlib.Core.List.{List, [], _∷_, map}
+use mathlib.Core.Option.{Option, none, some, Option·map}
+use Prim.Native.Nat.{ℕ, zero, suc, _+_, _*_, _≤_, _<_}
+use native.Mathlib.Omega.{arith}
+use borrow.Author.Tests.{eqb-true, eqb-false}
+use lib.Dec.{eqb}
+use lib.ListN.{length, getD, set, length-set}
+use lib.Seq.{getD-set-same, getD-set-other}
+use Rattle.model.specs.Table.{Table}
+use Rattle.model.specs.Window.{listens, channelOf}
+use Rattle.model.specs.Places.{readOf}
+use Rattle.model.specs.Schedule.{Visit, visitArc, heardBy, endsSooner, sooner, earliest, carried, messageIn, withMessage}
+use Rattle.rows.specs.Rows.{num, messageOf, rowVisit, rowsFrom, rowsOf, RowPlaced, RowsPlaced, MessagesPut}
+
+-- ## What a search reads: component, edge, ready and end
+
+-- a change of passages that keeps these
+pub record Keeps (f : Visit → Visit) : Type 0 where
+  pub component : (v : Visit) → f v .component ≡ v .component
+  pub edge : (v : Visit) → f v .edge ≡ v .edge
+  pub ready : (v : Visit) → f v .ready ≡ v .ready
+  pub end : (v : Visit) → f v .end ≡ v .end
+
+module _ (f : Visit → Visit) (k : Keeps f) where
+  kept-cond : (t : Bool) (a b : Option Visit) → cond t (Option·map f a) (Option·map f b) ≡ Option·map f (cond t a b)
+  kept-cond true a b = refl
+  kept-cond false a b = refl
+
+  kept-arc : (T : Table) (v : Visit) → visitArc T (f v) ≡ visitArc T v
+  kept-arc T v = rw (k .component v, k .edge v)
+
+  kept-ends : (s b : Visit) → endsSooner (f s) (f b) ≡ endsSooner s b
+  kept-ends s b = rw (k .end s, k .end b, k .component s, k .component b)
+
+  kept-sooner : (b : Option Visit) (s : Visit) → sooner (Option·map f b) (f s) ≡ Option·map f (sooner b s)
+  kept-sooner none s = refl
+  kept-sooner (some b) s =
+      ap (λ (t : Bool). cond t (some (f s)) (some (f b))) (kept-ends s b) ∙ kept-cond (endsSooner s b) (some s) (some b)
+
+  kept-heard : (T : Table) (H : ℕ) (v s : Visit) → heardBy T H (f v) (f s) ≡ heardBy T H v s
+  kept-heard T H v s =
+      rw (k .component v, k .component s, k .edge v, k .edge s, k .ready v, k .ready s, k .end v, k .end s)
+
+  kept-earliest : (p q : Visit → Bool) → ((v : Visit) → q (f v) ≡ p v) → (vs : List Visit) (b : Option Visit)
+      → earliest q (map f vs) (Option·map f b) ≡ Option·map f (earliest p vs b)
+  kept-earliest p q h [] b = refl
+  kept-earliest p q h (v ∷ vs) b = ap (earliest q (map f vs)) one ∙ kept-earliest p q h vs (cond (p v) (sooner b v) b)
+    where
+      one : cond (q (f v)) (sooner (Option·map f b) (f v)) (Option·map f b) ≡ Option·map f (cond (p v) (sooner b v) b)
+      one = rw (h v, kept-sooner b v) (kept-cond (p v) (sooner b v) b)
+
+  kept-carried : (T : Table) (o : Option Visit) → carried T (Option·map f o) ≡ carried T o
+  kept-carried T none = refl
+  kept-carried T (some v) = ap channelOf (kept-arc T v)
+
+  -- finds the same messages
+  pub kept-message : (T : Table) (H : ℕ) (vs : List Visit) (v : Visit) → messageIn T H (map f vs) (f v) ≡ messageIn T H vs v
+  unfolding messageIn
+  kept-message T H vs v =
+      let p = heardBy T H v in
+      let found : carried T (earliest (heardBy T H (f v)) (map f vs) none) ≡ carried T (earliest p vs none) =
+      ap (carried T) (kept-earliest p (heardBy T H (f v)) (kept-heard T H v) vs none) ∙ kept-carried T (earliest p vs none) in
+      rw (kept-arc T v) (ap (λ (o : Option ℕ). cond (listens (visitArc T v)) o (channelOf (visitArc T v))) found)
+
+-- without the message
+abbrev bare : Visit → Visit
+bare v = withMessage v none
+
+bare-message : (T : Table) (H : ℕ) (vs : List Visit) (v : Visit) → messageIn T H (map bare vs) (bare v) ≡ messageIn T H vs v
+bare-message = kept-message bare (record { component = λ v. refl; edge = λ v. refl; ready = λ v. refl; end = λ v. refl })
+
+-- ## Rows that agree in all but the message
+
+module _ (l k : List ℕ) (n : ℕ) (agree : (i m : ℕ) → i < n → m < 9 → (m ≡ 6 → ⊥) → num k i m ≡ num l i m) where
+  row-bare : (i : ℕ) → i < n → bare (rowVisit k i) ≡ bare (rowVisit l i)
+  row-bare i h =
+      rw (
+        agree i 0 h (omega arith) (λ e. omega arith),
+        agree i 1 h (omega arith) (λ e. omega arith),
+        agree i 2 h (omega arith) (λ e. omega arith),
+        agree i 3 h (omega arith) (λ e. omega arith),
+        agree i 4 h (omega arith) (λ e. omega arith),
+        agree i 5 h (omega arith) (λ e. omega arith),
+      )
+
+  rows-bare : (i m : ℕ) → i + m ≤ n → map bare (rowsFrom k i m) ≡ map bare (rowsFrom l i m)
+  unfolding rowsFrom
+  rows-bare i zero h = refl
+  rows-bare i (suc m) h = ap₂ (λ (v : Visit) (vs : List Visit). v ∷ vs) (row-bare i (omega arith)) (rows-bare (suc i) m (omega arith))
+
+  -- find the same message
+  pub same-message : (T : Table) (H i : ℕ) → i < n → messageIn T H (rowsOf k n) (rowVisit k i) ≡ messageIn T H (rowsOf l n) (rowVisit l i)
+  same-message T H i h =
+      sym (bare-message T H (rowsOf k n) (rowVisit k i))
+      ∙ ap₂ (messageIn T H) (rows-bare 0 n (omega arith)) (row-bare i h)
+      ∙ bare-message T H (rowsOf l n) (rowVisit l i)
+
+  pub same-placed : (bs : List ℕ) (i : ℕ) → i < n → RowPlaced bs l i → RowPlaced bs k i
+  same-placed bs i h r =
+      let e0 = agree i 0 h (omega arith) (λ e. omega arith) in
+      let e1 = agree i 1 h (omega arith) (λ e. omega arith) in
+      let e3 = agree i 3 h (omega arith) (λ e. omega arith) in
+      let e4 = agree i 4 h (omega arith) (λ e. omega arith) in
+      let e5 = agree i 5 h (omega arith) (λ e. omega arith) in
+      let e7 = agree i 7 h (omega arith) (λ e. omega arith) in
+      record {
+        present = rw e0 (r .present);
+        there = rw (e0, e1) (r .there);
+        place = rw (e0, e1, e7) (r .place);
+        early = rw (e3, e4) (r .early);
+        window = rw (e4, e5) (r .window);
+        small = rw e5 (r .small);
+      }
+
+  pub same-rows : (bs : List ℕ) → length k ≡ length l → RowsPlaced bs l n → RowsPlaced bs k n
+  same-rows bs e r =
+      record {
+        valid = r .valid;
+        few = r .few;
+        fits = rw e (r .fits);
+        row = λ i h. same-placed bs i h (r .row i h);
+        order = λ i j a h.
+            rw (agree i 3 (omega arith) (omega arith) (λ e. omega arith), agree j 3 h (omega arith) (λ e. omega arith)) (r .order i j a h);
+        low = λ j h. rw (agree j 8 h (omega arith) (λ e. omega arith)) (r .low j h);
+        swept = λ j i h a.
+            let b : i < num l j 8 = omega (arith, agree j 8 h (omega arith) (λ e. omega arith)) in
+            let c : i < n = omega (arith, r .low j h) in
+            rw (agree i 5 c (omega arith) (λ e. omega arith), agree j 3 h (omega arith) (λ e. omega arith)) (r .swept j i h b);
+      }
+
+-- ## Messages put row by row
+
+-- the first i of n rows have their messages
+pub record PutBelow (bs : List ℕ) (H n : ℕ) (before after : List ℕ) (i : ℕ) : Type 0 where
+  pub same : length after ≡ length before
+  pub message : (j : ℕ) → j < i → messageOf (num after j 6) ≡ messageIn (readOf bs .table) H (rowsOf before n) (rowVisit before j)
+  pub rest : (j k : ℕ) → j < n → k < 9 → (k ≡ 6 → ⊥) → num after j k ≡ num before j k
+  pub past : (j : ℕ) → n * 9 ≤ j → getD after j 0 ≡ getD before j 0
+
+pub put-none : (bs : List ℕ) (H n : ℕ) (l : List ℕ) → PutBelow bs H n l l 0
+put-none bs H n l =
+    record { same = refl; message = λ j h. absurd (omega arith); rest = λ j k h b d. refl; past = λ j h. refl }
+
+module _ (bs : List ℕ) (H n : ℕ) (l k : List ℕ) (i : ℕ) (r : RowsPlaced bs l n) (p : PutBelow bs H n l k i) where
+  -- the rows are still a schedule's
+  pub still-placed : RowsPlaced bs k n
+  still-placed = same-rows l k n (p .rest) bs (p .same) r
+
+  pub put-within : i < n → i * 9 + 6 < length k
+  put-within h = omega (arith, r .fits, p .same)
+
+  -- one more
+  pub put-turn : (m : ℕ) → i < n → messageOf m ≡ messageIn (readOf bs .table) H (rowsOf k n) (rowVisit k i)
+      → PutBelow bs H n l (set k (i * 9 + 6) m) (i + 1)
+  put-turn m h e =
+      record {
+        same = length-set k (i * 9 + 6) m ∙ p .same;
+        message = λ j b. at-row j b (eqb j i) refl;
+        rest = λ j c a b d. getD-set-other k (i * 9 + 6) (j * 9 + c) m 0 (λ q. d (omega arith)) ∙ p .rest j c a b d;
+        past = λ j a. getD-set-other k (i * 9 + 6) j m 0 (λ q. omega arith) ∙ p .past j a;
+      }
+    where
+      at-row : (j : ℕ) → j < i + 1 → (t : Bool) → eqb j i ≡ t
+          → messageOf (num (set k (i * 9 + 6) m) j 6) ≡ messageIn (readOf bs .table) H (rowsOf l n) (rowVisit l j)
+      at-row j b true q =
+          let s : j ≡ i = eqb-true j i q in
+          rw (s, getD-set-same k (i * 9 + 6) m 0 (put-within h)) (e ∙ same-message l k n (p .rest) (readOf bs .table) H i h)
+      at-row j b false q =
+          let d = eqb-false j i q in
+          let c : j < i = omega arith in
+          rw (getD-set-other k (i * 9 + 6) (j * 9 + 6) m 0 (λ q. d (omega arith))) (p .message j c)
+
+  pub put-all : n ≤ i → MessagesPut bs H n l k
+  put-all h = record { same = p .same; message = λ j a. p .message j (omega arith); rest = p .rest; past = p .past }

@@ -1,0 +1,21 @@
+-- `rows::row_receives` meets its contract. Assumes nothing.
+use borrow.Author.Needs.{needs}
+use Rattle.rows.proofs.Placed.{at-within, at-receives}
+use Rattle.rows.proofs.row_receives.Statement.{statement}
+use Rattle.rows.proofs.row_receives.Tie as tie
+
+index-requires : tie.Need-index-requires
+index-requires c κs = search needs
+
+shared-slice-read-result : tie.Need-shared-slice-read-result
+shared-slice-read-result c =
+    let e = c .before .before .before .before in
+    at-within (e .args .s .now) (e .args .l .now) (e .args .i) (c .before .index .result) (c .before .before .before .shared-slice-known .given) (e .pre) (c .before .index .ensures)
+
+returns : tie.Need-returns
+returns c =
+    let e = c .before .before .before .before in
+    at-receives (e .args .s .now) (e .args .l .now) (e .args .i) (c .before .index .result) (c .before .before .before .shared-slice-known .given) (e .pre) (c .before .index .ensures)
+
+pub row-receives-spec : {M : Type 1} → statement M
+row-receives-spec = tie.close (tie.spec index-requires shared-slice-read-result returns)

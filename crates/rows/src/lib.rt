@@ -1,0 +1,265 @@
+// The passages of a schedule as rows of numbers in a lent slice: writing one, and seeking messages.
+ghost use mathlib.Core.Path.{_≡_};
+ghost use mathlib.Core.Option.{none};
+ghost use mathlib.Core.List.{[], _∷_};
+ghost use Prim.Native.Nat.{ℕ, _+_, _*_, _≤_, _<_};
+ghost use lib.ListN.{length};
+ghost use lib.Seq.{sets};
+ghost use Rattle.model.specs.Window.{channelOf, listens};
+ghost use Rattle.model.specs.Places.{itemsPlace, arcAt, readOf};
+ghost use Rattle.model.specs.Schedule.{visitArc, names, heardBy, endsSooner, sooner, earliest, messageIn};
+ghost use Rattle.rows.specs.Rows.{num, messageOf, rowVisit, rowsOf, RowsPlaced, MessagesPut, EdgeStands, RowKnown, inTime, bestOf, BestBelow, heardRow};
+
+// The row of the best message so far.
+pub enum Best {
+    Nothing,
+    Row(usize),
+}
+
+fn wide(x: u8) -> u32
+    ensures { λ r. ⌜ (r ≡ x) × (r < 256) ⌝ }
+{
+    x as u32
+}
+
+fn counted(x: u8) -> usize
+    ensures { λ r. ⌜ (r ≡ x) × (r < 256) ⌝ }
+{
+    x as usize
+}
+
+// Number k of row i.
+pub fn number(l: &[u32], i: usize, k: usize) -> u32
+    requires { ⌜ i * 9 + k < length (now l) ⌝ }
+    ensures { λ r. ⌜ r ≡ num (now (l .entry)) i k ⌝ }
+{
+    l[i * 9 + k]
+}
+
+// The same, where the number is a place or a row.
+pub fn index(l: &[u32], i: usize, k: usize) -> usize
+    requires { ⌜ i * 9 + k < length (now l) ⌝ }
+    ensures { λ r. ⌜ r ≡ num (now (l .entry)) i k ⌝ }
+{
+    l[i * 9 + k] as usize
+}
+
+// Writes row i; message none (255).
+pub fn put_row(
+    l: &mut [u32],
+    i: usize,
+    component: u8,
+    edge: u8,
+    location: u8,
+    entry: u32,
+    ready: u32,
+    end: u32,
+    place: usize,
+    low: usize,
+)
+    requires { ⌜ (i * 9 + 9 ≤ length (now l)) × (place < 65536) × (low < 65536) × (i ≤ 1024) ⌝ }
+    ensures { λ _. ⌜ now (l .exit) ≡ sets (now (l .entry)) (i * 9) (component ∷ edge ∷ location ∷ entry ∷ ready ∷ end ∷ 255 ∷ place ∷ low ∷ []) ⌝ }
+{
+    let at = i * 9;
+    l[at] = component as u32;
+    l[at + 1] = edge as u32;
+    l[at + 2] = location as u32;
+    l[at + 3] = entry;
+    l[at + 4] = ready;
+    l[at + 5] = end;
+    l[at + 6] = 255;
+    l[at + 7] = place as u32;
+    l[at + 8] = low as u32;
+}
+
+// The first row, from `low` on, that ends at the tick or later (n where there is none).
+pub fn first_open(l: &[u32], low: usize, n: usize, tick: u32) -> usize
+    requires { ⌜ (low ≤ n) × (n * 9 ≤ length (now l)) × (n ≤ 1024) ⌝ }
+    ensures { λ r. ⌜ (low ≤ r) × (r ≤ n) × ((i : ℕ) → low ≤ i → i < r → num (now (l .entry)) i 5 < tick) ⌝ }
+{
+    let mut i = low;
+    while i < n {
+        if tick <= number(l, i, 5) {
+            return i;
+        }
+        i += 1;
+    }
+    i
+}
+
+// Where the items of the edge at the front start.
+fn items_place(h: &[u8]) -> usize
+    requires { ⌜ 7 ≤ length (now h) ⌝ }
+    ensures { λ r. ⌜ r ≡ itemsPlace (now (h .entry)) ⌝ }
+{
+    7 + (counted(h[4]) + counted(h[5])) * 5
+}
+
+// The channel that the edge at the front sends on (255: none).
+pub fn sent(h: &[u8]) -> u8
+    requires { ⌜ EdgeStands (now h) ⌝ }
+    ensures { λ r. ⌜ messageOf r ≡ channelOf (arcAt (now (h .entry))) ⌝ }
+{
+    if h[0] == 1 {
+        let at = items_place(h);
+        return h[at];
+    }
+    255
+}
+
+// Whether the edge at the front lists the channel (255: no).
+pub fn lists(h: &[u8], channel: u8) -> bool
+    requires { ⌜ EdgeStands (now h) ⌝ }
+    ensures { λ r. ⌜ r ≡ names (arcAt (now (h .entry))) (messageOf channel) ⌝ }
+{
+    if channel == 255 {
+        return false;
+    }
+    if h[0] < 2 {
+        return false;
+    }
+    let mut at = items_place(h);
+    let mut k = h[6];
+    while 0 < k {
+        if h[at] == channel {
+            return true;
+        }
+        at += 2;
+        k -= 1;
+    }
+    false
+}
+
+// Whether row i's edge receives.
+pub fn row_receives(s: &[u8], l: &[u32], i: usize) -> bool
+    requires { ⌜ RowKnown (now s) (now l) i ⌝ }
+    ensures { λ r. ⌜ r ≡ listens (visitArc (readOf (now (s .entry)) .table) (rowVisit (now (l .entry)) i)) ⌝ }
+{
+    let at = index(l, i, 7);
+    2 <= s[at]
+}
+
+// The channel that row i's edge sends on (255: none).
+pub fn row_sent(s: &[u8], l: &[u32], i: usize) -> u8
+    requires { ⌜ RowKnown (now s) (now l) i ⌝ }
+    ensures { λ r. ⌜ messageOf r ≡ channelOf (visitArc (readOf (now (s .entry)) .table) (rowVisit (now (l .entry)) i)) ⌝ }
+{
+    let at = index(l, i, 7);
+    sent(&s[at..])
+}
+
+// Whether row i's edge lists the channel (255: no).
+pub fn row_lists(s: &[u8], l: &[u32], i: usize, channel: u8) -> bool
+    requires { ⌜ RowKnown (now s) (now l) i ⌝ }
+    ensures { λ r. ⌜ r ≡ names (visitArc (readOf (now (s .entry)) .table) (rowVisit (now (l .entry)) i)) (messageOf channel) ⌝ }
+{
+    let at = index(l, i, 7);
+    lists(&s[at..], channel)
+}
+
+// Whether row j is of another component than row i, starts after its ready and before the tick h, and ends before its end.
+fn in_time(l: &[u32], i: usize, j: usize, h: u32) -> bool
+    requires { ⌜ (i * 9 + 9 ≤ length (now l)) × (j * 9 + 9 ≤ length (now l)) ⌝ }
+    ensures { λ r. ⌜ r ≡ inTime h (rowVisit (now (l .entry)) i) (rowVisit (now (l .entry)) j) ⌝ }
+{
+    let ready = number(l, j, 4);
+    let after = parts::both(number(l, i, 4) < ready, ready < h);
+    let inside = parts::both(after, number(l, j, 5) < number(l, i, 5));
+    parts::both(number(l, i, 0) != number(l, j, 0), inside)
+}
+
+// Whether row i hears row j.
+pub fn hears(s: &[u8], l: &[u32], i: usize, j: usize, h: u32) -> bool
+    requires { ⌜ RowKnown (now s) (now l) i × RowKnown (now s) (now l) j ⌝ }
+    ensures { λ r. ⌜ r ≡ heardBy (readOf (now (s .entry)) .table) h (rowVisit (now (l .entry)) i) (rowVisit (now (l .entry)) j) ⌝ }
+{
+    if !in_time(l, i, j, h) {
+        return false;
+    }
+    row_lists(s, l, i, row_sent(s, l, j))
+}
+
+fn ends_sooner(l: &[u32], j: usize, b: usize) -> bool
+    requires { ⌜ (j * 9 + 9 ≤ length (now l)) × (b * 9 + 9 ≤ length (now l)) ⌝ }
+    ensures { λ r. ⌜ r ≡ endsSooner (rowVisit (now (l .entry)) j) (rowVisit (now (l .entry)) b) ⌝ }
+{
+    let end = number(l, j, 5);
+    let other = number(l, b, 5);
+    let lower = number(l, j, 0) < number(l, b, 0);
+    parts::either(end < other, parts::both(end == other, lower))
+}
+
+// The best so far, or row j where that ends sooner.
+fn nearer(l: &[u32], best: Best, j: usize, n: usize) -> Best
+    requires { ⌜ (n * 9 ≤ length (now l)) × (j < n) × BestBelow n best ⌝ }
+    ensures { λ r. ⌜ (bestOf (now (l .entry)) r ≡ sooner (bestOf (now (l .entry)) best) (rowVisit (now (l .entry)) j)) × BestBelow n r ⌝ }
+{
+    match best {
+        Best::Nothing => Best::Row(j),
+        Best::Row(b) => {
+            if ends_sooner(l, j, b) {
+                Best::Row(j)
+            } else {
+                Best::Row(b)
+            }
+        }
+    }
+}
+
+// The best so far, or row j where row i hears it and it ends sooner.
+fn heard(s: &[u8], l: &[u32], best: Best, i: usize, j: usize, n: usize, h: u32) -> Best
+    requires { ⌜ RowsPlaced (now s) (now l) n × (i < n) × (j < n) × BestBelow n best ⌝ }
+    ensures { λ r. ⌜ (bestOf (now (l .entry)) r ≡ heardRow (now (s .entry)) (now (l .entry)) h i j (bestOf (now (l .entry)) best)) × BestBelow n r ⌝ }
+{
+    if hears(s, l, i, j, h) {
+        nearer(l, best, j, n)
+    } else {
+        best
+    }
+}
+
+// The row whose message row i hears. Rows before its sweep end too early, rows that open at its end or later end too late.
+fn seek(s: &[u8], l: &[u32], n: usize, i: usize, h: u32) -> Best
+    requires { ⌜ RowsPlaced (now s) (now l) n × (i < n) ⌝ }
+    ensures { λ r. ⌜ (bestOf (now (l .entry)) r ≡ earliest (heardBy (readOf (now (s .entry)) .table) h (rowVisit (now (l .entry)) i)) (rowsOf (now (l .entry)) n) none) × BestBelow n r ⌝ }
+{
+    let until = number(l, i, 5);
+    let mut best = Best::Nothing;
+    let mut j = index(l, i, 8);
+    while j < n {
+        if until <= number(l, j, 3) {
+            return best;
+        }
+        best = heard(s, l, best, i, j, n, h);
+        j += 1;
+    }
+    best
+}
+
+// The message of the passage of row i among n rows (255: none).
+pub fn message(s: &[u8], l: &[u32], n: usize, i: usize, h: u32) -> u8
+    requires { ⌜ RowsPlaced (now s) (now l) n × (i < n) ⌝ }
+    ensures { λ r. ⌜ messageOf r ≡ messageIn (readOf (now (s .entry)) .table) h (rowsOf (now (l .entry)) n) (rowVisit (now (l .entry)) i) ⌝ }
+{
+    if !row_receives(s, l, i) {
+        return row_sent(s, l, i);
+    }
+    let best = seek(s, l, n, i, h);
+    match best {
+        Best::Nothing => 255,
+        Best::Row(j) => row_sent(s, l, j),
+    }
+}
+
+// Gives each of n rows its message. (The other numbers stay.)
+pub fn put_messages(s: &[u8], l: &mut [u32], n: usize, h: u32)
+    requires { ⌜ RowsPlaced (now s) (now l) n ⌝ }
+    ensures { λ _. ⌜ MessagesPut (now (s .entry)) h n (now (l .entry)) (now (l .exit)) ⌝ }
+{
+    let mut i: usize = 0;
+    while i < n {
+        let m = message(s, l, n, i, h);
+        l[i * 9 + 6] = wide(m);
+        i += 1;
+    }
+}

@@ -1,0 +1,106 @@
+-- The edge taken, from edge to edge. Assumes nothing.
+use mathlib.Core.Path.{_≡_, sym, ap, subst, _∙_}
+use mathlib.Core.Bool.{Bool, true, false, cond}
+use mathlib.Core.List.{List, [], _∷_}
+use mathlib.Core.Option.{Option, none, some}
+use Prim.Native.Nat.{ℕ, suc, _+_, _≤_, _<_}
+use native.Mathlib.Numerals.{add-one}
+use native.Mathlib.Omega.{arith}
+use lib.Dec.{ltb}
+use lib.IntN.{ℤ}
+use lib.ListN.{length, drop, getD, drop-of-length-le}
+use lib.Seq.{drop-cons}
+use Rattle.model.specs.declared.Location.{Location}
+use Rattle.model.specs.Lists.{accepted, refused}
+use Rattle.model.specs.Table.{Arc, Component, noArc, locationOf, arcOf}
+use Rattle.model.specs.Window.{Entry, Pick, windowOf, better, eligible, considered, chosen, choice, channelOf, updated}
+use Rattle.model.specs.Places.{arcPlace, componentIn}
+use Rattle.model.specs.Schedule.{visitOf, opening}
+use Rattle.window.specs.declared.Choice.{Choice}
+use Rattle.window.specs.declared.Choice.the-variants.{Takes}
+use Rattle.window.specs.declared.TakenEdge.{TakenEdge}
+use Rattle.window.specs.Views.{pickOf, Kept}
+use Rattle.window.proofs.Considering.{pickFrom}
+
+module _ (l : Location) (here : ℕ) (xs : List ℕ) (vs : List ℤ) where
+  -- one edge more is considered
+  pub chosen-turn : (as′ : List Arc) (e : ℕ) (k k′ x : Option Pick) → e < length as′ → k′ ≡ considered l here xs vs e (getD as′ e noArc) k
+      → chosen l here xs vs e (drop e as′) k ≡ x → chosen l here xs vs (e + 1) (drop (e + 1) as′) k′ ≡ x
+  unfolding chosen
+  chosen-turn as′ e k k′ x h q i = rw (q, add-one e) (rw (drop-cons as′ e noArc h) at i)
+
+  -- none is left
+  pub chosen-done : (as′ : List Arc) (e : ℕ) (k x : Option Pick) → length as′ ≤ e → chosen l here xs vs e (drop e as′) k ≡ x → k ≡ x
+  unfolding chosen
+  chosen-done as′ e k x h i = rw (drop-of-length-le as′ h) at i
+
+  -- ## The edge taken is an edge
+
+  abbrev Below : ℕ → Option Pick → Type 0
+  Below n none = Unit {0}
+  Below n (some p) = p .edge < n
+
+  considered-below : (n e : ℕ) (a : Arc) (k : Option Pick) → e < n → Below n k → Below n (considered l here xs vs e a k)
+  considered-below n e a k h b = go (eligible l here xs vs a) k b
+    where
+      pick : (t : Bool) (q : Pick) → q .edge < n → Below n (cond t (some (windowOf l e a xs)) (some q))
+      pick true q j = h
+      pick false q j = j
+
+      go : (t : Bool) (k : Option Pick) → Below n k → Below n (cond t (better k (windowOf l e a xs)) k)
+      go true none j = h
+      go true (some q) j = pick (ltb (windowOf l e a xs .ready) (q .ready)) q j
+      go false none j = j
+      go false (some q) j = j
+
+  chosen-below : (n : ℕ) (as′ : List Arc) (e : ℕ) (k : Option Pick) → e + length as′ ≤ n → Below n k → Below n (chosen l here xs vs e as′ k)
+  unfolding chosen
+  chosen-below n [] e k h b = b
+  chosen-below n (a ∷ as′) e k h b = chosen-below n as′ (suc e) (considered l here xs vs e a k) (omega arith) (considered-below n e a k (omega arith) b)
+
+-- the edge taken has a number
+pub choice-edge : (C : Component) (at : Entry) (p : Pick) → choice C at ≡ some p → p .edge < length (C .arcs)
+unfolding choice
+choice-edge C at p e =
+    let l = locationOf C (at .location) in
+    subst (Below l (at .location) (at .clocks) (at .values) (length (C .arcs))) e
+    (chosen-below l (at .location) (at .clocks) (at .values) (length (C .arcs)) (C .arcs) 0 none (omega arith) tt)
+
+-- the search from the first edge on
+pub choice-from : (C : Component) (at : Entry) (l : Location) → l ≡ locationOf C (at .location)
+    → chosen l (at .location) (at .clocks) (at .values) 0 (C .arcs) none ≡ choice C at
+unfolding choice
+choice-from C at l e = rw e
+
+-- ## The edge that the code has kept
+
+pub record Took (bs : List ℕ) (c start : ℕ) (at : Entry) (t : TakenEdge) : Type 0 where
+  pub pick : some (pickFrom t) ≡ choice (componentIn bs c) at
+  pub inside : t .edge < length (componentIn bs c .arcs)
+  pub place : t .place ≡ arcPlace bs start (t .edge)
+  pub ready : t .ready ≤ 65535
+  pub end : t .end ≤ 65535
+
+pub took : (bs : List ℕ) (c start : ℕ) (at : Entry) (t : TakenEdge) (r : Choice) → r ≡ Takes t → pickOf r ≡ choice (componentIn bs c) at
+    → Kept (arcPlace bs start) r → Took bs c start at t
+took bs c start at t r e p k =
+    let q : some (pickFrom t) ≡ choice (componentIn bs c) at = sym (ap pickOf e) ∙ p in
+    let m : Kept (arcPlace bs start) (Takes t) = subst (Kept (arcPlace bs start)) e k in
+    record { pick = q; inside = choice-edge (componentIn bs c) at (pickFrom t) (sym q); place = m .0; ready = m .1; end = m .2 }
+
+-- ## The opening
+
+module _ (c : ℕ) (C : Component) (at : Entry) where
+  pub open-none : none ≡ choice C at → refused 8 c ≡ opening c C at
+  unfolding opening
+  open-none e = rw (← e)
+
+  module _ (p : Pick) (e : some p ≡ choice C at) where
+    pub open-out : none ≡ updated (arcOf C (p .edge) .updates) (at .values) → refused 9 c ≡ opening c C at
+    unfolding opening
+    open-out u = rw (← e, ← u)
+
+    pub open-ranged : {vs : List ℤ} → some vs ≡ updated (arcOf C (p .edge) .updates) (at .values)
+        → accepted (visitOf c at p (channelOf (arcOf C (p .edge)))) ≡ opening c C at
+    unfolding opening
+    open-ranged u = rw (← e, ← u)

@@ -1,0 +1,57 @@
+-- The edge at the front of bytes: its parts, and that the functions over them may be called. Assumes nothing.
+use mathlib.Core.Path.{_≡_, refl}
+use mathlib.Core.Bool.{Bool}
+use mathlib.Core.List.{List}
+use Prim.Native.Nat.{ℕ, _+_, _-_, _*_, _≤_, _<_}
+use native.Mathlib.Omega.{arith}
+use lib.IntN.{ℤ}
+use lib.ListN.{length, take, drop, length-drop}
+use Rattle.model.specs.declared.Location.{Location}
+use Rattle.model.specs.Lists.{All}
+use Rattle.model.specs.Reader.{byte, clockGuardAt, dataGuardAt, updateAt}
+use Rattle.model.specs.Places.{listAt, itemsPlace, itemsLength, updatesAt, arcAt}
+use Rattle.model.specs.Window.{readyOf, pastOf, dataHolds}
+use Rattle.decoder.proofs.Assembled.{found}
+use Rattle.decoder.proofs.ByKind.{receive-length}
+use Rattle.parts.proofs.Skim.{tail}
+use Rattle.window.specs.Views.{ArcReady}
+
+module _ (h : List ℕ) (r : ArcReady h) where
+  pub clock-guards-asked : (byte h 4 * 5 ≤ length (take (length h - 7) (drop 7 h)))
+      × All (λ g. g .clock < 4) (listAt clockGuardAt 5 (byte h 4) (take (length h - 7) (drop 7 h)))
+  unfolding arcAt
+  clock-guards-asked = rw (tail h 7) (simp length-drop (omega (arith, r .decodable .whole)), r .clockGuards)
+
+  pub data-guards-asked : (at : ℕ) → at ≡ 7 + byte h 4 * 5 → (byte h 5 * 5 ≤ length (take (length h - at) (drop at h)))
+      × All (λ g. g .variable < 4) (listAt dataGuardAt 5 (byte h 5) (take (length h - at) (drop at h)))
+  unfolding arcAt
+  data-guards-asked at e = rw (tail h at, e) (simp length-drop (omega (arith, r .decodable .whole)), r .dataGuards)
+
+  pub updates-asked : (at : ℕ) → at ≡ itemsPlace h → byte h 0 ≡ 0 → (byte h 6 * 4 ≤ length (take (length h - at) (drop at h)))
+      × All (λ u. u .variable < 4) (listAt updateAt 4 (byte h 6) (take (length h - at) (drop at h)))
+  unfolding arcAt updatesAt
+  updates-asked at e z =
+      let w : byte h 6 * 4 ≤ length (drop (itemsPlace h) h) = simp length-drop (omega (arith, rw z at (r .decodable .whole))) in
+      rw (tail h at, e) (w, rw z at (r .updates))
+
+  pub pairs-asked : (at : ℕ) → at ≡ itemsPlace h → 2 ≤ byte h 0 → byte h 6 * 2 ≤ length (take (length h - at) (drop at h))
+  pairs-asked at e z =
+      let s : itemsLength (byte h 0) (byte h 6) ≡ byte h 6 * 2 = receive-length (byte h 0) (byte h 6) (λ q. omega arith) (λ q. omega arith) in
+      rw (tail h at, e) (simp length-drop (omega (arith, r .decodable .whole)))
+
+-- what the functions over an edge's parts say of the edge
+module _ (h : List ℕ) where
+  pub data-found : (at : ℕ) (vs : List ℤ) {r : Bool} → at ≡ 7 + byte h 4 * 5
+      → r ≡ dataHolds (listAt dataGuardAt 5 (byte h 5) (take (length h - at) (drop at h))) vs → r ≡ dataHolds (arcAt h .dataGuards) vs
+  unfolding arcAt
+  data-found at vs e p = found (λ bs. dataHolds (listAt dataGuardAt 5 (byte h 5) bs) vs) h at (7 + byte h 4 * 5) e p
+
+  pub ready-found : (xs : List ℕ) {r : ℕ} → r ≡ readyOf (listAt clockGuardAt 5 (byte h 4) (take (length h - 7) (drop 7 h))) xs
+      → r ≡ readyOf (arcAt h .clockGuards) xs
+  unfolding arcAt
+  ready-found xs p = found (λ bs. readyOf (listAt clockGuardAt 5 (byte h 4) bs) xs) h 7 7 refl p
+
+  pub past-found : (l : Location) (xs : List ℕ) {r : ℕ} → r ≡ pastOf l (listAt clockGuardAt 5 (byte h 4) (take (length h - 7) (drop 7 h))) xs
+      → r ≡ pastOf l (arcAt h .clockGuards) xs
+  unfolding arcAt
+  past-found l xs p = found (λ bs. pastOf l (listAt clockGuardAt 5 (byte h 4) bs) xs) h 7 7 refl p

@@ -1,0 +1,9 @@
+pub mod Rests
+pub mod Narrowing
+pub mod Fronts
+pub mod Considering
+pub mod Signed
+pub mod Updating
+pub mod Leaving
+pub mod Ready
+pub mod Choosing

@@ -1,0 +1,141 @@
+-- `window::considered_edge` meets its contract. Assumes nothing.
+use mathlib.Core.Path.{_≡_, sym, ap, subst, _∙_}
+use Prim.Native.Nat.{_+_, _-_, _*_}
+use native.Mathlib.Omega.{arith}
+use borrow.Author.Tests.{not-true, not-false}
+use lib.ListN.{getD}
+use Rattle.model.specs.Places.{arcAt}
+use Rattle.window.specs.declared.TakenEdge.{TakenEdge}
+use Rattle.window.specs.Views.{pickOf, Kept}
+use Rattle.window.proofs.Fronts.{clock-guards-asked, data-guards-asked, data-found, ready-found, past-found}
+use Rattle.window.proofs.Considering.{elsewhere, unheld, shut, candidate-is, better-kept, better-window}
+use borrow.Author.Needs.{needs}
+use Rattle.window.proofs.considered_edge.Statement.{statement}
+use Rattle.window.proofs.considered_edge.Tie as tie
+
+shared-slice-read-if1 : tie.Need-shared-slice-read-if1
+shared-slice-read-if1 c = search needs
+
+returns : tie.Need-returns
+unfolding arcAt
+returns c =
+    let a = c .before .before .before .before .args in
+    (elsewhere (a .l) (a .at .location) (a .at .clocks) (a .at .values) (a .e) (arcAt (a .h .now)) (pickOf (a .best)) (c .if1 .taken), λ f p k. k)
+
+shared-slice-read-wide : tie.Need-shared-slice-read-wide
+shared-slice-read-wide c = search needs
+
+wide-requires : tie.Need-wide-requires
+wide-requires c κs = search needs
+
+mul-first : tie.Need-mul-first
+mul-first c = search needs
+
+add-first : tie.Need-add-first
+add-first c = search needs
+
+sub-data-hold : tie.Need-sub-data-hold
+sub-data-hold c = search needs
+
+part-data-hold-start : tie.Need-part-data-hold-start
+part-data-hold-start c = search needs
+
+part-data-hold-end : tie.Need-part-data-hold-end
+part-data-hold-end c = search needs
+
+shared-slice-read-data-hold : tie.Need-shared-slice-read-data-hold
+shared-slice-read-data-hold c = search needs
+
+data-hold-requires : tie.Need-data-hold-requires
+data-hold-requires c κs =
+    let h = c .before .before .before .before .before .before .before .before .before .args .h .now in
+    let at : 7 + c .before .before .before .wide .result * 5 ≡ 7 + getD h 4 0 * 5 = rw (c .before .before .before .wide .ensures .0) in
+    data-guards-asked h (c .before .before .before .before .before .before .before .before .before .pre .0) _ at
+
+returns-2 : tie.Need-returns-2
+returns-2 c =
+    let a = c .before .before .before .before .before .before .before .before .before .before .before .args in
+    let h = a .h .now in
+    let at : 7 + c .before .before .before .before .before .wide .result * 5 ≡ 7 + getD h 4 0 * 5 = rw (c .before .before .before .before .before .wide .ensures .0) in
+    let d = data-found h _ (a .at .values) at (c .before .data-hold .ensures) in
+    (unheld (a .l) (a .at .location) (a .at .clocks) (a .at .values) (a .e) (arcAt h) (pickOf (a .best)) (sym d ∙ not-true _ (c .if2 .taken)), λ f p k. k)
+
+sub-window : tie.Need-sub-window
+sub-window c = search needs
+
+part-window-start : tie.Need-part-window-start
+part-window-start c = search needs
+
+part-window-end : tie.Need-part-window-end
+part-window-end c = search needs
+
+shared-slice-read-window : tie.Need-shared-slice-read-window
+shared-slice-read-window c = search needs
+
+window-requires : tie.Need-window-requires
+window-requires c κs =
+    let s = c .before .before .before .before .before .before .before .before .before .before .before .before .before .before in
+    let g = clock-guards-asked (s .args .h .now) (s .pre .0) in
+    (g .0, s .pre .1, g .1)
+
+add-if3 : tie.Need-add-if3
+add-if3 c = search needs
+
+returns-3 : tie.Need-returns-3
+returns-3 c =
+    let a = c .before .before .before .before .before .before .before .before .before .before .before .before .before .before .before .before .before .before .args in
+    let h = a .h .now in
+    let w = c .before .before .before .window in
+    let r = ready-found h (a .at .clocks) (w .ensures .0) in
+    let p = past-found h (a .l) (a .at .clocks) (w .ensures .1) in
+    (shut (a .l) (a .at .location) (a .at .clocks) (a .at .values) (a .e) (arcAt h) (pickOf (a .best)) (omega arith), λ f q k. k)
+
+sub-t27 : tie.Need-sub-t27
+sub-t27 c = search needs
+
+better-requires : tie.Need-better-requires
+better-requires c κs = search needs
+
+returns-4 : tie.Need-returns-4
+unfolding arcAt
+returns-4 c =
+    let a = c .before .before .before .before .before .before .before .before .before .before .before .before .before .before .before .before .before .before .before .before .args in
+    let h = a .h .now in
+    let w = c .before .before .before .before .before .window in
+    let at : 7 + c .before .before .before .before .before .before .before .before .before .before .before .before .before .before .wide .result * 5 ≡ 7 + getD h 4 0 * 5 = rw (c .before .before .before .before .before .before .before .before .before .before .before .before .before .before .wide .ensures .0) in
+    let d = data-found h _ (a .at .values) at (c .before .before .before .before .before .before .before .before .before .before .data-hold .ensures) in
+    let r = ready-found h (a .at .clocks) (w .ensures .0) in
+    let p = past-found h (a .l) (a .at .clocks) (w .ensures .1) in
+    let t : TakenEdge = record { edge = a .e; place = a .place; ready = w .result .ready; end = w .result .past - 1 } in
+    let e = better-window (a .l) (a .at .clocks) (arcAt h) (a .best) t r (omega arith) in
+    let is = candidate-is (a .l) (a .at .location) (a .at .clocks) (a .at .values) (a .e) (arcAt h) (pickOf (a .best)) (c .before .before .before .before .before .before .before .before .before .before .before .before .before .before .before .before .if1 .left) (sym d ∙ not-false _ (c .before .before .before .before .before .before .before .before .before .if2 .left)) (omega arith) in (
+      ap pickOf (c .better .ensures) ∙ e ∙ is,
+      λ f q k. subst (Kept f) (sym (c .better .ensures)) (better-kept f (a .best) t (sym q, w .ensures .2, omega arith) k),
+    )
+
+pub considered-edge-spec : {M : Type 1} → statement M
+considered-edge-spec =
+    tie.close
+    (tie.spec
+    shared-slice-read-if1
+    returns
+    shared-slice-read-wide
+    wide-requires
+    mul-first
+    add-first
+    sub-data-hold
+    part-data-hold-start
+    part-data-hold-end
+    shared-slice-read-data-hold
+    data-hold-requires
+    returns-2
+    sub-window
+    part-window-start
+    part-window-end
+    shared-slice-read-window
+    window-requires
+    add-if3
+    returns-3
+    sub-t27
+    better-requires
+    returns-4)

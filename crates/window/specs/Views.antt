@@ -1,0 +1,73 @@
+-- What the code's values are in the words of the definitions, and which bytes an edge can be read from.
+use mathlib.Core.Path.{_≡_}
+use mathlib.Core.Bool.{cond}
+use mathlib.Core.List.{List}
+use mathlib.Core.Option.{Option, none, some}
+use Prim.Native.Nat.{ℕ, _≤_, _<_}
+use lib.Dec.{eqb, ltb}
+use lib.IntN.{ℤ}
+use Rattle.model.specs.Lists.{All, Answer, accepted, refused}
+use Rattle.model.specs.Table.{Component, arcOf}
+use lib.ListN.{length}
+use Rattle.model.specs.Places.{arcAt, arcPlace, componentIn}
+use Rattle.model.specs.Window.{Pick, channelOf, inRange}
+use Rattle.model.specs.Schedule.{Visit, visitOf}
+use Rattle.decoder.specs.Decoded.{Decodable}
+use Rattle.window.specs.declared.Entry.{Entry}
+use Rattle.window.specs.declared.Updated.{Updated}
+use Rattle.window.specs.declared.Choice.{Choice}
+use Rattle.window.specs.declared.Choice.the-variants.{Nothing, Takes}
+use Rattle.window.specs.declared.TakenEdge.{TakenEdge}
+use Rattle.window.specs.declared.NewValue.{NewValue}
+use Rattle.window.specs.declared.NewValue.the-variants.{Fits, Out}
+use Rattle.window.specs.declared.Opening.{Opening}
+use Rattle.window.specs.declared.Opening.the-variants.{Opens, Fails}
+
+-- an entry with four clocks and four variables, those that the component lacks among them
+abbrev pub entryOf : Entry → Rattle.model.specs.Window.Entry
+entryOf e = record { location = e .location; tick = e .tick; clocks = e .clocks; values = e .values }
+
+-- the edge that a choice has kept
+abbrev pub pickOf : Choice → Option Pick
+pickOf Nothing = none
+pickOf (Takes t) = some (record { edge = t .edge; ready = t .ready; end = t .end })
+
+-- the earlier of two, on a tie the first
+abbrev pub betterOf : Choice → TakenEdge → Choice
+betterOf Nothing t = Takes t
+betterOf (Takes q) t = cond (ltb (t .ready) (q .ready)) (Takes t) (Takes q)
+
+-- its place is that of its number, and its numbers are small
+abbrev pub Kept : (ℕ → ℕ) → Choice → Type 0
+Kept place Nothing = Unit {0}
+Kept place (Takes t) = (t .place ≡ place (t .edge)) × (t .ready ≤ 65535) × (t .end ≤ 65535)
+
+-- a new value of a variable, if it is one
+abbrev pub newOf : ℤ → NewValue
+newOf z = cond (inRange z) (Fits z) Out
+
+-- the variables after updates, or none
+abbrev pub updatedOf : Updated → Option (List ℤ)
+updatedOf u = cond (u .fits) (some (u .values)) none
+
+-- 255 is no message
+abbrev pub messageOf : ℕ → Option ℕ
+messageOf m = cond (eqb m 255) none (some m)
+
+-- what an opening gives
+abbrev pub openingOf : ℕ → Component → Rattle.model.specs.Window.Entry → Opening → Answer Visit
+openingOf c C at (Opens t) = accepted (visitOf c at (record { edge = t .edge; ready = t .ready; end = t .end }) (channelOf (arcOf C (t .edge))))
+openingOf c C at (Fails n) = refused n c
+
+-- An edge stands at the front, whole, and names clocks and variables that have a place.
+pub record ArcReady (h : List ℕ) : Type 0 where
+  pub decodable : Decodable h
+  pub clockGuards : All (λ g. g .clock < 4) (arcAt h .clockGuards)
+  pub dataGuards : All (λ g. g .variable < 4) (arcAt h .dataGuards)
+  pub updates : All (λ u. u .variable < 4) (arcAt h .updates)
+
+-- an opened passage's edge: its number, its place, small numbers
+abbrev pub Placed : List ℕ → ℕ → ℕ → Opening → Type 0
+Placed bs start c (Opens t) =
+    (t .edge < length (componentIn bs c .arcs)) × (t .place ≡ arcPlace bs start (t .edge)) × (t .ready ≤ 65535) × (t .end ≤ 65535)
+Placed bs start c (Fails n) = Unit {0}
