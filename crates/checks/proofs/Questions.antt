@@ -1,0 +1,185 @@
+-- The three questions, answered by what a sweep found; the tests of a pair of rows, the numbers first. Assumes nothing.
+use mathlib.Core.Path.{_≡_, refl, sym, ap, _∙_}
+use mathlib.Core.Bool.{Bool, true, false, cond, _&&_, _||_, not}
+use mathlib.Core.List.{List, [], _∷_, _++_}
+use mathlib.Core.Option.{Option}
+use Prim.Native.Nat.{ℕ, _≤_, _<_}
+use native.Mathlib.Omega.{arith}
+use borrow.Author.Tests.{lt-leb, not-true, not-false}
+use lib.Dec.{leb}
+use lib.ListN.{length}
+use Rattle.model.specs.Lists.{any, only}
+use Rattle.model.specs.Table.{Table}
+use Rattle.model.specs.Window.{channelOf}
+use Rattle.model.specs.Schedule.{Visit, visitArc, names, others}
+use Rattle.model.specs.Checks.{shareTick, isSend, isReceive, meets, collides, mayHear, heardWell, unheard, two, crowded}
+use Rattle.model.proofs.Members.{only-none, any-none}
+use Rattle.model.proofs.Heard.{two-is}
+use Rattle.rows.specs.Rows.{rowVisit}
+use Rattle.checks.proofs.Swept.{Near}
+
+-- ## Tests
+
+and-false : (a : Bool) → a && false ≡ false
+and-false true = refl
+and-false false = refl
+
+-- windows that share no tick
+apart-before : (v w : Visit) → w .end < v .ready → shareTick v w ≡ false
+apart-before v w h = rw (lt-leb (v .ready) (w .end) h)
+
+apart-after : (v w : Visit) → v .end < w .ready → shareTick v w ≡ false
+apart-after v w h = rw (lt-leb (w .ready) (v .end) h, and-false)
+
+-- of another component, with a tick shared: what `overlap` answers
+abbrev pub beside : Visit → Visit → Bool
+beside v w = others v w && shareTick v w
+
+-- the numbers first: b and d
+numbers-first : (a b c d : Bool) → a && b && c && d ≡ (b && d) && (a && c)
+numbers-first true true true d = sym (true-last d)
+  where
+    true-last : (t : Bool) → t && true ≡ t
+    true-last true = refl
+    true-last false = refl
+numbers-first true true false d = sym (and-false d)
+numbers-first true false c d = refl
+numbers-first false true c d = sym (and-false d)
+numbers-first false false c d = refl
+
+-- ## Who hears a send
+
+module _ (T : Table) where
+  -- who may hear s
+  abbrev pub hearing : Visit → Visit → Bool
+  hearing s r = mayHear T r s
+
+  pub hear-near : (l : List ℕ) (i : ℕ) → Near (hearing (rowVisit l i)) l i
+  hear-near l i =
+      record {
+        before = λ j h. rw (apart-after (rowVisit l j) (rowVisit l i) h, and-false);
+        after = λ j h. rw (apart-before (rowVisit l j) (rowVisit l i) h, and-false);
+      }
+
+  module _ (r s : Visit) where
+    hear-order : mayHear T r s ≡ beside r s && (isReceive T r && names (visitArc T r) (channelOf (visitArc T s)))
+    hear-order = numbers-first (isReceive T r) (others r s) (names (visitArc T r) (channelOf (visitArc T s))) (shareTick r s)
+
+    pub not-beside : (x : Bool) → x ≡ beside r s → not x ≡ true → false ≡ mayHear T r s
+    not-beside x e t = let f : beside r s ≡ false = sym e ∙ not-true x t in sym (hear-order ∙ rw f)
+
+    pub not-receive : (x : Bool) → x ≡ isReceive T r → not x ≡ true → false ≡ mayHear T r s
+    not-receive x e t = let f : isReceive T r ≡ false = sym e ∙ not-true x t in rw f
+
+    hears : (y : Bool) → beside r s ≡ true → isReceive T r ≡ true → y ≡ names (visitArc T r) (channelOf (visitArc T s)) → y ≡ mayHear T r s
+    hears y f g q = q ∙ sym (hear-order ∙ rw (f, g))
+
+    pub hear : (x w y : Bool) (m : Option ℕ) → x ≡ beside r s → not x ≡ false → w ≡ isReceive T r → not w ≡ false → m ≡ channelOf (visitArc T s)
+        → y ≡ names (visitArc T r) m → y ≡ mayHear T r s
+    hear x w y m e t f u k q = hears y (sym e ∙ not-false x t) (sym f ∙ not-false w u) (q ∙ ap (names (visitArc T r)) k)
+
+-- ## The questions
+
+module _ (T : Table) (H : ℕ) where
+  -- ## 10
+
+  pub meets-near : (l : List ℕ) (i : ℕ) → Near (meets T H (rowVisit l i)) l i
+  meets-near l i =
+      record {
+        before = λ j h. rw (apart-before (rowVisit l i) (rowVisit l j) h, and-false);
+        after = λ j h. rw (apart-after (rowVisit l i) (rowVisit l j) h, and-false);
+      }
+
+  module _ (s o : Visit) where
+    meets-order : meets T H s o ≡ beside o s && isSend T H o
+    meets-order = go (isSend T H o) (others o s) (leb (s .ready) (o .end)) (leb (o .ready) (s .end))
+      where
+        go : (a b c d : Bool) → a && b && true && (c && d) ≡ (b && (d && c)) && a
+        go true true true true = refl
+        go true true true false = refl
+        go true true false true = refl
+        go true true false false = refl
+        go true false c d = refl
+        go false true true true = refl
+        go false true true false = refl
+        go false true false true = refl
+        go false true false false = refl
+        go false false c d = refl
+
+    pub not-met : (x : Bool) → x ≡ beside o s → not x ≡ true → false ≡ meets T H s o
+    not-met x e t = let f : beside o s ≡ false = sym e ∙ not-true x t in sym (meets-order ∙ rw f)
+
+    pub met : (x y : Bool) → x ≡ beside o s → not x ≡ false → y ≡ isSend T H o → y ≡ meets T H s o
+    met x y e t q = let f : beside o s ≡ true = sym e ∙ not-false x t in q ∙ sym (meets-order ∙ rw f)
+
+  -- what is asked of sends only
+  pub not-asked : (s : Visit) (x b : Bool) → x ≡ isSend T H s → not x ≡ true → false ≡ isSend T H s && b
+  not-asked s x b e t = let f : isSend T H s ≡ false = sym e ∙ not-true x t in rw f
+
+  asked : (s : Visit) (x b y : Bool) → x ≡ isSend T H s → not x ≡ false → y ≡ b → y ≡ isSend T H s && b
+  asked s x b y e t q = let f : isSend T H s ≡ true = sym e ∙ not-false x t in rw f q
+
+  module _ (S : List Visit) (s : Visit) (x : Bool) (e : x ≡ isSend T H s) (t : not x ≡ false) where
+    pub collides-none : [] ≡ only (meets T H s) S → false ≡ collides T H S s
+    collides-none q = asked s x _ false e t (sym (any-none (meets T H s) S .1 (only-none (meets T H s) S .0 (sym q))))
+
+    pub collides-one : (v : Visit) (vs : List Visit) → v ∷ vs ≡ only (meets T H s) S → true ≡ collides T H S s
+    collides-one v vs q = asked s x _ true e t (sym (go S q))
+      where
+        p : Visit → Bool
+        p = meets T H s
+
+        go : (S : List Visit) → v ∷ vs ≡ only p S → any p S ≡ true
+        go [] k = let z : _≡_ {A = ℕ} 0 1 = cc in absurd (omega arith)
+        go (w ∷ S) k = each (go S) (p w) k
+          where
+            each : (v ∷ vs ≡ only p S → any p S ≡ true) → (t : Bool) → v ∷ vs ≡ cond t (w ∷ only p S) (only p S) → t || any p S ≡ true
+            each ih true f = refl
+            each ih false f = ih f
+
+    -- ## 11
+
+    pub heard-or-not : (y : Bool) → y ≡ heardWell s (only (hearing T s) S) → not y ≡ unheard T H S s
+    heard-or-not y q = asked s x _ (not y) e t (ap not q)
+
+  -- ## 12
+
+  module _ (r s : Visit) where
+    pub no-send-beside : (x : Bool) → x ≡ beside r s → not x ≡ true → false ≡ isSend T H s && mayHear T r s
+    no-send-beside x e t = rw (← not-beside T r s x e t) (sym (and-false (isSend T H s)))
+
+    pub hear-send : (x w y : Bool) (m : Option ℕ) → x ≡ beside r s → not x ≡ false → w ≡ isSend T H s → not w ≡ false → isReceive T r ≡ true
+        → m ≡ channelOf (visitArc T s) → y ≡ names (visitArc T r) m → y ≡ isSend T H s && mayHear T r s
+    hear-send x w y m e t f u g k q = asked s w _ y f u (hears T r s y (sym e ∙ not-false x t) g (q ∙ ap (names (visitArc T r)) k))
+
+  -- a send that r may hear
+  abbrev pub heardSend : Visit → Visit → Bool
+  heardSend r s = isSend T H s && mayHear T r s
+
+  pub heard-near : (l : List ℕ) (i : ℕ) → Near (heardSend (rowVisit l i)) l i
+  heard-near l i =
+      record {
+        before = λ j h. rw (apart-before (rowVisit l i) (rowVisit l j) h, and-false, and-false);
+        after = λ j h. rw (apart-after (rowVisit l i) (rowVisit l j) h, and-false, and-false);
+      }
+
+  module _ (S : List Visit) (r : Visit) (x : Bool) (e : x ≡ isReceive T r) where
+    pub not-crowded : not x ≡ true → false ≡ crowded T H S r
+    not-crowded t = let f : isReceive T r ≡ false = sym e ∙ not-true x t in rw f
+
+    pub is-receive : not x ≡ false → isReceive T r ≡ true
+    is-receive t = sym e ∙ not-false x t
+
+    crowded-by : not x ≡ false → (y : Bool) → y ≡ two (only (heardSend r) S) → y ≡ crowded T H S r
+    crowded-by t y q = q ∙ sym (ap (λ (b : Bool). b && two (only (heardSend r) S)) (is-receive t))
+
+    pub crowded-few : not x ≡ false → (found : List Visit) → length found ≤ 1 → found ≡ only (heardSend r) S → false ≡ crowded T H S r
+    crowded-few t found h q = crowded-by t false (sym (two-is (only (heardSend r) S) .1 (rw (← q) h)))
+
+    pub crowded-two : not x ≡ false → (found vs : List Visit) → 2 ≤ length found → found ++ vs ≡ only (heardSend r) S → true ≡ crowded T H S r
+    crowded-two t found vs h q = crowded-by t true (rw (← q) (many found h))
+      where
+        many : (found : List Visit) → 2 ≤ length found → true ≡ two (found ++ vs)
+        many [] k = absurd (omega arith)
+        many (v ∷ []) k = absurd (omega arith)
+        many (v ∷ w ∷ found) k = refl

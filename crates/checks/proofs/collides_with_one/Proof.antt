@@ -1,0 +1,111 @@
+-- `checks::collides_with_one` meets its contract. Assumes nothing.
+use mathlib.Core.List.{[]}
+use Prim.Native.Nat.{_+_, _-_, _≤_}
+use native.Mathlib.Omega.{arith}
+use Rattle.model.specs.Lists.{only}
+use Rattle.model.specs.Places.{readOf}
+use Rattle.model.specs.Checks.{meets}
+use Rattle.rows.specs.Rows.{rowVisit, rowsOf}
+use Rattle.rows.proofs.Placed.{row-known}
+use Rattle.checks.proofs.Questions.{meets-near, not-asked, collides-none, collides-one}
+use Rattle.checks.proofs.Swept.{rest, Swept, swept-from, swept-in, swept-out, swept-stop, swept-done}
+use Rattle.checks.proofs.collides_with_one.Statement.{statement}
+use Rattle.checks.proofs.collides_with_one.Tie as tie
+
+abbrev Inv-loop : tie.InvT-loop
+Inv-loop s l n i h until j₀ j = (j ≤ n) × Swept (meets (readOf s .table) h (rowVisit l i)) l n j []
+
+abbrev μ-loop : tie.MeasureT-loop
+μ-loop s l n i h until j₀ j = n - j
+
+is-send-requires : tie.Need-is-send-requires Inv-loop μ-loop
+is-send-requires c κs =
+    let e = c .before .before in
+    let a = e .args in
+    row-known (a .s .now) (a .l .now) (a .n) (a .i) (e .pre .0) (e .pre .1)
+
+returns : tie.Need-returns Inv-loop μ-loop
+returns c =
+    let a = c .before .before .before .before .args in
+    not-asked (readOf (a .s .now) .table) (a .h) (rowVisit (a .l .now) (a .i)) (c .before .is-send .result) _ (c .before .is-send .ensures) (c .if1 .taken)
+
+number-requires : tie.Need-number-requires Inv-loop μ-loop
+number-requires c κs = omega (arith, c .before .before .before .before .pre .0 .fits, c .before .before .before .before .pre .1)
+
+index-requires : tie.Need-index-requires Inv-loop μ-loop
+index-requires c κs = omega (arith, c .before .before .before .before .before .pre .0 .fits, c .before .before .before .before .before .pre .1)
+
+loop-holds : tie.Need-loop-holds Inv-loop μ-loop
+loop-holds c =
+    let e = c .before .before .before .before .before .before in
+    let a = e .args in
+    let p = meets (readOf (a .s .now) .table) (a .h) (rowVisit (a .l .now) (a .i)) in
+    (omega (arith, c .index .ensures, e .pre .0 .low (a .i) (e .pre .1), e .pre .1), swept-from p (a .s .now) (a .l .now) (a .n) (a .i) (e .pre .0) (e .pre .1) (meets-near (readOf (a .s .now) .table) (a .h) (a .l .now) (a .i)) (c .index .result) (c .index .ensures))
+
+number-requires-2 : tie.Need-number-requires-2 Inv-loop μ-loop
+number-requires-2 c κs = omega (arith, c .before .before .before .before .before .before .before .before .pre .0 .fits, c .before .before .before .before .before .before .before .before .pre .1)
+
+returns-2 : tie.Need-returns-2 Inv-loop μ-loop
+returns-2 c =
+    let e = c .before .before .before .before .before .before .before .before .before .before in
+    let a = e .args in
+    let l = c .before .before .before .loop in
+    let T = readOf (a .s .now) .table in
+    let v = rowVisit (a .l .now) (a .i) in
+    collides-none T (a .h) (rowsOf (a .l .now) (a .n)) v (c .before .before .before .before .before .before .before .is-send .result) (c .before .before .before .before .before .before .before .is-send .ensures) (c .before .before .before .before .before .before .if1 .left)
+    (swept-stop (meets T (a .h) v) (a .s .now) (a .l .now) (a .n) (a .i) (e .pre .0) (e .pre .1) (meets-near T (a .h) (a .l .now) (a .i)) (l .j) [] (c .before .before .loop-test .taken) (omega (arith, c .before .before .before .before .before .number .ensures, c .before .number2 .ensures)) (l .inv .1))
+
+is-met-requires : tie.Need-is-met-requires Inv-loop μ-loop
+is-met-requires c κs =
+    let e = c .before .before .before .before .before .before .before .before .before .before in
+    let a = e .args in
+    (row-known (a .s .now) (a .l .now) (a .n) (a .i) (e .pre .0) (e .pre .1), row-known (a .s .now) (a .l .now) (a .n) (c .before .before .before .loop .j) (e .pre .0) (c .before .before .loop-test .taken))
+
+returns-3 : tie.Need-returns-3 Inv-loop μ-loop
+returns-3 c =
+    let a = c .before .before .before .before .before .before .before .before .before .before .before .before .args in
+    let l = c .before .before .before .before .before .loop in
+    let T = readOf (a .s .now) .table in
+    let v = rowVisit (a .l .now) (a .i) in
+    collides-one T (a .h) (rowsOf (a .l .now) (a .n)) v (c .before .before .before .before .before .before .before .before .before .is-send .result) (c .before .before .before .before .before .before .before .before .before .is-send .ensures) (c .before .before .before .before .before .before .before .before .if1 .left) (rowVisit (a .l .now) (l .j)) (only (meets T (a .h) v) (rest (a .l .now) (a .n) (l .j + 1)))
+    (swept-in (meets T (a .h) v) (a .l .now) (a .n) (l .j) [] (c .before .is-met .result) (c .before .before .before .before .loop-test .taken) (c .before .is-met .ensures) (c .if3 .taken) (l .inv .1))
+
+add-j : tie.Need-add-j Inv-loop μ-loop
+add-j c = omega (arith, c .before .before .before .before .before .before .before .before .before .before .before .before .pre .0 .few, c .before .before .before .before .before .before .before .before .before .before .before .before .pre .1)
+
+loop-less : tie.Need-loop-less Inv-loop μ-loop
+loop-less c = omega (arith, c .before .before .before .before .before .before .before .before .before .before .before .before .pre .1)
+
+loop-again : tie.Need-loop-again Inv-loop μ-loop
+loop-again c =
+    let a = c .before .before .before .before .before .before .before .before .before .before .before .before .args in
+    let l = c .before .before .before .before .before .loop in
+    (omega (arith, c .before .before .before .before .before .before .before .before .before .before .before .before .pre .1), swept-out (meets (readOf (a .s .now) .table) (a .h) (rowVisit (a .l .now) (a .i))) (a .l .now) (a .n) (l .j) [] (c .before .is-met .result) (c .before .before .before .before .loop-test .taken) (c .before .is-met .ensures) (c .if3 .left) (l .inv .1))
+
+returns-4 : tie.Need-returns-4 Inv-loop μ-loop
+returns-4 c =
+    let a = c .before .before .before .before .before .before .before .before .args in
+    let l = c .before .loop in
+    let T = readOf (a .s .now) .table in
+    let v = rowVisit (a .l .now) (a .i) in
+    collides-none T (a .h) (rowsOf (a .l .now) (a .n)) v (c .before .before .before .before .before .is-send .result) (c .before .before .before .before .before .is-send .ensures) (c .before .before .before .before .if1 .left) (swept-done (meets T (a .h) v) (a .l .now) (a .n) (l .j) [] (omega arith) (l .inv .1))
+
+pub collides-with-one-spec : {M : Type 1} → statement M
+collides-with-one-spec =
+    tie.close
+    (tie.spec
+    Inv-loop
+    μ-loop
+    is-send-requires
+    returns
+    number-requires
+    index-requires
+    loop-holds
+    number-requires-2
+    returns-2
+    is-met-requires
+    returns-3
+    add-j
+    loop-less
+    loop-again
+    returns-4)

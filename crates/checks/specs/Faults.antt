@@ -1,0 +1,34 @@
+-- The first row at fault, and the checks that are left.
+use mathlib.Core.List.{List}
+use mathlib.Core.Option.{Option, none, some}
+use Prim.Native.Nat.{ℕ, _+_, _*_, _≤_, _<_}
+use lib.ListN.{length}
+use Rattle.model.specs.Lists.{first, Answer, accepted}
+use Rattle.model.specs.Table.{Table}
+use Rattle.model.specs.Schedule.{Visit}
+use Rattle.model.specs.Checks.{unheard, crowded, faultOf}
+use Rattle.rows.specs.Rows.{num, rowVisit}
+use Rattle.checks.specs.declared.Fault.{Fault}
+use Rattle.checks.specs.declared.Fault.the-variants.{Nothing, At}
+
+-- as the passage that it is
+abbrev pub faultView : List ℕ → Fault → Option Visit
+faultView l Nothing = none
+faultView l (At i) = some (rowVisit l i)
+
+-- it is one of n rows
+abbrev pub FaultBelow : ℕ → Fault → Type 0
+FaultBelow n Nothing = Unit {0}
+FaultBelow n (At i) = i < n
+
+-- row i is one of the list, and its component's number is below the most that there are
+pub record RowStands (l : List ℕ) (i : ℕ) : Type 0 where
+  pub fits : i * 9 + 9 ≤ length l
+  pub small : num l i 0 < 8
+
+-- `checked` from question 12 on, and from question 11 on
+abbrev pub from12 : Table → ℕ → List Visit → Answer (List Visit)
+from12 T H S = faultOf 12 (first (crowded T H S) S) (accepted S)
+
+abbrev pub from11 : Table → ℕ → List Visit → Answer (List Visit)
+from11 T H S = faultOf 11 (first (unheard T H S) S) (from12 T H S)

@@ -1,0 +1,291 @@
+// Checks 10 to 12 of document 01, over the rows of a finished schedule.
+ghost use mathlib.Core.Path.{_≡_};
+ghost use mathlib.Core.Bool.{true, _&&_, not};
+ghost use Prim.Native.Nat.{_+_, _*_, _^_, _≤_, _<_};
+ghost use lib.Bits.{bitOr};
+ghost use lib.ListN.{length};
+ghost use Rattle.model.specs.declared.Verdict.the-variants.{Refused};
+ghost use Rattle.model.specs.Lists.{first, only, isNone};
+ghost use Rattle.model.specs.Window.{channelOf};
+ghost use Rattle.model.specs.Places.{readOf};
+ghost use Rattle.model.specs.Schedule.{visitArc, others};
+ghost use Rattle.model.specs.Checks.{shareTick, startsEarlier, endsLater, isSend, isReceive, meets, collides, unheard, crowded, heardWell, mayHear, checked};
+ghost use Rattle.model.specs.Calls.{verdictOf};
+ghost use Rattle.rows.specs.Rows.{num, messageOf, rowVisit, rowsOf, RowKnown, RowsPlaced};
+ghost use Rattle.checks.specs.Faults.{faultView, FaultBelow, RowStands, from12, from11};
+use model::Verdict;
+
+// The first row at fault.
+pub enum Fault {
+    Nothing,
+    At(usize),
+}
+
+// Whether row i's edge sends.
+fn row_sends(s: &[u8], l: &[u32], i: usize) -> bool
+    requires { ⌜ RowKnown (now s) (now l) i ⌝ }
+    ensures { λ r. ⌜ r ≡ not (isNone (channelOf (visitArc (readOf (now (s .entry)) .table) (rowVisit (now (l .entry)) i)))) ⌝ }
+{
+    let at = rows::index(l, i, 7);
+    s[at] == 1
+}
+
+// Whether row i is a send that is ready before the tick h.
+fn is_send(s: &[u8], l: &[u32], i: usize, h: u32) -> bool
+    requires { ⌜ RowKnown (now s) (now l) i ⌝ }
+    ensures { λ r. ⌜ r ≡ isSend (readOf (now (s .entry)) .table) h (rowVisit (now (l .entry)) i) ⌝ }
+{
+    if h <= rows::number(l, i, 4) {
+        return false;
+    }
+    row_sends(s, l, i)
+}
+
+// Whether rows i and j are of different components and share a tick.
+fn overlap(l: &[u32], i: usize, j: usize) -> bool
+    requires { ⌜ (i * 9 + 9 ≤ length (now l)) × (j * 9 + 9 ≤ length (now l)) ⌝ }
+    ensures { λ r. ⌜ r ≡ others (rowVisit (now (l .entry)) i) (rowVisit (now (l .entry)) j) && shareTick (rowVisit (now (l .entry)) i) (rowVisit (now (l .entry)) j) ⌝ }
+{
+    let started = rows::number(l, i, 4) <= rows::number(l, j, 5);
+    let shared = parts::both(started, rows::number(l, j, 4) <= rows::number(l, i, 5));
+    parts::both(rows::number(l, i, 0) != rows::number(l, j, 0), shared)
+}
+
+// Whether row j is a send of another component that shares a tick with row i, a send.
+fn is_met(s: &[u8], l: &[u32], i: usize, j: usize, h: u32) -> bool
+    requires { ⌜ RowKnown (now s) (now l) i × RowKnown (now s) (now l) j ⌝ }
+    ensures { λ r. ⌜ r ≡ meets (readOf (now (s .entry)) .table) h (rowVisit (now (l .entry)) i) (rowVisit (now (l .entry)) j) ⌝ }
+{
+    if !overlap(l, j, i) {
+        return false;
+    }
+    is_send(s, l, j, h)
+}
+
+// Whether the send window of row i shares a tick with one of another component.
+pub fn collides_with_one(s: &[u8], l: &[u32], n: usize, i: usize, h: u32) -> bool
+    requires { ⌜ RowsPlaced (now s) (now l) n × (i < n) ⌝ }
+    ensures { λ r. ⌜ r ≡ collides (readOf (now (s .entry)) .table) h (rowsOf (now (l .entry)) n) (rowVisit (now (l .entry)) i) ⌝ }
+{
+    if !is_send(s, l, i, h) {
+        return false;
+    }
+    let until = rows::number(l, i, 5);
+    let mut j = rows::index(l, i, 8);
+    while j < n {
+        if until < rows::number(l, j, 3) {
+            return false;
+        }
+        if is_met(s, l, i, j, h) {
+            return true;
+        }
+        j += 1;
+    }
+    false
+}
+
+// Whether row j hears the send window of row i, which is on that channel (255: none).
+fn may_hear(s: &[u8], l: &[u32], j: usize, i: usize, channel: u8) -> bool
+    requires { ⌜ RowKnown (now s) (now l) j × RowKnown (now s) (now l) i × (messageOf channel ≡ channelOf (visitArc (readOf (now s) .table) (rowVisit (now l) i))) ⌝ }
+    ensures { λ r. ⌜ r ≡ mayHear (readOf (now (s .entry)) .table) (rowVisit (now (l .entry)) j) (rowVisit (now (l .entry)) i) ⌝ }
+{
+    if !overlap(l, j, i) {
+        return false;
+    }
+    if !rows::row_receives(s, l, j) {
+        return false;
+    }
+    rows::row_lists(s, l, j, channel)
+}
+
+// The mask with bit c set.
+fn with_bit(mask: u8, c: usize) -> u8
+    requires { ⌜ c < 8 ⌝ }
+    ensures { λ r. ⌜ r ≡ bitOr mask (2 ^ c) ⌝ }
+{
+    mask | (1 << c)
+}
+
+// Whether row k starts earlier and ends later than row i.
+fn surrounds(l: &[u32], k: usize, i: usize) -> bool
+    requires { ⌜ (k * 9 + 9 ≤ length (now l)) × (i * 9 + 9 ≤ length (now l)) ⌝ }
+    ensures { λ r. ⌜ r ≡ startsEarlier (rowVisit (now (l .entry)) k) (rowVisit (now (l .entry)) i) && endsLater (rowVisit (now (l .entry)) k) (rowVisit (now (l .entry)) i) ⌝ }
+{
+    let earlier = rows::number(l, k, 4) < rows::number(l, i, 4);
+    parts::both(earlier, rows::number(l, i, 5) < rows::number(l, k, 5))
+}
+
+// Whether exactly one receive window of another component that names the channel shares a tick with the send window of row i, and starts
+// earlier and ends later. The components listening are noted as eight bits: the count of ones decides, the trailing zeros give the number.
+// Two windows of one component are one bit and still a fault, so the windows are counted too.
+pub fn is_heard_well(s: &[u8], l: &[u32], n: usize, i: usize) -> bool
+    requires { ⌜ RowsPlaced (now s) (now l) n × (i < n) ⌝ }
+    ensures { λ r. ⌜ r ≡ heardWell (rowVisit (now (l .entry)) i) (only (λ r. mayHear (readOf (now (s .entry)) .table) r (rowVisit (now (l .entry)) i)) (rowsOf (now (l .entry)) n)) ⌝ }
+{
+    let channel = rows::row_sent(s, l, i);
+    let until = rows::number(l, i, 5);
+    let mut mask: u8 = 0;
+    let mut windows: usize = 0;
+    let mut row: [usize; 8] = [0; 8];
+    let mut j = rows::index(l, i, 8);
+    while j < n {
+        if until < rows::number(l, j, 3) {
+            break;
+        }
+        if may_hear(s, l, j, i, channel) {
+            let c = rows::index(l, j, 0);
+            mask = with_bit(mask, c);
+            row[c] = j;
+            windows += 1;
+        }
+        j += 1;
+    }
+    if windows != 1 {
+        return false;
+    }
+    if u8::count_ones(mask) != 1 {
+        return false;
+    }
+    let only = u8::trailing_zeros(mask) as usize;
+    surrounds(l, row[only], i)
+}
+
+// Whether row i is a send that is not heard well.
+pub fn is_unheard(s: &[u8], l: &[u32], n: usize, i: usize, h: u32) -> bool
+    requires { ⌜ RowsPlaced (now s) (now l) n × (i < n) ⌝ }
+    ensures { λ r. ⌜ r ≡ unheard (readOf (now (s .entry)) .table) h (rowsOf (now (l .entry)) n) (rowVisit (now (l .entry)) i) ⌝ }
+{
+    if !is_send(s, l, i, h) {
+        return false;
+    }
+    !is_heard_well(s, l, n, i)
+}
+
+// Whether row j is a send that row i, a receive, may hear.
+fn hears_send(s: &[u8], l: &[u32], i: usize, j: usize, h: u32) -> bool
+    requires { ⌜ RowKnown (now s) (now l) i × RowKnown (now s) (now l) j × (isReceive (readOf (now s) .table) (rowVisit (now l) i) ≡ true) ⌝ }
+    ensures { λ r. ⌜ r ≡ isSend (readOf (now (s .entry)) .table) h (rowVisit (now (l .entry)) j) && mayHear (readOf (now (s .entry)) .table) (rowVisit (now (l .entry)) i) (rowVisit (now (l .entry)) j) ⌝ }
+{
+    if !overlap(l, i, j) {
+        return false;
+    }
+    if !is_send(s, l, j, h) {
+        return false;
+    }
+    rows::row_lists(s, l, i, rows::row_sent(s, l, j))
+}
+
+// Whether the receive window of row i shares a tick with two send windows of other components on its channels.
+pub fn is_crowded(s: &[u8], l: &[u32], n: usize, i: usize, h: u32) -> bool
+    requires { ⌜ RowsPlaced (now s) (now l) n × (i < n) ⌝ }
+    ensures { λ r. ⌜ r ≡ crowded (readOf (now (s .entry)) .table) h (rowsOf (now (l .entry)) n) (rowVisit (now (l .entry)) i) ⌝ }
+{
+    if !rows::row_receives(s, l, i) {
+        return false;
+    }
+    let until = rows::number(l, i, 5);
+    let mut sends: usize = 0;
+    let mut j = rows::index(l, i, 8);
+    while j < n {
+        if until < rows::number(l, j, 3) {
+            return false;
+        }
+        if hears_send(s, l, i, j, h) {
+            sends += 1;
+            if 2 <= sends {
+                return true;
+            }
+        }
+        j += 1;
+    }
+    false
+}
+
+// 10: the first send that collides with another.
+pub fn first_collision(s: &[u8], l: &[u32], n: usize, h: u32) -> Fault
+    requires { ⌜ RowsPlaced (now s) (now l) n ⌝ }
+    ensures { λ r. ⌜ (faultView (now (l .entry)) r ≡ first (collides (readOf (now (s .entry)) .table) h (rowsOf (now (l .entry)) n)) (rowsOf (now (l .entry)) n)) × FaultBelow n r ⌝ }
+{
+    let mut i: usize = 0;
+    while i < n {
+        if collides_with_one(s, l, n, i, h) {
+            return Fault::At(i);
+        }
+        i += 1;
+    }
+    Fault::Nothing
+}
+
+// 11: the first send that is not heard well.
+pub fn first_unheard(s: &[u8], l: &[u32], n: usize, h: u32) -> Fault
+    requires { ⌜ RowsPlaced (now s) (now l) n ⌝ }
+    ensures { λ r. ⌜ (faultView (now (l .entry)) r ≡ first (unheard (readOf (now (s .entry)) .table) h (rowsOf (now (l .entry)) n)) (rowsOf (now (l .entry)) n)) × FaultBelow n r ⌝ }
+{
+    let mut i: usize = 0;
+    while i < n {
+        if is_unheard(s, l, n, i, h) {
+            return Fault::At(i);
+        }
+        i += 1;
+    }
+    Fault::Nothing
+}
+
+// 12: the first receive that hears two sends.
+pub fn first_crowded(s: &[u8], l: &[u32], n: usize, h: u32) -> Fault
+    requires { ⌜ RowsPlaced (now s) (now l) n ⌝ }
+    ensures { λ r. ⌜ (faultView (now (l .entry)) r ≡ first (crowded (readOf (now (s .entry)) .table) h (rowsOf (now (l .entry)) n)) (rowsOf (now (l .entry)) n)) × FaultBelow n r ⌝ }
+{
+    let mut i: usize = 0;
+    while i < n {
+        if is_crowded(s, l, n, i, h) {
+            return Fault::At(i);
+        }
+        i += 1;
+    }
+    Fault::Nothing
+}
+
+// The refusal with that number, of the component of row i.
+fn refused(l: &[u32], number: u8, i: usize) -> Verdict
+    requires { ⌜ RowStands (now l) i ⌝ }
+    ensures { λ r. ⌜ r ≡ Refused number (num (now (l .entry)) i 0) ⌝ }
+{
+    Verdict::Refused(number, rows::number(l, i, 0) as u8)
+}
+
+// Check 12.
+fn check_crowded(s: &[u8], l: &[u32], n: usize, h: u32) -> Verdict
+    requires { ⌜ RowsPlaced (now s) (now l) n ⌝ }
+    ensures { λ r. ⌜ r ≡ verdictOf (from12 (readOf (now (s .entry)) .table) h (rowsOf (now (l .entry)) n)) ⌝ }
+{
+    let fault = first_crowded(s, l, n, h);
+    match fault {
+        Fault::Nothing => Verdict::Accepted,
+        Fault::At(i) => refused(l, 12, i),
+    }
+}
+
+// Checks 11 and 12.
+fn check_heard(s: &[u8], l: &[u32], n: usize, h: u32) -> Verdict
+    requires { ⌜ RowsPlaced (now s) (now l) n ⌝ }
+    ensures { λ r. ⌜ r ≡ verdictOf (from11 (readOf (now (s .entry)) .table) h (rowsOf (now (l .entry)) n)) ⌝ }
+{
+    let fault = first_unheard(s, l, n, h);
+    match fault {
+        Fault::Nothing => check_crowded(s, l, n, h),
+        Fault::At(i) => refused(l, 11, i),
+    }
+}
+
+// Checks 10, 11, 12, each over the whole schedule before the next.
+pub fn check_messages(s: &[u8], l: &[u32], n: usize, h: u32) -> Verdict
+    requires { ⌜ RowsPlaced (now s) (now l) n ⌝ }
+    ensures { λ r. ⌜ r ≡ verdictOf (checked (readOf (now (s .entry)) .table) h (rowsOf (now (l .entry)) n)) ⌝ }
+{
+    let fault = first_collision(s, l, n, h);
+    match fault {
+        Fault::Nothing => check_heard(s, l, n, h),
+        Fault::At(i) => refused(l, 10, i),
+    }
+}
