@@ -1,0 +1,164 @@
+-- Due and not allowed by the run is due and not due by the schedule; so why a choice is not allowed. Assumes nothing.
+use mathlib.Core.Path.{_≡_, refl, sym, ap, _∙_}
+use mathlib.Core.Bool.{Bool, true, false, cond}
+use mathlib.Core.List.{List, [], _∷_}
+use mathlib.Core.Option.{none, some}
+use Prim.Native.Nat.{ℕ, suc, _+_, _≤_, _<_}
+use native.Mathlib.Omega.{arith}
+use borrow.Author.Tests.{eqb-true, eqb-false, ltb-true, ltb-false}
+use lib.Dec.{ltb, eqb}
+use lib.ListN.{length}
+use Rattle.model.specs.declared.Action.the-variants.{Send}
+use Rattle.model.specs.Table.{Component, Read, size, componentOf, arcOf}
+use Rattle.model.specs.Window.{Entry, Pick, listens}
+use Rattle.model.specs.Schedule.{Visit, own}
+use Rattle.model.specs.Machine.{Node}
+use Rattle.model.specs.Run.{settingOf, Run, nodeOf, Stand, sleeping, sending, listening, finishing, adding, working, taking, elsewhere, nowhere, standOf, listeners, forbidden, on, over, ticked, finishes, due, someDue, lateNodes, afterTick, choose1}
+use Rattle.model.specs.Demand3.{DueIn, NotDueIn}
+use Rattle.model.proofs.Bools.{clash}
+use Rattle.model.proofs.NodeChoosing.{Asleep, asleep-sleeping}
+use Rattle.model.proofs.NodeWorking.{Working}
+use Rattle.model.proofs.NodePhase.{Heading, Phase, isHeading, isAsleep, isWorking, actionOf}
+use Rattle.model.proofs.NodeFacts.{isWork, isWay, heading-stand, working-stand, working-end}
+use Rattle.model.proofs.NodeListening.{heading-due, asleep-due, working-due}
+use Rattle.model.proofs.NodeSchedule.{asleep-due-in, asleep-not-due-in, asleep-beyond-in, listening-due-in, listening-not-due-in, taking-not-due-in}
+use Rattle.model.proofs.NodeRefused.{NotAllowed, earlySleep, earlyListen, nothingKept, unheard, not-allowed}
+use Rattle.model.proofs.WholeTied.{Given, Held, coming, waiting, busy, leaving, resting, Tie, shownBy, coded, component-in, opened-first}
+use Rattle.model.proofs.WholeNode.{nth-ahead, none-ahead}
+use Rattle.model.proofs.WholeTick.{Live, due-some}
+use Rattle.model.proofs.WholeListener.{receives-only, listeners-are}
+
+-- no stand is both on the way and at work
+way-no-work : (x : Stand) → isWay x ≡ true → isWork x ≡ true → ⊥
+way-no-work sleeping w v = clash w
+way-no-work (sending k) w v = clash w
+way-no-work (listening qs) w v = clash w
+way-no-work finishing w v = clash w
+way-no-work (adding x z) w v = clash w
+way-no-work working w v = clash w
+way-no-work taking w v = clash v
+way-no-work elsewhere w v = clash v
+way-no-work nowhere w v = clash w
+
+-- a node on the way is not at work
+heading-idle : {C : Component} {i : ℕ} {at at′ : Entry} {j : Pick} {r : Node} → Heading C i at r → Working C i at′ j r → ⊥
+heading-idle {r = r} p w = way-no-work (standOf r) (heading-stand p) (working-stand w)
+
+-- nor is one asleep
+asleep-idle : {C : Component} {i : ℕ} {at at′ : Entry} {j k : Pick} {r : Node} → Asleep C i at k r → Working C i at′ j r → ⊥
+asleep-idle p w = clash (sym (ap isWork (asleep-sleeping p)) ∙ working-stand w)
+
+module _ {t : Read} {S : List Visit} (G : Given t S) {s : Run} (k : Live G s) where
+  module _ (c : ℕ) (h : c < size (t .table)) where
+    -- its component
+    abbrev C : Component
+    C = componentOf (t .table) c
+
+    -- its node
+    abbrev r : Node
+    r = nodeOf s c
+
+    -- its tie
+    abbrev K : Tie (t .table) (t .horizon) S c (s .tick) r (shownBy c (s .observations)) (k .tied .ahead c)
+    K = k .tied .ties c h
+
+    -- due by the run is due by the schedule
+    due-in : due (settingOf t S) (s .tick) r (standOf r) ≡ true → DueIn (own c S) (s .tick) r (standOf r)
+    due-in d = go (K .held)
+      where
+        listen : (v : Visit) (vs : List Visit) → k .tied .ahead c ≡ v ∷ vs → (j : Pick) → Working C (K .count) (v .entry) j r → (x : Bool) → listens (arcOf C (j .edge)) ≡ x
+            → cond x (eqb (s .tick) (v .entry .tick + j .end)) false ≡ true → DueIn (own c S) (s .tick) r (standOf r)
+        listen v vs e j p true l f =
+            listening-due-in (own c S) (s .tick) (opened-first G (k .tied .going) c h v vs e .1) (nth-ahead G (k .tied .going) c h K v vs e) p
+            (receives-only (actionOf C j) l)
+            (ap (eqb (s .tick)) (working-end p) ∙ f)
+        listen v vs e j p false l f = clash f
+
+        go : Held (t .horizon) C (s .tick) (K .count) r (k .tied .ahead c) (K .more) → DueIn (own c S) (s .tick) r (standOf r)
+        go (coming v vs e m l p) = clash (sym (heading-due (settingOf t S) (s .tick) p) ∙ d)
+        go (waiting v vs e m l j p) =
+            asleep-due-in (own c S) (s .tick) (opened-first G (k .tied .going) c h v vs e .1) (nth-ahead G (k .tied .going) c h K v vs e) p
+            (ap (eqb (s .tick)) (p .t) ∙ (sym (asleep-due (settingOf t S) (s .tick) p) ∙ d))
+        go (busy v vs e m l b j p) = listen v vs e j p (listens (arcOf C (j .edge))) refl (sym (working-due (settingOf t S) (s .tick) p) ∙ d)
+        go (leaving at e m l p) = clash (sym (heading-due (settingOf t S) (s .tick) p) ∙ d)
+        go (resting at e m l j p) =
+            absurd (omega (arith, k .below, eqb-true (s .tick) (at .tick + j .ready) (sym (asleep-due (settingOf t S) (s .tick) p) ∙ d)))
+
+    -- not allowed by the run is not due by the schedule
+    not-due-in : finishes (settingOf t S) s c (standOf r) ≡ forbidden → NotDueIn (own c S) (s .tick) r (standOf r)
+    not-due-in f = go (K .held)
+      where
+        why : (at : Entry) → Phase C (K .count) at r → NotAllowed C (K .count) at s c
+        why at p = not-allowed (settingOf t S) s c (coded G c h) (component-in G c h) p f
+
+        -- in a passage
+        within : (v : Visit) (vs : List Visit) → k .tied .ahead c ≡ v ∷ vs
+            → ((j : Pick) (a : ℕ) → Working C (K .count) (v .entry) j r → actionOf C j ≡ Send a → listeners s c a ≡ [] → ⊥)
+            → NotAllowed C (K .count) (v .entry) s c → NotDueIn (own c S) (s .tick) r (standOf r)
+        within v vs e heard (earlySleep j p x) =
+            asleep-not-due-in (own c S) (s .tick) (opened-first G (k .tied .going) c h v vs e .1) (nth-ahead G (k .tied .going) c h K v vs e) p x
+        within v vs e heard (earlyListen j p act x) =
+            listening-not-due-in (own c S) (s .tick) (opened-first G (k .tied .going) c h v vs e .1) (nth-ahead G (k .tied .going) c h K v vs e) p act x
+        within v vs e heard (nothingKept p x n) =
+            let o = opened-first G (k .tied .going) c h v vs e in
+            let z : none ≡ some (o .0) = sym n ∙ o .1 .chosen in
+            let z : _≡_ {A = ℕ} 0 1 = cc in
+            absurd (omega arith)
+        within v vs e heard (unheard j a p act l) = absurd (heard j a p act l)
+
+        -- beyond the last one
+        beyond : (at : Entry) → k .tied .ahead c ≡ [] → ((j : Pick) → Working C (K .count) at j r → ⊥) → NotAllowed C (K .count) at s c → NotDueIn (own c S) (s .tick) r (standOf r)
+        beyond at e idle (earlySleep j p x) = asleep-beyond-in (own c S) (s .tick) (none-ahead G (k .tied .going) c h K e) p
+        beyond at e idle (earlyListen j p act x) = absurd (idle j p)
+        beyond at e idle (nothingKept p x n) = taking-not-due-in (own c S) (s .tick) (none-ahead G (k .tied .going) c h K e) p x
+        beyond at e idle (unheard j a p act l) = absurd (idle j p)
+
+        listener : (v : Visit) (vs : List Visit) → k .tied .ahead c ≡ v ∷ vs → v .ready ≤ s .tick → (j : Pick) (a : ℕ) → Working C (K .count) (v .entry) j r → actionOf C j ≡ Send a
+            → listeners s c a ≡ [] → ⊥
+        listener v vs e l j a p act n =
+            let z : [] ≡ _ ∷ [] = sym n ∙ listeners-are G k c h v vs e l p a act in
+            let z : _≡_ {A = ℕ} 0 1 = cc in
+            omega arith
+
+        go : Held (t .horizon) C (s .tick) (K .count) r (k .tied .ahead c) (K .more) → NotDueIn (own c S) (s .tick) r (standOf r)
+        go (coming v vs e m l p) = within v vs e (λ j a w act n. heading-idle p w) (why (v .entry) (isHeading p))
+        go (waiting v vs e m l j p) = within v vs e (λ i a w act n. asleep-idle p w) (why (v .entry) (isAsleep j p))
+        go (busy v vs e m l b j p) = within v vs e (listener v vs e l) (why (v .entry) (isWorking j p))
+        go (leaving at e m l p) = beyond at e (λ j w. heading-idle p w) (why at (isHeading p))
+        go (resting at e m l j p) = beyond at e (λ i w. asleep-idle p w) (why at (isAsleep j p))
+
+  -- why choice b is not allowed
+  pub data WhyNot (b : ℕ) : Type 0 where
+    noNode : size (t .table) ≤ b → (b ≡ 255 → ⊥) → WhyNot b
+    notDue : b < size (t .table) → NotDueIn (own b S) (s .tick) (nodeOf s b) (standOf (nodeOf s b)) → WhyNot b
+    tickDue : b ≡ 255 → (c : ℕ) → c < size (t .table) → DueIn (own c S) (s .tick) (nodeOf s c) (standOf (nodeOf s c)) → WhyNot b
+
+  -- a tick is not allowed only where somebody is due
+  tick-due : (x : Bool) (l : List ℕ) → cond x forbidden (afterTick (settingOf t S) (ticked s) l) ≡ forbidden → x ≡ true
+  tick-due true l e = refl
+  tick-due false (d ∷ ds) e = let z : _≡_ {A = ℕ} 0 1 = cc in absurd (omega arith)
+  tick-due false [] e = go (eqb (suc (s .tick)) (t .horizon)) e
+    where
+      go : (x : Bool) → cond x (over (ticked s) 0 255) (on (ticked s)) ≡ forbidden → false ≡ true
+      go true f = let z : _≡_ {A = ℕ} 0 1 = cc in absurd (omega arith)
+      go false f = let z : _≡_ {A = ℕ} 0 1 = cc in absurd (omega arith)
+
+  -- the law
+  pub why-not : (b : ℕ) → choose1 (settingOf t S) s b ≡ forbidden → WhyNot b
+  unfolding choose1
+  why-not b e = go (eqb b 255) refl (ltb b (length (s .nodes))) refl e
+    where
+      l : List ℕ
+      l = lateNodes (settingOf t S) (suc (s .tick)) 0 (s .nodes)
+
+      x : Bool
+      x = someDue (settingOf t S) (s .tick) 0 (s .nodes)
+
+      go : (y : Bool) → eqb b 255 ≡ y → (z : Bool) → ltb b (length (s .nodes)) ≡ z
+          → cond y (cond x forbidden (afterTick (settingOf t S) (ticked s) l)) (cond z (finishes (settingOf t S) s b (standOf (nodeOf s b))) forbidden) ≡ forbidden → WhyNot b
+      go true p z q f =
+          let d = due-some (settingOf t S) (s .tick) 0 (s .nodes) (tick-due x l f) in
+          let i : d .0 < size (t .table) = omega (arith, d .1, k .tied .full) in
+          tickDue (eqb-true b 255 p) (d .0) i (due-in (d .0) i (d .2))
+      go false p true q f = let i : b < size (t .table) = omega (arith, ltb-true b (length (s .nodes)) q, k .tied .full) in notDue i (not-due-in b i f)
+      go false p false q f = noNode (omega (arith, ltb-false b (length (s .nodes)) q, k .tied .full)) (eqb-false b 255 p)

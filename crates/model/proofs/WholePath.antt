@@ -1,0 +1,129 @@
+-- What the path shows of a state that is the schedule's, of the end of a run, and the listener of each sender. Assumes nothing.
+use mathlib.Core.Path.{_≡_, refl, sym, ap, subst, _∙_}
+use mathlib.Core.Bool.{Bool, false, cond, _&&_}
+use mathlib.Core.List.{List, [], _∷_, map}
+use mathlib.Core.Option.{some}
+use Prim.Native.Nat.{ℕ, pred, _+_, _≤_, _<_}
+use lib.Dec.{eqb}
+use lib.ListN.{length}
+use Rattle.model.specs.Table.{Read, size, componentOf}
+use Rattle.model.specs.Schedule.{Visit, own}
+use Rattle.model.specs.Checks.{limit}
+use Rattle.model.specs.Program.{programBytes}
+use Rattle.model.specs.Network.{State, Label, start, follow, passagesOn, worksOn, observationsOn}
+use Rattle.model.specs.Machine.{partBytes}
+use Rattle.model.specs.Run.{Run, Result, ends, ticked, nodeOf, Stand, sleeping, sending, listening, finishing, adding, working, taking, elsewhere, nowhere, standOf, listeners}
+use Rattle.model.specs.Demand3.{PassAs, SteppedBefore, Begins, observationsOf, worksOf, isLateEnd, reached, isLate, HasListener}
+use Rattle.model.proofs.Bools.{clash}
+use Rattle.model.proofs.NodeChoosing.{asleep-sleeping}
+use Rattle.model.proofs.NodePhase.{isWorking, AtSend, AtStand, phase-at}
+use Rattle.model.proofs.NodeFacts.{isWork, isWay, heading-stand}
+use Rattle.model.proofs.NetWitness.{Witness}
+use Rattle.model.proofs.NetGoing.{going-witness}
+use Rattle.model.proofs.WholeTied.{Given, Held, coming, waiting, busy, leaving, resting, Tied, coded, component-in}
+use Rattle.model.proofs.WholeNode.{on-time}
+use Rattle.model.proofs.WholeTick.{Live, TooLate}
+use Rattle.model.proofs.WholeListener.{other, listeners-are, began-earlier}
+use Rattle.model.proofs.WholeCount.{readied, none-missing, none-missing-then, shows}
+
+-- ## The path
+
+-- one path of the network, for all nodes together, that shows what the run did: the first nine fields of demand 3
+pub record PathOf (t : Read) (S : List Visit) (r : Result) : Type 0 where
+  pub path : List Label
+  pub last : State
+  pub valid : follow (t .table) (start (t .table)) path ≡ some last
+  pub reach : last .tick ≡ reached r
+  pub scheduled : (c : ℕ) → c < size (t .table) → PassAs (passagesOn (t .table) c (start (t .table)) path) (own c S)
+  pub kept : (c : ℕ) → c < size (t .table) → SteppedBefore (last .tick) (passagesOn (t .table) c (start (t .table)) path) (own c S)
+  pub worked : (c : ℕ) → c < size (t .table) → worksOf c (worksOn (t .table) (start (t .table)) path) ≡ worksOf c (r .state .works)
+  pub observed : (c : ℕ) → c < size (t .table)
+      → Begins (observationsOf c r)
+      (observationsOn (componentOf (t .table) c) c (last .tick) (passagesOn (t .table) c (start (t .table)) path) (map (λ v. v .edge) (own c S)))
+  pub complete : (c : ℕ) → c < size (t .table)
+      → length (readied (r .state .tick) (own c S)) ≤ length (observationsOf c r) + cond (isLateEnd r && isLate S (r .state) c) 1 0
+
+module _ {t : Read} {S : List Visit} (G : Given t S) where
+  -- nobody is late as the schedule has it
+  pub nobody-late : {s : Run} → Tied G s → (c : ℕ) → c < size (t .table) → isLate S s c ≡ false
+  nobody-late k c h = on-time G (k .going) c h (k .ties c h)
+
+  -- of a run that does not end late
+  pub quiet-path : {s : Run} → Tied G s → (e n : ℕ) → eqb e 2 ≡ false → PathOf t S (ends s e n)
+  quiet-path {s} k e n q =
+      record {
+        path = w .path;
+        last = w .last;
+        valid = w .valid;
+        reach = w .reach ∙ ap (λ (x : Bool). cond x (pred (s .tick)) (s .tick)) (sym q);
+        scheduled = w .scheduled;
+        kept = w .kept;
+        worked = λ c h. ap (worksOf c) (w .works);
+        observed = λ c h. shows G (k .going) c h (k .ties c h) w;
+        complete = λ c h.
+            subst (λ (x : Bool). length (readied (s .tick) (own c S)) ≤ length (observationsOf c (ends s e n)) + cond (x && isLate S s c) 1 0) (sym q)
+            (none-missing G (k .going) c h (k .ties c h));
+      }
+    where
+      w : Witness (t .table) S (s .tick) (k .ahead) (s .works)
+      w = going-witness limit (t .table) (t .horizon) S (G .sched) (G .checks) (k .going)
+
+  -- of one that does: up to the tick before
+  pub late-path : {s : Run} → Live G s → (c : ℕ) → TooLate G s c → PathOf t S (ends (ticked s) 2 c)
+  late-path {s} k n l =
+      record {
+        path = w .path;
+        last = w .last;
+        valid = w .valid;
+        reach = w .reach;
+        scheduled = w .scheduled;
+        kept = w .kept;
+        worked = λ c h. ap (worksOf c) (w .works);
+        observed = λ c h. shows G (k .tied .going) c h (k .tied .ties c h) w;
+        complete = λ c h. none-missing-then G (k .tied .going) c h (k .tied .ties c h) (l .idle c h);
+      }
+    where
+      w : Witness (t .table) S (s .tick) (k .tied .ahead) (s .works)
+      w = going-witness limit (t .table) (t .horizon) S (G .sched) (G .checks) (k .tied .going)
+
+  -- ## Listeners
+
+  module _ {s : Run} (k : Live G s) (c : ℕ) (h : c < size (t .table)) where
+    -- a node at a send has exactly one listener, which began earlier
+    heard : (a : ℕ) → standOf (nodeOf s c) ≡ sending a → (i : ℕ) × (listeners s c a ≡ i ∷ []) × (nodeOf s i .t < nodeOf s c .t)
+    heard a q = go (k .tied .ties c h .held)
+      where
+        go : Held (t .horizon) (componentOf (t .table) c) (s .tick) (k .tied .ties c h .count) (nodeOf s c) (k .tied .ahead c) (k .tied .ties c h .more)
+            → (i : ℕ) × (listeners s c a ≡ i ∷ []) × (nodeOf s i .t < nodeOf s c .t)
+        go (coming v vs e m l p) = clash (sym (ap isWay q) ∙ heading-stand p)
+        go (waiting v vs e m l j p) = clash (sym (ap isWork (asleep-sleeping p)) ∙ ap isWork q)
+        go (busy v vs e m l b j p) =
+            let x : AtSend (partBytes (programBytes t) c) (componentOf (t .table) c) (k .tied .ties c h .count) (v .entry) (nodeOf s c) a =
+            subst (AtStand (partBytes (programBytes t) c) (componentOf (t .table) c) (k .tied .ties c h .count) (v .entry) (nodeOf s c)) q
+            (phase-at (coded G c h) (component-in G c h) (isWorking j p)) in (
+              other G k c h v vs e l (x .atWork) a (x .action),
+              listeners-are G k c h v vs e l (x .atWork) a (x .action),
+              began-earlier G k c h v vs e l (x .atWork) a (x .action),
+            )
+        go (leaving at e m l p) = clash (sym (ap isWay q) ∙ heading-stand p)
+        go (resting at e m l j p) = clash (sym (ap isWork (asleep-sleeping p)) ∙ ap isWork q)
+
+    -- by what it stands at
+    by-stand : (u : Run) (vs : List Visit) (x : Stand) → ((a : ℕ) → x ≡ sending a → (i : ℕ) × (listeners u c a ≡ i ∷ []) × (nodeOf u i .t < nodeOf u c .t)) → HasListener vs u c x
+    by-stand u vs sleeping f = tt
+    by-stand u vs (sending a) f = λ e. f a refl
+    by-stand u vs (listening qs) f = tt
+    by-stand u vs finishing f = tt
+    by-stand u vs (adding v z) f = tt
+    by-stand u vs working f = tt
+    by-stand u vs taking f = tt
+    by-stand u vs elsewhere f = tt
+    by-stand u vs nowhere f = tt
+
+    -- so now
+    pub listener-now : HasListener (own c S) s c (standOf (nodeOf s c))
+    listener-now = by-stand s (own c S) (standOf (nodeOf s c)) heard
+
+    -- and after a tick, which changes no node
+    pub listener-then : HasListener (own c S) (ticked s) c (standOf (nodeOf s c))
+    listener-then = by-stand (ticked s) (own c S) (standOf (nodeOf s c)) heard

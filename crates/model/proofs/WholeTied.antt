@@ -1,0 +1,127 @@
+-- A run's state held against the schedule: for each node which of its passages have their work finished, its phase in the next one, and the
+-- observations that it has written; together with the network's side, which passes along. Assumes nothing.
+use mathlib.Core.Path.{_≡_, sym, ap, subst, _∙_}
+use mathlib.Core.List.{List, [], _∷_, _++_, map}
+use Prim.Native.Nat.{ℕ, _≤_, _<_}
+use lib.Dec.{eqb}
+use lib.ListN.{length}
+use Rattle.model.specs.Lists.{only, accepted}
+use Rattle.model.specs.Table.{Component, Table, Read, noComponent, size, componentOf}
+use Rattle.model.specs.Limits.{ComponentIn, InLimits}
+use Rattle.model.specs.Window.{Entry, Pick}
+use Rattle.model.specs.Schedule.{Visit, own, schedule}
+use Rattle.model.specs.Checks.{checked, plan, planOf, limit}
+use Rattle.model.specs.Chains.{IsSchedule}
+use Rattle.model.specs.Program.{programBytes}
+use Rattle.model.specs.Network.{Work, Observation}
+use Rattle.model.specs.Machine.{Node, partBytes}
+use Rattle.model.specs.Run.{Run, nodeOf}
+use Rattle.model.proofs.Parts.{after-ok}
+use Rattle.model.proofs.Walk.{all-at}
+use Rattle.model.proofs.Heard.{checked-is}
+use Rattle.model.proofs.Own.{all-in}
+use Rattle.model.proofs.Scheduled.{schedule-is}
+use Rattle.model.proofs.Passages.{Entered, entered}
+use Rattle.model.proofs.DecodeProgram.{location-code, edge-code}
+use Rattle.model.proofs.BlockChoice.{Opened, opens-is}
+use Rattle.model.proofs.NodeChoosing.{Coded, Asleep}
+use Rattle.model.proofs.NodeWorking.{Working}
+use Rattle.model.proofs.NodePhase.{Heading, Phase, isHeading, isAsleep, isWorking}
+use Rattle.model.proofs.NodeSchedule.{Nth}
+use Rattle.model.proofs.NetSays.{seen}
+use Rattle.model.proofs.NetGoing.{Going, first-own}
+
+-- ## What is given
+
+-- a table in the limits that 7 to 12 accept with schedule S
+pub record Given (t : Read) (S : List Visit) : Type 0 where
+  pub limits : InLimits t
+  pub sched : IsSchedule limit (t .table) (t .horizon) S
+  pub checks : checked (t .table) (t .horizon) S ≡ accepted S
+
+-- acceptance gives that
+pub given : (t : Read) (S : List Visit) → InLimits t → planOf t ≡ accepted S → Given t S
+unfolding plan
+given t S h e =
+    let r = after-ok (schedule limit (t .table) (t .horizon)) (λ (X : List Visit). checked (t .table) (t .horizon) X) e in
+    let same : r .0 ≡ S = checked-is (t .table) (t .horizon) (r .0) S .0 (r .2) .0 in
+    record {
+      limits = h;
+      sched = subst (IsSchedule limit (t .table) (t .horizon)) same (schedule-is (t .table) (t .horizon) limit (r .1));
+      checks = subst (λ (X : List Visit). checked (t .table) (t .horizon) X ≡ accepted S) same (r .2);
+    }
+
+-- ## One node
+
+-- Node r of component C at tick τ, i of whose works are finished: ahead are the passages whose work is not, and `more` is the first of them once
+-- its sleep is finished.
+pub data Held (H : ℕ) (C : Component) (τ i : ℕ) (r : Node) (ahead more : List Visit) : Type 0 where
+  -- on the way to the sleep of the first passage ahead
+  coming : (v : Visit) (vs : List Visit) → ahead ≡ v ∷ vs → more ≡ [] → τ ≤ v .ready → Heading C i (v .entry) r → Held H C τ i r ahead more
+  -- at that sleep
+  waiting : (v : Visit) (vs : List Visit) → ahead ≡ v ∷ vs → more ≡ [] → τ ≤ v .ready → (k : Pick) → Asleep C i (v .entry) k r → Held H C τ i r ahead more
+  -- past it
+  busy : (v : Visit) (vs : List Visit) → ahead ≡ v ∷ vs → more ≡ v ∷ [] → v .ready ≤ τ → v .ready < H → (k : Pick) → Working C i (v .entry) k r
+      → Held H C τ i r ahead more
+  -- beyond the last passage, on the way to a sleep
+  leaving : (at : Entry) → ahead ≡ [] → more ≡ [] → H ≤ at .tick → Heading C i at r → Held H C τ i r ahead more
+  -- beyond the last passage, at a sleep
+  resting : (at : Entry) → ahead ≡ [] → more ≡ [] → H ≤ at .tick → (k : Pick) → Asleep C i at k r → Held H C τ i r ahead more
+
+-- Node c of a run at tick τ: os are its observations, `ahead` its passages whose work is unfinished.
+pub record Tie (T : Table) (H : ℕ) (S : List Visit) (c τ : ℕ) (r : Node) (os : List Observation) (ahead : List Visit) : Type 0 where
+  pub fin : List Visit
+  pub more : List Visit
+  pub count : ℕ
+  pub counts : length fin ≡ count
+  pub whole : fin ++ ahead ≡ own c S
+  pub held : Held H (componentOf T c) τ count r ahead more
+  pub shown : os ≡ map (seen (componentOf T c) c) (fin ++ more)
+
+-- the observations of node c
+abbrev pub shownBy : ℕ → List Observation → List Observation
+shownBy c os = only (λ o. eqb (o .component) c) os
+
+-- ## All nodes
+
+module _ {t : Read} {S : List Visit} (G : Given t S) where
+  -- the network's side
+  abbrev pub Along : ℕ → (ℕ → List Visit) → List Work → Type 0
+  Along τ A ws = Going limit (t .table) (t .horizon) S (G .sched) (G .checks) τ A ws
+
+  -- the run's state: every node and the network are where the schedule has them
+  pub record Tied (s : Run) : Type 0 where
+    pub ahead : ℕ → List Visit
+    pub going : Along (s .tick) ahead (s .works)
+    pub full : length (s .nodes) ≡ size (t .table)
+    pub ties : (c : ℕ) → c < size (t .table) → Tie (t .table) (t .horizon) S c (s .tick) (nodeOf s c) (shownBy c (s .observations)) (ahead c)
+
+  -- the part of the program of node c has the component's blocks
+  pub coded : (c : ℕ) → c < size (t .table) → Coded (partBytes (programBytes t) c) (componentOf (t .table) c)
+  coded c h = record { locations = location-code t (G .limits) c h; edges = edge-code t (G .limits) c h }
+
+  -- component c is in the limits
+  pub component-in : (c : ℕ) → c < size (t .table) → ComponentIn (t .table .channels) (componentOf (t .table) c)
+  component-in c h = all-at noComponent (G .limits .components) c h
+
+  -- the first passage ahead is one that the schedule opens
+  pub opened-first : {τ : ℕ} {A : ℕ → List Visit} {ws : List Work} → Along τ A ws → (c : ℕ) → c < size (t .table) → (v : Visit) (vs : List Visit) → A c ≡ v ∷ vs
+      → (k : Pick) × Opened (componentOf (t .table) c) (v .entry) v k
+  opened-first g c h v vs e =
+      let o = first-own limit (t .table) (t .horizon) S (G .sched) (G .checks) g c h v vs e in
+      let n : Entered (t .horizon) (v .component) (componentOf (t .table) (v .component)) v = all-in (entered (G .sched)) (o .0) in
+      let m : Entered (t .horizon) c (componentOf (t .table) c) v = subst (λ (i : ℕ). Entered (t .horizon) i (componentOf (t .table) i) v) (o .1) n in
+      let k = opens-is c (componentOf (t .table) c) (v .entry) v (m .opens) in
+      (k .0, k .2)
+
+-- the first passage ahead has the number of the works finished
+pub nth-first : (c : ℕ) (S : List Visit) {i : ℕ} (fin : List Visit) {ahead : List Visit} → length fin ≡ i → fin ++ ahead ≡ own c S → (v : Visit) (vs : List Visit) → ahead ≡ v ∷ vs → Nth (own c S) i v
+nth-first c S fin n w v vs e = record { past = fin; rest = vs; is = sym w ∙ ap (λ (l : List Visit). fin ++ l) e; number = n }
+
+-- the phase of a node
+pub phase-of : {H : ℕ} {C : Component} {τ i : ℕ} {r : Node} {ahead more : List Visit} → Held H C τ i r ahead more → (at : Entry) × Phase C i at r
+phase-of (coming v vs e m l g) = (v .entry, isHeading g)
+phase-of (waiting v vs e m l k g) = (v .entry, isAsleep k g)
+phase-of (busy v vs e m l b k g) = (v .entry, isWorking k g)
+phase-of (leaving at e m l g) = (at, isHeading g)
+phase-of (resting at e m l k g) = (at, isAsleep k g)
