@@ -13,7 +13,7 @@ use Rattle.model.specs.Program.{programBytes}
 use Rattle.model.specs.Network.{State, Label, start, follow, passagesOn, worksOn, observationsOn}
 use Rattle.model.specs.Machine.{partBytes}
 use Rattle.model.specs.Run.{Run, Result, ends, ticked, nodeOf, Stand, sleeping, sending, listening, finishing, adding, working, taking, elsewhere, nowhere, standOf, listeners}
-use Rattle.model.specs.Demand3.{PassAs, SteppedBefore, Begins, observationsOf, worksOf, isLateEnd, reached, isLate, HasListener}
+use Rattle.model.specs.Demand3.{PassAs, SteppedBefore, Begins, observationsOf, isLateEnd, reached, isLate, HasListener}
 use Rattle.model.proofs.Bools.{clash}
 use Rattle.model.proofs.NodeChoosing.{asleep-sleeping}
 use Rattle.model.proofs.NodePhase.{isWorking, AtSend, AtStand, phase-at}
@@ -36,7 +36,7 @@ pub record PathOf (t : Read) (S : List Visit) (r : Result) : Type 0 where
   pub reach : last .tick ≡ reached r
   pub scheduled : (c : ℕ) → c < size (t .table) → PassAs (passagesOn (t .table) c (start (t .table)) path) (own c S)
   pub kept : (c : ℕ) → c < size (t .table) → SteppedBefore (last .tick) (passagesOn (t .table) c (start (t .table)) path) (own c S)
-  pub worked : (c : ℕ) → c < size (t .table) → worksOf c (worksOn (t .table) (start (t .table)) path) ≡ worksOf c (r .state .works)
+  pub worked : worksOn (t .table) (start (t .table)) path ≡ r .state .works
   pub observed : (c : ℕ) → c < size (t .table)
       → Begins (observationsOf c r)
       (observationsOn (componentOf (t .table) c) c (last .tick) (passagesOn (t .table) c (start (t .table)) path) (map (λ v. v .edge) (own c S)))
@@ -58,7 +58,7 @@ module _ {t : Read} {S : List Visit} (G : Given t S) where
         reach = w .reach ∙ ap (λ (x : Bool). cond x (pred (s .tick)) (s .tick)) (sym q);
         scheduled = w .scheduled;
         kept = w .kept;
-        worked = λ c h. ap (worksOf c) (w .works);
+        worked = w .works;
         observed = λ c h. shows G (k .going) c h (k .ties c h) w;
         complete = λ c h.
             subst (λ (x : Bool). length (readied (s .tick) (own c S)) ≤ length (observationsOf c (ends s e n)) + cond (x && isLate S s c) 1 0) (sym q)
@@ -78,7 +78,7 @@ module _ {t : Read} {S : List Visit} (G : Given t S) where
         reach = w .reach;
         scheduled = w .scheduled;
         kept = w .kept;
-        worked = λ c h. ap (worksOf c) (w .works);
+        worked = w .works;
         observed = λ c h. shows G (k .tied .going) c h (k .tied .ties c h) w;
         complete = λ c h. none-missing-then G (k .tied .going) c h (k .tied .ties c h) (l .idle c h);
       }
@@ -109,21 +109,21 @@ module _ {t : Read} {S : List Visit} (G : Given t S) where
         go (resting at e m l j p) = clash (sym (ap isWork (asleep-sleeping p)) ∙ ap isWork q)
 
     -- by what it stands at
-    by-stand : (u : Run) (vs : List Visit) (x : Stand) → ((a : ℕ) → x ≡ sending a → (i : ℕ) × (listeners u c a ≡ i ∷ []) × (nodeOf u i .t < nodeOf u c .t)) → HasListener vs u c x
-    by-stand u vs sleeping f = tt
-    by-stand u vs (sending a) f = λ e. f a refl
-    by-stand u vs (listening qs) f = tt
-    by-stand u vs finishing f = tt
-    by-stand u vs (adding v z) f = tt
-    by-stand u vs working f = tt
-    by-stand u vs taking f = tt
-    by-stand u vs elsewhere f = tt
-    by-stand u vs nowhere f = tt
+    by-stand : (u : Run) (x : Stand) → ((a : ℕ) → x ≡ sending a → (i : ℕ) × (listeners u c a ≡ i ∷ []) × (nodeOf u i .t < nodeOf u c .t)) → HasListener u c x
+    by-stand u sleeping f = tt
+    by-stand u (sending a) f = f a refl
+    by-stand u (listening qs) f = tt
+    by-stand u finishing f = tt
+    by-stand u (adding v z) f = tt
+    by-stand u working f = tt
+    by-stand u taking f = tt
+    by-stand u elsewhere f = tt
+    by-stand u nowhere f = tt
 
     -- so now
-    pub listener-now : HasListener (own c S) s c (standOf (nodeOf s c))
-    listener-now = by-stand s (own c S) (standOf (nodeOf s c)) heard
+    pub listener-now : HasListener s c (standOf (nodeOf s c))
+    listener-now = by-stand s (standOf (nodeOf s c)) heard
 
     -- and after a tick, which changes no node
-    pub listener-then : HasListener (own c S) (ticked s) c (standOf (nodeOf s c))
-    listener-then = by-stand (ticked s) (own c S) (standOf (nodeOf s c)) heard
+    pub listener-then : HasListener (ticked s) c (standOf (nodeOf s c))
+    listener-then = by-stand (ticked s) (standOf (nodeOf s c)) heard

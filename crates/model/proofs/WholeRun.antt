@@ -92,7 +92,7 @@ module _ {t : Read} {S : List Visit} (G : Given t S) where
 
   -- in each state each sender has its listener
   pub goes-listener : {n : ℕ} {s : Run} {cs : List ℕ} {r : Result} {us : List Run} → Goes n s cs r us → (d : Run) (i : ℕ) → i ≤ n → (c : ℕ) → c < size (t .table)
-      → HasListener (own c S) (getD us i d) c (standOf (nodeOf (getD us i d) c))
+      → HasListener (getD us i d) c (standOf (nodeOf (getD us i d) c))
   goes-listener (usedUp k) d zero l c h = listener-now G k c h
   goes-listener (usedUp k) d (suc i) l c h = absurd (omega arith)
   goes-listener (stops k e) d zero l c h = listener-now G k c h

@@ -49,14 +49,6 @@ pub record Begins {A : Type 0} (xs ys : List A) : Type 0 where
 abbrev pub observationsOf : ℕ → Result → List Observation
 observationsOf c r = only (λ o. eqb (o .component) c) (r .state .observations)
 
--- a work of component c: its own, or a message that it sends or receives
-abbrev pub workOf : ℕ → Work → Bool
-workOf c (one a t) = eqb a c
-workOf c (two a b k t) = cond (eqb a c) true (eqb b c)
-
-abbrev pub worksOf : ℕ → List Work → List Work
-worksOf c ws = only (workOf c) ws
-
 abbrev pub isLateEnd : Result → Bool
 isLateEnd r = eqb (r .end) 2
 
@@ -121,31 +113,29 @@ DueIn vs t r taking = ⊥
 DueIn vs t r elsewhere = ⊥
 DueIn vs t r nowhere = ⊥
 
--- it stands at one that is not due, or beyond its last passage
+-- it stands at one that is not due, or at a take beyond its last passage; no other statement is ever refused
 abbrev pub NotDueIn : List Visit → ℕ → Node → Stand → Type 0
 NotDueIn vs t r sleeping = (readyIs vs (r .sleeps) t → ⊥)
-NotDueIn vs t r (sending k) = length vs < r .sleeps
+NotDueIn vs t r (sending k) = ⊥
 NotDueIn vs t r (listening qs) = (endIs vs (pred (r .sleeps)) t → ⊥)
-NotDueIn vs t r finishing = length vs < r .sleeps
-NotDueIn vs t r (adding v z) = length vs < r .sleeps
-NotDueIn vs t r working = length vs < r .sleeps
+NotDueIn vs t r finishing = ⊥
+NotDueIn vs t r (adding v z) = ⊥
+NotDueIn vs t r working = ⊥
 NotDueIn vs t r taking = length vs ≤ r .sleeps
-NotDueIn vs t r elsewhere = length vs ≤ r .sleeps
-NotDueIn vs t r nowhere = length vs ≤ r .sleeps
+NotDueIn vs t r elsewhere = ⊥
+NotDueIn vs t r nowhere = ⊥
 
--- a node past its sleep and yet to send, in its window: exactly one node stands at a listen that names its channel, has taken nothing, and
--- began earlier
-abbrev pub HasListener : List Visit → Run → ℕ → Stand → Type 0
-HasListener vs s c sleeping = Unit {0}
-HasListener vs s c (sending k) =
-    (endBefore vs (pred (nodeOf s c .sleeps)) (s .tick) ≡ false) → (i : ℕ) × (listeners s c k ≡ i ∷ []) × (nodeOf s i .t < nodeOf s c .t)
-HasListener vs s c (listening qs) = Unit {0}
-HasListener vs s c finishing = Unit {0}
-HasListener vs s c (adding v z) = Unit {0}
-HasListener vs s c working = Unit {0}
-HasListener vs s c taking = Unit {0}
-HasListener vs s c elsewhere = Unit {0}
-HasListener vs s c nowhere = Unit {0}
+-- a node past its sleep and yet to send: exactly one node stands at a listen that names its channel, has taken nothing, and began earlier
+abbrev pub HasListener : Run → ℕ → Stand → Type 0
+HasListener s c sleeping = Unit {0}
+HasListener s c (sending k) = (i : ℕ) × (listeners s c k ≡ i ∷ []) × (nodeOf s i .t < nodeOf s c .t)
+HasListener s c (listening qs) = Unit {0}
+HasListener s c finishing = Unit {0}
+HasListener s c (adding v z) = Unit {0}
+HasListener s c working = Unit {0}
+HasListener s c taking = Unit {0}
+HasListener s c elsewhere = Unit {0}
+HasListener s c nowhere = Unit {0}
 
 -- ## The states that a run goes through, after each number of choices carried out
 
@@ -201,13 +191,14 @@ module _ (t : Read) (S : List Visit) (cs : List ℕ) where
     pub reach : last .tick ≡ reached result
     pub scheduled : (c : ℕ) → c < size (t .table) → PassAs (passagesOn (t .table) c (start (t .table)) path) (own c S)
     pub kept : (c : ℕ) → c < size (t .table) → SteppedBefore (last .tick) (passagesOn (t .table) c (start (t .table)) path) (own c S)
-    pub worked : (c : ℕ) → c < size (t .table) → worksOf c (worksOn (t .table) (start (t .table)) path) ≡ worksOf c (result .state .works)
+    -- the steps in on the path are the works finished, in their order, at the same ticks; a message is one joint step of the same two nodes
+    pub worked : worksOn (t .table) (start (t .table)) path ≡ result .state .works
     pub observed : (c : ℕ) → c < size (t .table)
         → Begins (observationsOf c result)
         (observationsOn (componentOf (t .table) c) c (last .tick) (passagesOn (t .table) c (start (t .table)) path) (map (λ v. v .edge) (own c S)))
     pub complete : (c : ℕ) → c < size (t .table)
         → dueBefore c (result .state .tick) ≤ length (observationsOf c result) + cond (isLateEnd result && isLate S (result .state) c) 1 0
-    pub listener : (k : ℕ) → k ≤ result .state .used → (c : ℕ) → c < size (t .table) → HasListener (own c S) (stateAfter k) c (standOf (nodeOf (stateAfter k) c))
+    pub listener : (k : ℕ) → k ≤ result .state .used → (c : ℕ) → c < size (t .table) → HasListener (stateAfter k) c (standOf (nodeOf (stateAfter k) c))
     -- a late node at choice k: the run ends there and then, with the lowest one
     pub lateEnds : (k : ℕ) → k < result .state .used → (c : ℕ) → c < size (t .table) → LateAt k c
         → (suc k ≡ result .state .used) × (result .end ≡ 2) × (result .node ≤ c)
