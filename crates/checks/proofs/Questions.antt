@@ -6,13 +6,13 @@ use mathlib.Core.Option.{Option}
 use Prim.Native.Nat.{ℕ, _≤_, _<_}
 use native.Mathlib.Omega.{arith}
 use borrow.Author.Tests.{lt-leb, not-true, not-false}
-use lib.Dec.{leb}
+use lib.Dec.{leb, ltb, eqb}
 use lib.ListN.{length}
 use Rattle.model.specs.Lists.{any, only}
 use Rattle.model.specs.Table.{Table}
 use Rattle.model.specs.Window.{channelOf}
 use Rattle.model.specs.Schedule.{Visit, visitArc, names, others}
-use Rattle.model.specs.Checks.{shareTick, isSend, isReceive, meets, collides, mayHear, heardWell, unheard, two, crowded}
+use Rattle.model.specs.Checks.{shareTick, startsEarlier, endsLater, isSend, isReceive, meets, collides, mayHear, heardWell, unheard, two, crowded}
 use Rattle.model.proofs.Members.{only-none, any-none}
 use Rattle.model.proofs.Heard.{two-is}
 use Rattle.rows.specs.Rows.{rowVisit}
@@ -34,6 +34,15 @@ apart-after v w h = rw (lt-leb (w .ready) (v .end) h, and-false)
 -- of another component, with a tick shared: what `overlap` answers
 abbrev pub beside : Visit → Visit → Bool
 beside v w = others v w && shareTick v w
+
+pub beside-is : (v w : Visit) (vr we wr ve vc wc : ℕ) (x y : Bool) → vr ≡ v .ready → we ≡ w .end → wr ≡ w .ready → ve ≡ v .end → vc ≡ v .component → wc ≡ w .component
+    → y ≡ leb vr we && leb wr ve → x ≡ not (eqb vc wc) && y → x ≡ beside v w
+beside-is v w vr we wr ve vc wc x y a b c d e f q p = rw (← a, ← b, ← c, ← d, ← e, ← f, ← q) p
+
+-- the listener starts earlier and ends later: what `surrounds` answers
+pub surrounds-is : (v w : Visit) (vr wr we ve : ℕ) (x : Bool) → vr ≡ v .ready → wr ≡ w .ready → we ≡ w .end → ve ≡ v .end
+    → x ≡ ltb vr wr && ltb we ve → x ≡ startsEarlier v w && endsLater v w
+surrounds-is v w vr wr we ve x a b c d q = rw (← a, ← b, ← c, ← d) q
 
 -- the numbers first: b and d
 numbers-first : (a b c d : Bool) → a && b && c && d ≡ (b && d) && (a && c)
