@@ -16,7 +16,7 @@ use Rattle.model.specs.Reader.{readTable}
 use Rattle.model.specs.Schedule.{Visit, sevenOf}
 use Rattle.model.specs.Checks.{plan, planOf}
 use Rattle.model.specs.Program.{Statement, blockBytes, locationBlock, edgeBlock}
-use Rattle.model.specs.Calls.{verdictOf, checkCall}
+use Rattle.model.specs.Calls.{verdictOf, planIn, checkCall}
 
 -- "Probe 0: L0 x0 ≤ 5, L1 x0 ≤ 10; e0 send L0 to L1, low 3; e1 internal L1 to L0, low 8, resets x0." By the low of e0.
 abbrev pub probe : ℕ → Component
@@ -119,7 +119,7 @@ rows =
     ∷ []
 
 pub cases : All Holds rows
-unfolding tableBytes readTable checkCall plan each blockBytes locationBlock edgeBlock
+unfolding tableBytes readTable checkCall planIn plan each blockBytes locationBlock edgeBlock
 cases =
     more refl
     (more refl

@@ -1,7 +1,12 @@
-// The exported calls. Each contract equates the answer, and each lent byte afterwards, with the call's
+// The exported calls. Each contract equates the answer, and each lent number afterwards, with the call's
 // definition in model's specs/Calls.antt, for all inputs.
 ghost use mathlib.Core.Path.{_≡_};
-ghost use Rattle.model.specs.Calls.{checkCall, numberOf, concernedOf};
+ghost use Prim.Native.Nat.{_≤_};
+ghost use Rattle.model.specs.declared.Verdict.the-variants.{Refused};
+ghost use Rattle.model.specs.Reader.{byte};
+ghost use Rattle.model.specs.Places.{Valid};
+ghost use Rattle.model.specs.Calls.{checkCall, scheduleCall, numberOf, concernedOf};
+ghost use Rattle.table.specs.Directory.{startsOf};
 use model::Verdict;
 
 // A verdict as two numbers: 0 for accepted, else the number of the refusal; and the component concerned, 255 for none.
@@ -11,15 +16,115 @@ pub struct VerdictNumbers {
     pub component: u8,
 }
 
+// The same with the size of the result, 0 after a refusal.
+#[repr(C)]
+pub struct CallNumbers {
+    pub number: u8,
+    pub component: u8,
+    pub size: u32,
+}
+
+// The answer of a call that writes.
+pub struct Called {
+    pub verdict: Verdict,
+    pub size: usize,
+}
+
+fn refused(number: u8, component: u8) -> Called
+    ensures { λ r. ⌜ (r .verdict ≡ Refused number component) × (r .size ≡ 0) ⌝ }
+{
+    Called {
+        verdict: Verdict::Refused(number, component),
+        size: 0,
+    }
+}
+
+// A call's answer as numbers.
+fn numbers_of(c: Called) -> CallNumbers
+    requires { ⌜ c .size ≤ 65535 ⌝ }
+    ensures { λ r. ⌜ (r .number ≡ numberOf (c .verdict)) × (r .component ≡ concernedOf (c .verdict)) × (r .size ≡ c .size) ⌝ }
+{
+    let v = c.verdict;
+    let size = c.size as u32;
+    match v {
+        Verdict::Accepted => CallNumbers {
+            number: 0,
+            component: 255,
+            size,
+        },
+        Verdict::Refused(number, component) => CallNumbers {
+            number,
+            component,
+            size,
+        },
+    }
+}
+
+// Checks 7 to 12 of a table that was read.
+fn plan_verdict(table: &[u8], starts: [u16; 8]) -> Verdict
+    requires { ⌜ Valid (now table) × (starts ≡ startsOf (now table) (byte (now table) 3)) ⌝ }
+    ensures { λ r. ⌜ r ≡ checkCall (now (table .entry)) ⌝ }
+{
+    let mut rows = [0u32; 9216];
+    let r = schedule::plan_rows(table, starts, &mut rows);
+    r.verdict
+}
+
 // Whether the table is accepted.
 pub fn check(table: &[u8]) -> Verdict
     ensures { λ r. ⌜ r ≡ checkCall (now (table .entry)) ⌝ }
 {
     let r = table::read(table);
-    r.verdict
+    let v = r.verdict;
+    match v {
+        Verdict::Refused(number, component) => Verdict::Refused(number, component),
+        Verdict::Accepted => {
+            let starts = r.starts;
+            plan_verdict(table, starts)
+        }
+    }
 }
 
-// The same for callers in C.
+// The schedule of a table that was read.
+fn plan_into(table: &[u8], starts: [u16; 8], list: &mut [u32]) -> Called
+    requires { ⌜ Valid (now table) × (starts ≡ startsOf (now table) (byte (now table) 3)) ⌝ }
+    ensures { λ r. ⌜ (r .verdict ≡ scheduleCall (now (table .entry)) (now (list .entry)) .verdict) × (r .size ≡ scheduleCall (now (table .entry)) (now (list .entry)) .size) × (now (list .exit) ≡ scheduleCall (now (table .entry)) (now (list .entry)) .lent) ⌝ }
+{
+    let mut rows = [0u32; 9216];
+    let r = schedule::plan_rows(table, starts, &mut rows);
+    let v = r.verdict;
+    let n = r.count;
+    match v {
+        Verdict::Refused(number, component) => refused(number, component),
+        Verdict::Accepted => {
+            if list.len() < n * 7 {
+                return refused(13, 255);
+            }
+            schedule::put_fields(&rows, n, list);
+            Called {
+                verdict: Verdict::Accepted,
+                size: n,
+            }
+        }
+    }
+}
+
+// The schedule: seven numbers a passage, laid over the front of the list.
+pub fn schedule(table: &[u8], list: &mut [u32]) -> Called
+    ensures { λ r. ⌜ (r .verdict ≡ scheduleCall (now (table .entry)) (now (list .entry)) .verdict) × (r .size ≡ scheduleCall (now (table .entry)) (now (list .entry)) .size) × (now (list .exit) ≡ scheduleCall (now (table .entry)) (now (list .entry)) .lent) ⌝ }
+{
+    let r = table::read(table);
+    let v = r.verdict;
+    match v {
+        Verdict::Refused(number, component) => refused(number, component),
+        Verdict::Accepted => {
+            let starts = r.starts;
+            plan_into(table, starts, list)
+        }
+    }
+}
+
+// The two calls for C.
 #[no_mangle]
 pub extern "C" fn timed_network_check(table: &[u8]) -> VerdictNumbers
     ensures { λ r. ⌜ (r .number ≡ numberOf (checkCall (now (table .entry)))) × (r .component ≡ concernedOf (checkCall (now (table .entry)))) ⌝ }
@@ -32,4 +137,12 @@ pub extern "C" fn timed_network_check(table: &[u8]) -> VerdictNumbers
         },
         Verdict::Refused(number, component) => VerdictNumbers { number, component },
     }
+}
+
+#[no_mangle]
+pub extern "C" fn timed_network_schedule(table: &[u8], list: &mut [u32]) -> CallNumbers
+    ensures { λ r. ⌜ (r .number ≡ numberOf (scheduleCall (now (table .entry)) (now (list .entry)) .verdict)) × (r .component ≡ concernedOf (scheduleCall (now (table .entry)) (now (list .entry)) .verdict)) × (r .size ≡ scheduleCall (now (table .entry)) (now (list .entry)) .size) × (now (list .exit) ≡ scheduleCall (now (table .entry)) (now (list .entry)) .lent) ⌝ }
+{
+    let c = schedule(table, list);
+    numbers_of(c)
 }

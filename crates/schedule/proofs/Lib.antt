@@ -1,0 +1,10 @@
+pub mod Cut
+pub mod Bare
+pub mod Closing
+pub mod Grown
+pub mod Least
+pub mod Fields
+pub mod Leads
+pub mod Tables
+pub mod Turns
+pub mod Whole

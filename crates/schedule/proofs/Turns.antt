@@ -1,0 +1,275 @@
+-- The two loops of the schedule, turn by turn. Assumes nothing.
+use mathlib.Core.Path.{_≡_, refl, sym, ap, ap₂, subst, _∙_}
+use mathlib.Core.List.{List, [], _∷_, map}
+use mathlib.Core.Option.{Option}
+use Prim.Native.Nat.{ℕ, zero, suc, _+_, _-_, _*_, _≤_, _<_}
+use native.Mathlib.Omega.{arith}
+use mir.Val.{Fits}
+use mir.Syntax.{w8}
+use lib.IntN.{pos}
+use lib.ListN.{length, getD, drop, replicate, length-map}
+use lib.Seq.{sets}
+use Rattle.model.specs.declared.Verdict.the-variants.{Accepted, Refused}
+use Rattle.model.specs.Lists.{All, empty, more, snoc, Answer, accepted, refused, _after_}
+use Rattle.model.specs.Table.{Component, size, arcOf}
+use Rattle.model.specs.Window.{leaves}
+use Rattle.model.specs.Places.{startOf, Valid, readOf, componentIn}
+use Rattle.model.specs.Schedule.{Visit, visitArc, messageIn, startEntry, opening, closing, begin, goOn, Plan, bare}
+use Rattle.model.specs.Schedule.{opened as put}
+use Rattle.model.specs.Checks.{visitAt}
+use Rattle.model.specs.Calls.{verdictOf}
+use Rattle.window.specs.declared.Entry.{Entry}
+use Rattle.window.specs.declared.Opening.{Opening}
+use Rattle.window.specs.declared.Opening.the-variants.{Opens, Fails}
+use Rattle.window.specs.declared.TakenEdge.{TakenEdge}
+use Rattle.window.specs.Views.{entryOf, openingOf, Placed}
+use Rattle.rows.specs.Rows.{num, rowVisit, rowsFrom, rowsOf, RowsPlaced}
+use Rattle.schedule.specs.declared.Node.{Node}
+use Rattle.schedule.specs.declared.Turn.{Turn}
+use Rattle.schedule.specs.declared.Scheduled.{Scheduled}
+use Rattle.schedule.specs.Going.{cut, Soonest, Stands, Turned, Open, blank, Going, fresh, begun, Started, unfinished, Listed}
+use Rattle.schedule.proofs.Cut.{leaves-cut, start-cut}
+use Rattle.schedule.proofs.Bare.{message-of-bare}
+use Rattle.schedule.proofs.Closing.{begin-turn, begin-fails, begin-done, stops, no-room, fails, goes}
+use Rattle.schedule.proofs.Grown.{made, opens-made, opens-not, length-rows, no-rows, stands, keeps, until, begun-on, first-on, going-on}
+use Rattle.schedule.proofs.Tables.{few-components, horizon-small, limits-of}
+
+-- ## The openings at tick 0
+
+zeros-young : (n t : ℕ) → All (λ x. x ≤ t) (replicate n 0)
+zeros-young zero t = empty
+zeros-young (suc n) t = more {x = 0} (omega arith) (zeros-young n t)
+
+-- components below c have opened
+pub record Beginning (bs l : List ℕ) (c : ℕ) (nodes : List Node) (ends : List ℕ) : Type 0 where
+  pub first : List Visit
+  pub begins : begin (1024 - c) c (drop c (readOf bs .table .components)) first ≡ begun bs
+  pub going : Going bs l c 0 c nodes ends (fresh first)
+  pub zero : (j : ℕ) → j < c → num l j 3 ≡ 0
+
+pub begin-first : (bs l : List ℕ) (nodes : List Node) (ends : List ℕ) → Valid bs → Beginning bs l 0 nodes ends
+unfolding rowsFrom
+begin-first bs l nodes ends v =
+    record {
+      first = [];
+      begins = refl;
+      going =
+          record {
+            placed =
+                record {
+                  valid = v;
+                  few = omega arith;
+                  fits = omega arith;
+                  row = λ i h. absurd (omega arith);
+                  order = λ i j a h. absurd (omega arith);
+                  low = λ j h. absurd (omega arith);
+                  swept = λ j i h a. absurd (omega arith);
+                };
+            rows = refl;
+            full = refl;
+            each = λ c h. absurd (omega arith);
+            entered = λ i c h k. absurd (omega arith);
+            among = omega arith;
+            ended = λ i c h k. absurd (omega arith);
+          };
+      zero = λ j h. absurd (omega arith);
+    }
+
+module _ (bs l : List ℕ) (b : (j : ℕ) → Fits w8 (getD bs j 0)) (c : ℕ) (nodes : List Node) (ends : List ℕ) (g : Beginning bs l c nodes ends) where
+  valid : Valid bs
+  valid = g .going .placed .valid
+
+  -- all have opened
+  pub begin-all : size (readOf bs .table) ≤ c → c ≤ size (readOf bs .table) → Started bs l nodes ends
+  begin-all h k =
+      let e : c ≡ size (readOf bs .table) = omega arith in
+      record {
+        first = g .first;
+        begins = begin-done (readOf bs .table .components) (1024 - c) c (g .first) (begun bs) (g .begins) h;
+        going = subst (λ n. Going bs l n 0 n nodes ends (fresh (g .first))) e (g .going);
+      }
+
+  module _ (there : c < size (readOf bs .table)) (at : Entry) (location : at .location ≡ componentIn bs c .initial) (tick : at .tick ≡ 0)
+      (clocks : at .clocks ≡ replicate 4 0) (values : at .values ≡ replicate 4 (pos 0)) where
+    starts : startEntry (componentIn bs c) ≡ cut (componentIn bs c) (entryOf at)
+    starts = start-cut (readOf bs .table .channels) (componentIn bs c) (limits-of bs b valid c there) (entryOf at) location tick clocks values
+
+    pub begin-location : at .location < length (componentIn bs c .locations)
+    begin-location = omega (arith, limits-of bs b valid c there .initial)
+
+    few : 0 < 1024 - c
+    few = omega (arith, few-components bs b valid)
+
+    module _ (r : Opening) (e : openingOf c (componentIn bs c) (entryOf at) r ≡ opening c (componentIn bs c) (entryOf at)) where
+      -- 8 or 9
+      pub begin-refused : {k : ℕ} → r ≡ Fails k → begun bs ≡ refused k c
+      begin-refused {k} q =
+          begin-fails (readOf bs .table .components) (1024 - c) c (g .first) (begun bs) (g .begins) (componentIn bs c) refl there few k
+          (ap (opening c (componentIn bs c)) starts ∙ opens-not bs c (limits-of bs b valid c there) at begin-location r e q)
+
+      -- it opens
+      pub begin-on : {t : TakenEdge} → r ≡ Opens t → Placed bs (startOf bs c) c r → c * 9 + 9 ≤ length l → (l′ : List ℕ)
+          → l′ ≡ sets l (c * 9) (c ∷ t .edge ∷ at .location ∷ at .tick ∷ (at .tick + t .ready) ∷ (at .tick + t .end) ∷ 255 ∷ t .place ∷ 0 ∷ [])
+          → c < length nodes → c < length ends → Beginning bs l′ (c + 1) (keeps nodes c c at t) (until ends c at t)
+      begin-on {t} q p fits l′ is h k =
+          let o = opens-made bs c (limits-of bs b valid c there) at begin-location r e q in
+          let p′ : Placed bs (startOf bs c) c (Opens t) = subst (Placed bs (startOf bs c) c) q p in
+          let young : All (λ x. x ≤ at .tick) (at .clocks) = subst (λ (xs : List ℕ). All (λ x. x ≤ at .tick) xs) (sym clocks) (zeros-young 4 (at .tick)) in
+          let w = made bs c at t in
+          let n : 1024 - c - 1 ≡ 1024 - (c + 1) = omega arith in
+          record {
+            first = snoc (g .first) w;
+            begins = subst (λ m. begin m (c + 1) (drop (c + 1) (readOf bs .table .components)) (snoc (g .first) w) ≡ begun bs) n
+                (begin-turn (readOf bs .table .components) (1024 - c) c (g .first) (begun bs) (g .begins) (componentIn bs c) refl there few w
+                (ap (opening c (componentIn bs c)) starts ∙ o));
+            going = begun-on bs l c 0 c at t fits l′ is o there p′ (omega arith) (omega (arith, few-components bs b valid)) young nodes ends h k (g .first) (g .going) refl refl tick (g .zero);
+            zero = first-on bs l c 0 c at t fits l′ is o there p′ (omega arith) (omega (arith, few-components bs b valid)) young nodes ends h k tick (g .zero);
+          }
+
+-- ## The passages that close below the horizon
+
+-- so many passages have opened
+pub record Progress (bs l : List ℕ) (n low : ℕ) (nodes : List Node) (ends : List ℕ) : Type 0 where
+  pub plan : Plan
+  pub same : goOn (readOf bs .table) (readOf bs .horizon) (1024 - n) plan ≡ unfinished bs
+  pub going : Going bs l n low (size (readOf bs .table)) nodes ends plan
+
+pub progress-first : (bs l : List ℕ) (n : ℕ) (nodes : List Node) (ends : List ℕ) → Started bs l nodes ends → n ≡ size (readOf bs .table) → Progress bs l n 0 nodes ends
+progress-first bs l n nodes ends s e =
+    record {
+      plan = fresh (s .first);
+      same = rw e (sym (ap (λ a. a after λ vs. goOn (readOf bs .table) (readOf bs .horizon) (1024 - size (readOf bs .table)) (fresh vs)) (s .begins)));
+      going = subst (λ m. Going bs l m 0 (size (readOf bs .table)) nodes ends (fresh (s .first))) (sym e) (s .going);
+    }
+
+-- the entry of what opens is at the tick where the passage ends
+pub turned-tick : (bs l : List ℕ) (n c H : ℕ) (node : Node) (end : ℕ) (t : Turn) → Turned bs l n c H node end t → t .at .tick ≡ end
+unfolding leaves
+turned-tick bs l n c H node end t u = ap (λ (e : Rattle.model.specs.Window.Entry). e .tick) (u .leads)
+
+pub listed-is : (r : Scheduled) (n : ℕ) → r .verdict ≡ Accepted → r .count ≡ n → _≡_ {A = Scheduled} (record { verdict = Accepted; count = n }) r
+listed-is r n p q = rw (← p, ← q)
+
+-- the answer of a loop that ends
+pub listed-accepted : {bs l : List ℕ} {n : ℕ} {a : Answer (List Visit)} (S : List Visit) → a ≡ accepted S → rowsOf l n ≡ map bare S → RowsPlaced bs l n
+    → Listed bs a (record { verdict = Accepted; count = n }) l
+listed-accepted {bs} {l} {n} {a} S e r p =
+    record {
+      verdict = sym (ap verdictOf e);
+      count = λ W q. sym (length-rows l 0 n) ∙ ap length r ∙ length-map S bare ∙ ap length (same-list q);
+      rows = λ W q. r ∙ ap (map bare) (same-list q);
+      placed = p;
+      none = λ k c q. (let z : _≡_ {A = ℕ} 0 1 = cc in absurd (omega arith));
+    }
+  where
+    same-list : {W : List Visit} → a ≡ accepted W → S ≡ W
+    same-list q = cc
+
+pub listed-refused : {bs l : List ℕ} {n : ℕ} {a : Answer (List Visit)} (r : Scheduled) (k c : ℕ) → a ≡ refused k c → RowsPlaced bs l n → r .verdict ≡ Refused k c → r .count ≡ 0
+    → Listed bs a r l
+listed-refused {bs} {l} {n} {a} r k c e p v z =
+    record {
+      verdict = v ∙ sym (ap verdictOf e);
+      count = λ W q. (let z : _≡_ {A = ℕ} 0 1 = cc in absurd (omega arith));
+      rows = λ W q. (let z : _≡_ {A = ℕ} 0 1 = cc in absurd (omega arith));
+      placed = rw z (no-rows p);
+      none = λ k c q. z;
+    }
+
+module _ (bs l : List ℕ) (b : (j : ℕ) → Fits w8 (getD bs j 0)) (n low : ℕ) (nodes : List Node) (ends : List ℕ) (g : Progress bs l n low nodes ends)
+    (c : ℕ) (s : Soonest ends (size (readOf bs .table)) c) where
+  abbrev T : Rattle.model.specs.Table.Table
+  T = readOf bs .table
+
+  abbrev H : ℕ
+  H = readOf bs .horizon
+
+  abbrev C : Component
+  C = componentIn bs c
+
+  abbrev v : Visit
+  v = visitAt (g .plan .current) c
+
+  -- its open passage
+  open-now : Open bs l n c (getD nodes c blank) (getD ends c 0) v
+  open-now = g .going .each c (s .there)
+
+  ends-are : (j : ℕ) → j < size T → (visitAt (g .plan .current) j .component ≡ j) × (visitAt (g .plan .current) j .end ≡ getD ends j 0)
+  ends-are j h = let o = g .going .each j h in (o .component, o .end)
+
+  -- it goes with its row
+  pub node-stands : Stands l n c (getD nodes c blank) (getD ends c 0)
+  node-stands = stands open-now
+
+  -- it reaches the horizon
+  pub loop-stops : H ≤ getD ends c 0 → Listed bs (unfinished bs) (record { verdict = Accepted; count = n }) l
+  loop-stops h =
+      listed-accepted (g .plan .listed) (sym (g .same) ∙ stops T H (g .plan) ends c s (g .going .full) ends-are (1024 - n) h) (g .going .rows) (g .going .placed)
+
+  module _ (below : getD ends c 0 < H) where
+    -- 7
+    pub loop-full : 1024 ≤ n → (r : Scheduled) → r .verdict ≡ Refused 7 c → r .count ≡ 0 → Listed bs (unfinished bs) r l
+    loop-full h r p q =
+        listed-refused r 7 c (sym (g .same) ∙ no-room T H (g .plan) ends c s (g .going .full) ends-are below (1024 - n) (omega arith)) (g .going .placed) p q
+
+    module _ (room : n < 1024) (t : Turn) (u : Turned bs l n c H (getD nodes c blank) (getD ends c 0) t) where
+      its-arc : arcOf C (v .edge) ≡ visitArc T v
+      its-arc = ap (λ k. arcOf (componentIn bs k) (v .edge)) (sym (open-now .component))
+
+      edge-there : v .edge < length (C .arcs)
+      edge-there =
+          let i = getD nodes c blank .row in
+          subst (λ k. v .edge < length (componentIn bs k .arcs)) (node-stands .component)
+          (subst (λ e. e < length (componentIn bs (num l i 0) .arcs)) (ap (λ (x : Visit). x .edge) (open-now .shown)) (g .going .placed .row i (open-now .row) .there))
+
+      message-is : messageIn T H (rowsOf l n) (rowVisit l (getD nodes c blank .row)) ≡ messageIn T H (g .plan .listed) v
+      message-is = ap₂ (messageIn T H) (g .going .rows) (open-now .shown) ∙ message-of-bare T H (g .plan .listed) v
+
+      entry-is : entryOf (t .at) ≡ leaves (arcOf C (v .edge)) (messageIn T H (g .plan .listed) v) (getD ends c 0) (entryOf (getD nodes c blank .entry))
+      entry-is =
+          u .leads
+          ∙ ap₂ (λ (x : Visit) (m : Option ℕ). leaves (visitArc T x) m (getD ends c 0) (entryOf (getD nodes c blank .entry))) (open-now .shown) message-is
+          ∙ ap (λ a. leaves a (messageIn T H (g .plan .listed) v) (getD ends c 0) (entryOf (getD nodes c blank .entry))) (sym its-arc)
+
+      -- what it leads to
+      leads : closing T H (g .plan .listed) v ≡ cut C (entryOf (t .at))
+      leads =
+          ap (λ a. leaves a (messageIn T H (g .plan .listed) v) (v .end) (v .entry)) (sym its-arc)
+          ∙ ap₂ (λ k e. leaves (arcOf C (v .edge)) (messageIn T H (g .plan .listed) v) k e) (open-now .end) (open-now .entry)
+          ∙ leaves-cut (readOf bs .table .channels) C (limits-of bs b (g .going .placed .valid) c (s .there)) (v .edge) edge-there
+          (messageIn T H (g .plan .listed) v) (getD ends c 0) (entryOf (getD nodes c blank .entry))
+          ∙ ap (cut C) (sym entry-is)
+
+      tick-is : t .at .tick ≡ getD ends c 0
+      tick-is = turned-tick bs l n c H (getD nodes c blank) (getD ends c 0) t u
+
+      present : c < size T
+      present = s .there
+
+      -- 8 or 9
+      pub loop-fails : {k : ℕ} → t .opening ≡ Fails k → (r : Scheduled) → r .verdict ≡ Refused k c → r .count ≡ 0 → Listed bs (unfinished bs) r l
+      loop-fails {k} q r p z =
+          listed-refused r k c
+          (sym (g .same) ∙ fails T H (g .plan) ends c s (g .going .full) ends-are below (1024 - n) (omega arith) k
+          (ap (opening c C) leads ∙ opens-not bs c (limits-of bs b (g .going .placed .valid) c present) (t .at) (u .there) (t .opening) (u .opens) q))
+          (g .going .placed) p z
+
+      -- it opens
+      pub loop-on : {e : TakenEdge} → t .opening ≡ Opens e → n * 9 + 9 ≤ length l → (low′ : ℕ) → low′ ≤ n
+          → ((i : ℕ) → low ≤ i → i < low′ → num l i 5 < getD ends c 0) → (l′ : List ℕ)
+          → l′ ≡ sets l (n * 9) (c ∷ e .edge ∷ t .at .location ∷ t .at .tick ∷ (t .at .tick + e .ready) ∷ (t .at .tick + e .end) ∷ 255 ∷ e .place ∷ low′ ∷ [])
+          → c < length nodes → c < length ends → Progress bs l′ (n + 1) low′ (keeps nodes n c (t .at) e) (until ends c (t .at) e)
+      loop-on {e} q fits low′ among swept l′ is h k =
+          let o = opens-made bs c (limits-of bs b (g .going .placed .valid) c present) (t .at) (u .there) (t .opening) (u .opens) q in
+          let p : Placed bs (startOf bs c) c (Opens e) = subst (Placed bs (startOf bs c) c) q (u .placed) in
+          let w = made bs c (t .at) e in
+          let m : 1024 - n - 1 ≡ 1024 - (n + 1) = omega arith in
+          record {
+            plan = put (g .plan) w;
+            same =
+                ap (λ r. goOn T H r (put (g .plan) w)) (sym m)
+                ∙ sym (goes T H (g .plan) ends c s (g .going .full) ends-are below (1024 - n) (omega arith) w (ap (opening c C) leads ∙ o))
+                ∙ g .same;
+            going = going-on bs l n low′ c (t .at) e fits l′ is o present p (omega (arith, horizon-small bs b (g .going .placed .valid), tick-is)) room
+                (rw tick-is (u .young)) nodes ends h k (g .going) s tick-is among swept;
+          }

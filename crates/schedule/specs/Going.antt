@@ -1,0 +1,110 @@
+-- What the code keeps while it makes the schedule, in the words of the definitions: the open passages, the rows, and the list so far.
+use mathlib.Core.Path.{_≡_}
+use mathlib.Core.List.{List, [], map}
+use Prim.Native.Nat.{ℕ, _-_, _≤_, _<_}
+use lib.ListN.{length, take, getD}
+use Rattle.model.specs.Lists.{All, Answer, accepted, refused, _after_}
+use Rattle.model.specs.Table.{Component, size}
+use Rattle.model.specs.Window.{Entry, leaves}
+use Rattle.model.specs.Places.{startOf, readOf, componentIn}
+use Rattle.model.specs.Schedule.{Visit, visitArc, messageIn, opening, Plan, begin, goOn, bare}
+use Rattle.model.specs.Checks.{limit, visitAt}
+use Rattle.model.specs.Calls.{verdictOf}
+use Rattle.model.specs.declared.Verdict.the-variants.{Accepted}
+use Rattle.window.specs.declared.TakenEdge.{TakenEdge}
+use Rattle.window.specs.Views.{entryOf, openingOf, Placed}
+use Rattle.rows.specs.Rows.{num, rowVisit, rowsOf, RowsPlaced}
+use Rattle.schedule.specs.declared.Node.{Node}
+use Rattle.schedule.specs.declared.Turn.{Turn}
+use Rattle.schedule.specs.declared.Opened.{Opened}
+use Rattle.schedule.specs.declared.Scheduled.{Scheduled}
+
+-- the entry with the clocks and variables that the component has
+abbrev pub cut : Component → Entry → Entry
+cut C e = record { location = e .location; tick = e .tick; clocks = take (C .clocks) (e .clocks); values = take (C .variables) (e .values) }
+
+-- r has the least of the first n numbers, on a tie the lowest place
+pub record Soonest (ends : List ℕ) (n r : ℕ) : Type 0 where
+  pub there : r < n
+  pub least : (i : ℕ) → i < n → getD ends r 0 ≤ getD ends i 0
+  pub lowest : (i : ℕ) → i < r → getD ends r 0 < getD ends i 0
+
+-- ## One passage closes, the next opens
+
+-- what the code keeps of an open passage of component c goes with its row, of n rows
+pub record Stands (l : List ℕ) (n c : ℕ) (node : Node) (until : ℕ) : Type 0 where
+  pub row : node .row < n
+  pub component : num l (node .row) 0 ≡ c
+  pub place : num l (node .row) 7 ≡ node .place
+  pub tick : num l (node .row) 3 ≡ node .entry .tick
+  pub end : num l (node .row) 5 ≡ until
+  pub young : All (λ x. x ≤ node .entry .tick) (node .entry .clocks)
+
+-- the entry that the passage leads to, and what opens there
+pub record Turned (bs l : List ℕ) (n c H : ℕ) (node : Node) (end : ℕ) (t : Turn) : Type 0 where
+  pub leads : entryOf (t .at)
+      ≡ leaves (visitArc (readOf bs .table) (rowVisit l (node .row))) (messageIn (readOf bs .table) H (rowsOf l n) (rowVisit l (node .row))) end (entryOf (node .entry))
+  pub there : t .at .location < length (componentIn bs c .locations)
+  pub young : All (λ x. x ≤ end) (t .at .clocks)
+  pub opens : openingOf c (componentIn bs c) (entryOf (t .at)) (t .opening) ≡ opening c (componentIn bs c) (entryOf (t .at))
+  pub placed : Placed bs (startOf bs c) c (t .opening)
+
+-- ## All open passages
+
+-- what is kept of a passage over edge t, entered there, in that row
+abbrev pub keptOf : Rattle.window.specs.declared.Entry.Entry → TakenEdge → ℕ → Node
+keptOf at t row = record { entry = at; place = t .place; row = row }
+
+-- node and until are what the code keeps of v, the open passage of component c
+pub record Open (bs l : List ℕ) (n c : ℕ) (node : Node) (until : ℕ) (v : Visit) : Type 0 where
+  pub component : v .component ≡ c
+  pub entry : v .entry ≡ cut (componentIn bs c) (entryOf (node .entry))
+  pub end : v .end ≡ until
+  pub row : node .row < n
+  pub shown : rowVisit l (node .row) ≡ bare v
+  pub place : num l (node .row) 7 ≡ node .place
+  pub young : All (λ x. x ≤ node .entry .tick) (node .entry .clocks)
+
+-- what an index past the end reads
+abbrev pub blank : Node
+blank = record { entry = record { location = 0; tick = 0; clocks = []; values = [] }; place = 0; row = 0 }
+
+-- the first k components have an open passage; the rows before `low` ended before any open passage ends
+pub record Going (bs l : List ℕ) (n low k : ℕ) (nodes : List Node) (ends : List ℕ) (p : Plan) : Type 0 where
+  pub placed : RowsPlaced bs l n
+  pub rows : rowsOf l n ≡ map bare (p .listed)
+  pub full : length (p .current) ≡ k
+  pub each : (c : ℕ) → c < k → Open bs l n c (getD nodes c blank) (getD ends c 0) (visitAt (p .current) c)
+  pub entered : (i c : ℕ) → i < n → c < k → num l i 3 ≤ getD ends c 0
+  pub among : low ≤ n
+  pub ended : (i c : ℕ) → i < low → c < k → num l i 5 < getD ends c 0
+
+-- the passages so far are those that opened at tick 0
+abbrev pub fresh : List Visit → Plan
+fresh vs = record { listed = vs; current = vs }
+
+-- the openings at tick 0
+abbrev pub begun : List ℕ → Answer (List Visit)
+begun bs = begin limit 0 (readOf bs .table .components) []
+
+-- all components have opened at tick 0
+pub record Started (bs l : List ℕ) (nodes : List Node) (ends : List ℕ) : Type 0 where
+  pub first : List Visit
+  pub begins : begun bs ≡ accepted first
+  pub going : Going bs l (size (readOf bs .table)) 0 (size (readOf bs .table)) nodes ends (fresh first)
+
+pub record Begins (bs later : List ℕ) (r : Opened) : Type 0 where
+  pub verdict : r .verdict ≡ verdictOf (begun bs)
+  pub started : r .verdict ≡ Accepted → Started bs later (r .nodes) (r .ends)
+
+-- ## The whole schedule, its messages not yet put in
+
+abbrev pub unfinished : List ℕ → Answer (List Visit)
+unfinished bs = begun bs after λ vs. goOn (readOf bs .table) (readOf bs .horizon) (limit - size (readOf bs .table)) (fresh vs)
+
+pub record Listed (bs : List ℕ) (a : Answer (List Visit)) (r : Scheduled) (later : List ℕ) : Type 0 where
+  pub verdict : r .verdict ≡ verdictOf a
+  pub count : (S : List Visit) → a ≡ accepted S → r .count ≡ length S
+  pub rows : (S : List Visit) → a ≡ accepted S → rowsOf later (r .count) ≡ map bare S
+  pub placed : RowsPlaced bs later (r .count)
+  pub none : (k c : ℕ) → a ≡ refused k c → r .count ≡ 0
