@@ -6,7 +6,8 @@
  * writes to target/staticlib.
  *
  * What holds for every call here: it always returns, whatever the bytes are,
- * and it keeps nothing from one call to the next.
+ * and it keeps nothing from one call to the next. Memory that is lent is
+ * written only where the call says so, and never after a refusal.
  */
 #ifndef TIMED_NETWORK_H
 #define TIMED_NETWORK_H
@@ -30,9 +31,20 @@ extern "C" {
  *   4  a part does not fit its component, or bytes are left over
  *   5  a number is out of its range, or a reset mask has a bit without a clock
  *   6  a receive edge lists a channel twice
+ *   7  a passage opens while 1,024 passages are open or closed
+ *   8  a passage opens and no edge is a candidate
+ *   9  an update of the edge taken leaves -32,768 to 32,767
+ *  10  two send windows of different components share a tick
+ *  11  a send window is not heard by exactly one receive window of another
+ *      component that starts earlier and ends later
+ *  12  a receive window shares a tick with two send windows of other
+ *      components on its channels
  *
- * component: the number of the component, counted from 0, that was being read
- * when 4, 5 or 6 was found. 255 if the table is accepted, and with 1, 2 and 3.
+ * component: the number of the component concerned, counted from 0. For 4 to 6
+ * the one that was being read, for 7 to 9 the one that was opening a passage,
+ * for 10 and 11 that of the first send at fault in the order of the schedule,
+ * for 12 that of the first receive at fault. 255 if the table is accepted, and
+ * with 1, 2 and 3.
  */
 typedef struct VerdictNumbers {
     uint8_t number;
@@ -40,8 +52,8 @@ typedef struct VerdictNumbers {
 } VerdictNumbers;
 
 /*
- * Tries a table with checks 1 to 6 of document 01. So far "accepted" means
- * that these six are passed; the later checks are not yet tried.
+ * Tries a table with checks 1 to 12 of document 01. Accepted means that all
+ * twelve are passed.
  *
  * table:  the first of `length` bytes that can be read.
  * length: how many bytes there are. It may be 0; then the pointer is not read,
@@ -50,6 +62,42 @@ typedef struct VerdictNumbers {
  * Nothing is written, and no byte behind the last one is read.
  */
 VerdictNumbers timed_network_check(const uint8_t *table, size_t length);
+
+/*
+ * The answer of a call that writes into a lent list, as three numbers.
+ *
+ * number, component: as in a verdict, with one number more:
+ *
+ *  13  the lent list does not hold the result; component 255
+ *
+ * size: how many passages were written; 0 after a refusal.
+ */
+typedef struct CallNumbers {
+    uint8_t number;
+    uint8_t component;
+    uint32_t size;
+} CallNumbers;
+
+/*
+ * Writes the schedule of a table.
+ *
+ * table, length: as for timed_network_check.
+ * list:          the first of `list_length` numbers that can be written.
+ * list_length:   how many numbers there are. 7 x 1,024 are always enough. It
+ *                may be 0; then the pointer is not used.
+ *
+ * Each passage takes seven numbers: component, edge, location, entry, ready,
+ * end, message (255 for no message). The passages stand in the order of the
+ * schedule from the front of the list on. The numbers past them stay as they
+ * were; after a refusal the whole list does.
+ *
+ * Refused with 1 to 12 as timed_network_check refuses, then with 13 where
+ * list_length is below 7 x the number of passages.
+ *
+ * The list must not overlap the table.
+ */
+CallNumbers timed_network_schedule(const uint8_t *table, size_t length,
+                                   uint32_t *list, size_t list_length);
 
 #ifdef __cplusplus
 }

@@ -3,18 +3,22 @@
 #![forbid(unsafe_code)]
 
 use comparison::random::Random;
+use comparison::readers::{second_reader, second_schedule};
+use comparison::tables::planned::{greatest_horizon, table, Plan, Style};
 use comparison::tables::{of_length, Values, WORKED_EXAMPLE};
-use reference::table::{check_only, read_table, write_table};
+use reference::calls;
+use reference::checks::verdict;
+use reference::table::write_table;
 use std::hint::black_box;
 use std::process::ExitCode;
 use std::time::{Duration, Instant};
-use timed_network::{check, Verdict};
+use timed_network::{check, schedule, Verdict, FIELDS, MAX_PASSAGES};
 
 /// How often each loop is timed; the median counts.
-const REPETITIONS: usize = 25;
+const REPETITIONS: usize = 15;
 /// A loop makes so many calls that it takes about this long.
 const LOOP: Duration = Duration::from_millis(20);
-/// The length of the generated table.
+/// The length of the table that is refused soon after it is read.
 const LARGE: usize = 8000;
 
 fn main() -> ExitCode {
@@ -22,16 +26,16 @@ fn main() -> ExitCode {
         eprintln!("benchmark: build it with --release");
         return ExitCode::from(2);
     }
-    println!("The table reader, checks 1 to 6: ns per call, median of {REPETITIONS} repetitions.");
-    println!("No buffers are written by this call: it reads the table and gives two numbers.");
-    let large = of_length(&mut Random::new(Random::SEED), LARGE, Values::Any);
+    println!("Checks 1 to 12 and the schedule: ns per call, median of {REPETITIONS} repetitions.");
+    println!("The lent list is the same for all calls of a loop and holds 1,024 passages.");
     let tables = [
         ("worked example", WORKED_EXAMPLE.to_vec()),
-        ("generated table", write_table(&large)),
+        ("a hub and 7 probes", hub_and_probes()),
+        ("generated table, refused when it is read", generated()),
     ];
     for (name, table) in &tables {
-        if !all_accept(table) {
-            eprintln!("benchmark: {name}: not accepted by all three");
+        if !agree(table) {
+            eprintln!("benchmark: {name}: the answers differ");
             return ExitCode::from(1);
         }
         report(name, table);
@@ -39,46 +43,90 @@ fn main() -> ExitCode {
     ExitCode::SUCCESS
 }
 
-fn all_accept(table: &[u8]) -> bool {
-    check(table) == Verdict::Accepted && check_only(table).is_ok() && read_table(table).is_ok()
+/// 8 nodes, with as many rounds as there is room for.
+fn hub_and_probes() -> Vec<u8> {
+    let plan = Plan::regular(7, 4, 2, 100);
+    let mut random = Random::new(Random::SEED);
+    let lanes = plan.plain_lanes();
+    let mut table = table(&mut random, &lanes, plan.channels, 1, &Style::PLAIN);
+    table.horizon = greatest_horizon(&table);
+    write_table(&table)
 }
 
-/// Times the three readers by turns, so that what disturbs one disturbs all.
+/// A large table whose first passages have no candidate.
+fn generated() -> Vec<u8> {
+    let large = of_length(&mut Random::new(Random::SEED), LARGE, Values::Any);
+    write_table(&large)
+}
+
+/// Whether both give the same verdict and the same schedule.
+fn agree(table: &[u8]) -> bool {
+    let [mut first, mut second] = lists();
+    let library = schedule(table, &mut first);
+    let reference = second_schedule(table, &mut second);
+    check(table) == second_reader(table) && library == reference && first == second
+}
+
+/// A list for each of the two.
+fn lists() -> [Vec<u32>; 2] {
+    [(); 2].map(|()| vec![0; FIELDS * MAX_PASSAGES])
+}
+
+/// The rows of one table.
 fn report(name: &str, table: &[u8]) {
-    let counts = [
-        calls(&check, table),
-        calls(&check_only, table),
-        calls(&read_table, table),
-    ];
-    let mut times = [const { Vec::new() }; 3];
-    for _ in 0..REPETITIONS {
-        times[0].push(time(&check, table, counts[0]));
-        times[1].push(time(&check_only, table, counts[1]));
-        times[2].push(time(&read_table, table, counts[2]));
-    }
-    let [a, b, c] = times.map(median);
     println!();
-    println!("{name}, {} bytes:", table.len());
-    println!("  (a) library check         {a:9.1}");
-    println!("  (b) reference check_only  {b:9.1}");
-    println!("  (c) reference read_table  {c:9.1}");
-    println!("  a/b {:.2}, a/c {:.2}", a / b, a / c);
+    println!("{name}, {} bytes, {}:", table.len(), outcome(table));
+    let times = by_turns(&mut || check(black_box(table)), &mut || {
+        verdict(black_box(table))
+    });
+    row("verdict", times);
+    if check(table) == Verdict::Accepted {
+        let [mut first, mut second] = lists();
+        let times = by_turns(&mut || schedule(black_box(table), &mut first), &mut || {
+            calls::schedule(black_box(table), &mut second)
+        });
+        row("schedule", times);
+    }
+}
+
+/// What is said of a table, with the number of its passages.
+fn outcome(table: &[u8]) -> String {
+    match verdict(table) {
+        Ok((_, passages)) => format!("{} passages", passages.len()),
+        Err(_) => check(table).to_string(),
+    }
+}
+
+fn row(call: &str, [library, reference]: [f64; 2]) {
+    let ratio = library / reference;
+    println!("  {call:<9} library {library:11.1}   reference {reference:11.1}   ratio {ratio:.2}");
+}
+
+/// Times both by turns, so that what disturbs one disturbs the other.
+fn by_turns<A, B>(library: &mut impl FnMut() -> A, reference: &mut impl FnMut() -> B) -> [f64; 2] {
+    let counts = [calls(library), calls(reference)];
+    let mut times = [const { Vec::new() }; 2];
+    for _ in 0..REPETITIONS {
+        times[0].push(time(library, counts[0]));
+        times[1].push(time(reference, counts[1]));
+    }
+    times.map(median)
 }
 
 /// How many calls take about as long as a loop should.
-fn calls<T>(reader: &impl Fn(&[u8]) -> T, table: &[u8]) -> usize {
-    let mut count = 16;
-    while time(reader, table, count) * (count as f64) < LOOP.as_nanos() as f64 / 2.0 {
+fn calls<T>(call: &mut impl FnMut() -> T) -> usize {
+    let mut count = 1;
+    while time(call, count) * (count as f64) < LOOP.as_nanos() as f64 / 2.0 {
         count *= 2;
     }
     count
 }
 
 /// The time of one call in nanoseconds, from a loop of so many calls.
-fn time<T>(reader: &impl Fn(&[u8]) -> T, table: &[u8], calls: usize) -> f64 {
+fn time<T>(call: &mut impl FnMut() -> T, calls: usize) -> f64 {
     let start = Instant::now();
     for _ in 0..calls {
-        black_box(reader(black_box(table)));
+        black_box(call());
     }
     start.elapsed().as_nanos() as f64 / calls as f64
 }

@@ -1,22 +1,30 @@
 //! Holds the exported library against the second implementation.
 //!
-//! Both get the same tables, class after class; the first difference ends the
-//! comparison. [`tables`] makes well-formed tables, [`layout`] and [`bytes`]
-//! serve to damage them, [`classes`] lists what is tried.
+//! Both get the same tables, class after class, and lend the same lists for
+//! the schedules; the first difference ends the comparison. [`tables`] makes
+//! well-formed tables, [`layout`] and [`bytes`] serve to damage them,
+//! [`classes`] lists what is tried, [`trial`] tries it.
 #![forbid(unsafe_code)]
 #![warn(missing_docs)]
 
 pub mod bytes;
 pub mod classes;
+pub mod difference;
 pub mod layout;
+pub mod lists;
 pub mod random;
+pub mod readers;
 pub mod stored;
 pub mod tables;
+pub mod tally;
 pub mod trial;
 
 use classes::{Class, Extent, CLASSES};
+use difference::Stop;
 use random::Random;
-use trial::{Readers, Stop, Tally, Trial, LAST_CHECK};
+use readers::{Readers, LAST_CHECK};
+use tally::Tally;
+use trial::Trial;
 
 /// Tries all classes and hands each one's counts on as soon as it is through.
 pub fn compare(
@@ -53,25 +61,39 @@ fn numbers(seed: u64, class: u64) -> Random {
 }
 
 /// What the comparison should have tried and did not: a class without cases,
-/// an answer that never came, fewer cases in all than demanded.
+/// an answer that never came, lists that never came back in one of the ways,
+/// fewer cases in all than demanded.
 pub fn gaps(tallies: &[Tally], least: u64) -> Vec<String> {
     let empty = tallies.iter().filter(|tally| tally.cases() == 0);
     let mut gaps: Vec<String> = empty
         .map(|tally| format!("nothing was tried in the class: {}", tally.class))
         .collect();
-    let never = |number: &u8| tallies.iter().all(|t| t.answers[usize::from(*number)] == 0);
+    let sum = Tally::sum(tallies);
+    let never = |number: &u8| sum.answers[usize::from(*number)] == 0;
     gaps.extend((0..=LAST_CHECK).filter(never).map(|number| match number {
         0 => "no table was accepted".to_string(),
         _ => format!("no table was refused with {number}"),
     }));
-    let cases = cases(tallies);
+    gaps.extend(list_gaps(&sum));
+    let cases = sum.cases();
     if cases < least {
         gaps.push(format!("{cases} cases are fewer than {least}"));
     }
     gaps
 }
 
+/// The ways in which no list came back.
+fn list_gaps(sum: &Tally) -> impl Iterator<Item = String> {
+    let ways = [
+        (sum.lists.written, "no list was written"),
+        (sum.lists.short, "no list was too short"),
+        (sum.lists.kept, "no list was lent for a refused table"),
+    ];
+    let never = ways.into_iter().filter(|(count, _)| *count == 0);
+    never.map(|(_, gap)| gap.to_string())
+}
+
 /// The cases of all classes.
 pub fn cases(tallies: &[Tally]) -> u64 {
-    tallies.iter().map(Tally::cases).sum()
+    Tally::sum(tallies).cases()
 }

@@ -5,8 +5,10 @@
 #![forbid(unsafe_code)]
 
 use comparison::classes::Extent;
+use comparison::difference::Stop;
 use comparison::random::Random;
-use comparison::trial::{Readers, Stop, Tally};
+use comparison::readers::Readers;
+use comparison::tally::Tally;
 use comparison::{cases, compare, gaps};
 use std::env;
 use std::process::ExitCode;
@@ -46,6 +48,7 @@ fn seed(words: &[String]) -> Option<u64> {
 
 /// The last lines, after all classes went through without a difference.
 fn conclude(tallies: &[Tally]) -> ExitCode {
+    println!("{}", Tally::sum(tallies));
     let gaps = gaps(tallies, LEAST_CASES);
     for gap in &gaps {
         println!("comparison: {gap}");

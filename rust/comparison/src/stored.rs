@@ -1,22 +1,24 @@
-//! The tables that the repository keeps, with their answers.
+//! The tables that the repository keeps, with their answers and schedules.
 
 use crate::bytes::unhex;
-use crate::trial::first_checks;
 use std::fs;
 use std::path::{Path, PathBuf};
-use table_text::corpus::{read_answers, Answer};
+use table_text::corpus::{read_answers, read_schedule, Answer};
+use table_text::schedule::{self, Passage};
 use timed_network::Verdict;
 
-/// A table and what checks 1 to 6 have to say of it.
+/// A table and what has to be said of it.
 #[derive(Clone, Debug, PartialEq, Eq)]
 pub struct Stored {
     /// The table.
     pub bytes: Vec<u8>,
-    /// What has to be said.
+    /// What checks 1 to 12 have to say.
     pub answer: Verdict,
+    /// Its schedule, where one is kept.
+    pub passages: Option<Vec<Passage>>,
 }
 
-/// The `check` requests of all files of vectors.
+/// The `check` and `schedule` requests of all files of vectors.
 pub fn vectors() -> Result<Vec<Stored>, String> {
     let folder = folder("vectors");
     let mut stored = Vec::new();
@@ -31,19 +33,35 @@ pub fn vectors() -> Result<Vec<Stored>, String> {
 }
 
 /// A line with name, request and answer between tabs, nothing if the request
-/// is another one than `check`.
+/// is neither `check` nor `schedule`.
 fn vector(line: &str) -> Option<Option<Stored>> {
     let fields: Vec<&str> = line.split('\t').collect();
     let [_, request, answer] = fields[..] else {
         return None;
     };
-    let Some(table) = request.strip_prefix("check ") else {
-        return Some(None);
+    let (kind, table) = request.split_once(' ')?;
+    let (answer, passages) = match kind {
+        "check" => (read_answer(answer)?, None),
+        "schedule" => read_schedule_answer(answer)?,
+        _ => return Some(None),
     };
     Some(Some(Stored {
         bytes: unhex(table)?,
-        answer: first_checks(read_answer(answer)?),
+        answer,
+        passages,
     }))
+}
+
+/// The printer's lines with `|` between them, or a refusal.
+fn read_schedule_answer(text: &str) -> Option<(Verdict, Option<Vec<Passage>>)> {
+    match read_answer(text) {
+        Some(Verdict::Accepted) => None,
+        Some(refused) => Some((refused, None)),
+        None => {
+            let passages = schedule::read(text.split('|')).ok()?;
+            Some((Verdict::Accepted, Some(passages)))
+        }
+    }
 }
 
 /// `accepted`, or `refused N C`.
@@ -58,24 +76,27 @@ fn read_answer(text: &str) -> Option<Verdict> {
     }
 }
 
-/// The tables of the corpus.
+/// The tables of the corpus; the accepted ones with their schedules.
 pub fn corpus() -> Result<Vec<Stored>, String> {
     let folder = folder("corpus");
     let mut stored = Vec::new();
     for (name, answer) in read_answers(&folder)? {
         let file = folder.join(format!("{name}.bin"));
         let bytes = fs::read(&file).map_err(|error| at(&file, &error.to_string()))?;
-        let answer = first_checks(verdict(answer));
-        stored.push(Stored { bytes, answer });
+        let (answer, passages) = match answer {
+            Answer::Accepted => {
+                let passages = read_schedule(&folder, &name)?;
+                (Verdict::Accepted, Some(passages))
+            }
+            Answer::Refused { number, component } => (Verdict::Refused { number, component }, None),
+        };
+        stored.push(Stored {
+            bytes,
+            answer,
+            passages,
+        });
     }
     Ok(stored)
-}
-
-fn verdict(answer: Answer) -> Verdict {
-    match answer {
-        Answer::Accepted => Verdict::Accepted,
-        Answer::Refused { number, component } => Verdict::Refused { number, component },
-    }
 }
 
 /// A folder of the repository.
@@ -105,22 +126,41 @@ fn at(path: &Path, problem: &str) -> String {
 #[cfg(test)]
 mod tests {
     use super::*;
-    use crate::trial::refused;
+    use crate::readers::refused;
+
+    fn checked(bytes: &[u8], answer: Verdict) -> Option<Option<Stored>> {
+        let bytes = bytes.to_vec();
+        Some(Some(Stored {
+            bytes,
+            answer,
+            passages: None,
+        }))
+    }
 
     #[test]
     fn a_check_is_read() {
-        let stored = |bytes, answer| Some(Some(Stored { bytes, answer }));
         let read = vector("a name\tcheck 0100\trefused 2 255");
-        assert_eq!(read, stored(vec![1, 0], refused(2, 255)));
+        assert_eq!(read, checked(&[1, 0], refused(2, 255)));
         let read = vector("empty\tcheck -\trefused 1 255");
-        assert_eq!(read, stored(vec![], refused(1, 255)));
+        assert_eq!(read, checked(&[], refused(1, 255)));
         let read = vector("later\tcheck 01\trefused 11 0");
-        assert_eq!(read, stored(vec![1], Verdict::Accepted));
+        assert_eq!(read, checked(&[1], refused(11, 0)));
+    }
+
+    #[test]
+    fn a_schedule_is_read() {
+        let text = "a name\tschedule 01\tc e l entry ready end msg|0 0 0 0 3 5 -";
+        let read = vector(text).flatten().unwrap();
+        assert_eq!(read.answer, Verdict::Accepted);
+        assert_eq!(read.passages, Some(vec![[0, 0, 0, 0, 3, 5, 255]]));
+        let read = vector("a name\tschedule 0100\trefused 2 255");
+        assert_eq!(read, checked(&[1, 0], refused(2, 255)));
     }
 
     #[test]
     fn other_requests_are_left_aside() {
-        assert_eq!(vector("a name\tschedule 0100\trefused 2 255"), Some(None));
+        assert_eq!(vector("a name\tprogram 0100\trefused 2 255"), Some(None));
+        assert_eq!(vector("a name\tpart 0100 3\t-"), Some(None));
     }
 
     #[test]
@@ -128,5 +168,6 @@ mod tests {
         assert_eq!(vector("a name\tcheck 0100"), None);
         assert_eq!(vector("a name\tcheck 010\taccepted"), None);
         assert_eq!(vector("a name\tcheck 0100\trefused 2"), None);
+        assert_eq!(vector("a name\tschedule 0100\taccepted"), None);
     }
 }

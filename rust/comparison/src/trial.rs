@@ -1,127 +1,16 @@
-//! One class of cases: each case is handed to both readers, their answers are
-//! compared and counted.
+//! One class of cases: each case is handed to both implementations, their
+//! answers are compared and counted.
 
-use crate::bytes::hex;
-use std::fmt;
-use timed_network::Verdict;
+use crate::difference::{Difference, Expected, Outcome, Stop};
+use crate::lists::{self, Lent, Unlike, AMPLE};
+use crate::readers::Readers;
+use crate::tally::Tally;
+use timed_network::{Verdict, FIELDS};
 
-/// The last check that the library's `check` answers so far. A refusal with a
-/// later number means that all these checks are passed.
-pub const LAST_CHECK: u8 = 6;
-
-/// What a reader says of a table.
-pub type Reader = fn(&[u8]) -> Verdict;
-
-/// The two readers that are compared.
-#[derive(Clone, Copy)]
-pub struct Readers {
-    /// The exported library.
-    pub library: Reader,
-    /// The second implementation.
-    pub second: Reader,
-}
-
-impl Readers {
-    /// The library against the second implementation's reader.
-    pub fn real() -> Readers {
-        Readers {
-            library: timed_network::check,
-            second: second_reader,
-        }
-    }
-}
-
-/// The second implementation's answer for checks 1 to [`LAST_CHECK`].
-pub fn second_reader(table: &[u8]) -> Verdict {
-    match reference::table::read_table(table) {
-        Ok(_) => Verdict::Accepted,
-        Err(refusal) => Verdict::Refused {
-            number: refusal.number,
-            component: refusal.component,
-        },
-    }
-}
-
-/// The part of a full answer that checks 1 to [`LAST_CHECK`] give.
-pub fn first_checks(answer: Verdict) -> Verdict {
-    match answer {
-        Verdict::Refused { number, .. } if number > LAST_CHECK => Verdict::Accepted,
-        other => other,
-    }
-}
-
-/// A refusal.
-pub const fn refused(number: u8, component: u8) -> Verdict {
-    Verdict::Refused { number, component }
-}
-
-/// How often each answer was given in a class.
-#[derive(Clone, Debug, PartialEq, Eq)]
-pub struct Tally {
-    /// The name of the class.
-    pub class: &'static str,
-    /// The accepted ones first, then those refused with 1, 2 and so on.
-    pub answers: [u64; LAST_CHECK as usize + 1],
-}
-
-impl Tally {
-    /// The number of cases.
-    pub fn cases(&self) -> u64 {
-        self.answers.iter().sum()
-    }
-}
-
-impl fmt::Display for Tally {
-    fn fmt(&self, out: &mut fmt::Formatter<'_>) -> fmt::Result {
-        let [accepted, refusals @ ..] = &self.answers;
-        write!(out, "{}: {} cases: ", self.class, self.cases())?;
-        write!(out, "accepted {accepted}")?;
-        for (number, count) in (1..).zip(refusals) {
-            write!(out, ", refused {number}: {count}")?;
-        }
-        Ok(())
-    }
-}
-
-/// A case on which the answers differ.
-#[derive(Clone, Debug, PartialEq, Eq)]
-pub struct Difference {
-    /// The name of the class.
-    pub class: &'static str,
-    /// The table handed in.
-    pub input: Vec<u8>,
-    /// What the library says.
-    pub library: Verdict,
-    /// What the second implementation says.
-    pub second: Verdict,
-    /// What has to be said, where that is known.
-    pub expected: Option<Verdict>,
-}
-
-impl fmt::Display for Difference {
-    fn fmt(&self, out: &mut fmt::Formatter<'_>) -> fmt::Result {
-        writeln!(out, "a difference in the class: {}", self.class)?;
-        writeln!(out, "input: {}", hex(&self.input))?;
-        writeln!(out, "library: {}", self.library)?;
-        write!(out, "second implementation: {}", self.second)?;
-        match self.expected {
-            Some(expected) => write!(out, "\nexpected: {expected}"),
-            None => Ok(()),
-        }
-    }
-}
-
-/// Why a class ended before its last case.
-#[derive(Clone, Debug, PartialEq, Eq)]
-pub enum Stop {
-    /// The answers differ.
-    Differs(Box<Difference>),
-    /// A file cannot be read or understood.
-    Unreadable(String),
-}
-
-/// Whether a class went on to its last case.
-pub type Outcome = Result<(), Stop>;
+/// Of the tables refused by a check up to 6, one in so many is lent a list.
+const SAMPLE_READ: u64 = 32;
+/// The same for those refused by a later check.
+const SAMPLE_SCHEDULED: u64 = 4;
 
 /// A class at work.
 pub struct Trial<'a> {
@@ -132,8 +21,7 @@ pub struct Trial<'a> {
 impl<'a> Trial<'a> {
     /// A class of which no case was tried yet.
     pub fn new(readers: &'a Readers, class: &'static str) -> Trial<'a> {
-        let answers = [0; LAST_CHECK as usize + 1];
-        let tally = Tally { class, answers };
+        let tally = Tally::new(class);
         Trial { readers, tally }
     }
 
@@ -144,41 +32,104 @@ impl<'a> Trial<'a> {
 
     /// A case whose answer is not known before.
     pub fn compare(&mut self, input: &[u8]) -> Outcome {
-        self.case(input, None)
+        self.case(input, Expected::Anything)
     }
 
     /// A case whose answer is known.
-    pub fn expect(&mut self, input: &[u8], expected: Verdict) -> Outcome {
-        self.case(input, Some(expected))
+    pub fn expect(&mut self, input: &[u8], answer: Verdict) -> Outcome {
+        self.case(input, Expected::Verdict(answer))
     }
 
-    fn case(&mut self, input: &[u8], expected: Option<Verdict>) -> Outcome {
-        let library = (self.readers.library)(input);
-        let second = (self.readers.second)(input);
-        let right = library == second && expected.is_none_or(|answer| answer == library);
-        match self.place(library) {
-            Some(place) if right => {
-                self.tally.answers[place] += 1;
-                Ok(())
-            }
-            _ => Err(Stop::Differs(Box::new(Difference {
-                class: self.tally.class,
-                input: input.to_vec(),
-                library,
-                second,
-                expected,
-            }))),
+    /// A case that is refused with this number.
+    pub fn expect_number(&mut self, input: &[u8], number: u8) -> Outcome {
+        self.case(input, Expected::Number(number))
+    }
+
+    /// A case that passes the checks up to this one.
+    pub fn expect_past(&mut self, input: &[u8], number: u8) -> Outcome {
+        self.case(input, Expected::Past(number))
+    }
+
+    /// A case that is accepted, with its schedule.
+    pub fn expect_passages(&mut self, input: &[u8], passages: &[[u32; FIELDS]]) -> Outcome {
+        self.expect(input, Verdict::Accepted)?;
+        let library = Lent::to(&self.readers.library, input, AMPLE);
+        let second = Lent::to(&self.readers.second, input, AMPLE);
+        if library.passages() == passages && second.passages() == passages {
+            return Ok(());
+        }
+        let unlike = Unlike {
+            library: format!("{:?}", library.passages()),
+            second: format!("{:?}", second.passages()),
+        };
+        let expected = format!("{passages:?}");
+        Err(self.differs(input, "schedule".to_string(), unlike, Some(expected)))
+    }
+
+    fn case(&mut self, input: &[u8], expected: Expected) -> Outcome {
+        let library = (self.readers.library.check)(input);
+        let second = (self.readers.second.check)(input);
+        if library != second || !expected.allows(library) {
+            let unlike = Unlike {
+                library: library.to_string(),
+                second: second.to_string(),
+            };
+            let expected = Some(expected.to_string());
+            return Err(self.differs(input, "check".to_string(), unlike, expected));
+        }
+        self.tally.count(library);
+        match library {
+            Verdict::Accepted => self.lend_for_accepted(input),
+            Verdict::Refused { number, .. } => self.lend_for_refused(input, number),
         }
     }
 
-    /// Where an answer is counted; nowhere if there is no such answer.
-    fn place(&self, answer: Verdict) -> Option<usize> {
-        match answer {
-            Verdict::Accepted => Some(0),
-            Verdict::Refused { number, .. } if (1..=LAST_CHECK).contains(&number) => {
-                Some(number.into())
+    /// Lends an ample list, then those of the lengths that matter.
+    fn lend_for_accepted(&mut self, input: &[u8]) -> Outcome {
+        let passages = self.lend(input, AMPLE)?;
+        if passages > 0 {
+            for length in lists::lengths(passages, self.tally.answers[0]) {
+                self.lend(input, length)?;
             }
-            Verdict::Refused { .. } => None,
         }
+        Ok(())
+    }
+
+    /// Lends a list for some of the refused tables.
+    fn lend_for_refused(&mut self, input: &[u8], number: u8) -> Outcome {
+        let every = match number {
+            ..=6 => SAMPLE_READ,
+            _ => SAMPLE_SCHEDULED,
+        };
+        let count = self.tally.answers[usize::from(number)] - 1;
+        if count.is_multiple_of(every) {
+            self.lend(input, lists::length_for_refused(count / every))?;
+        }
+        Ok(())
+    }
+
+    /// Lends both a list of this length and gives the passages written.
+    fn lend(&mut self, input: &[u8], length: usize) -> Result<usize, Stop> {
+        match lists::compare(self.readers, input, length) {
+            Ok(call) => {
+                self.tally.lists.count(call.verdict);
+                Ok(call.size)
+            }
+            Err(unlike) => {
+                let call = format!("schedule, with a list of {length} numbers");
+                Err(self.differs(input, call, unlike, None))
+            }
+        }
+    }
+
+    fn differs(&self, input: &[u8], call: String, said: Unlike, expected: Option<String>) -> Stop {
+        Stop::Differs(Box::new(Difference {
+            class: self.tally.class,
+            input: input.to_vec(),
+            call,
+            library: said.library,
+            second: said.second,
+            expected,
+        }))
     }
 }

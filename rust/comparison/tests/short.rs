@@ -1,10 +1,12 @@
 //! A short comparison: a few cases of each class.
 
 use comparison::classes::{Extent, CLASSES};
+use comparison::difference::{Expected, Stop};
 use comparison::random::Random;
-use comparison::trial::{first_checks, refused, second_reader, Readers, Stop, Tally};
+use comparison::readers::{refused, second_reader, second_schedule, Reader, Readers};
+use comparison::tally::{Lists, Tally};
 use comparison::{cases, compare, compare_class, gaps};
-use timed_network::Verdict;
+use timed_network::{Call, Verdict};
 
 fn short(readers: &Readers, seed: u64) -> Result<Vec<Tally>, Stop> {
     compare(readers, seed, &Extent::SHORT, |_| {})
@@ -47,18 +49,48 @@ fn refuses_all(_: &[u8]) -> Verdict {
     refused(1, 255)
 }
 
-/// A reader that gives a number that there is not.
-fn gives_7(table: &[u8]) -> Verdict {
+/// A reader that says 11 of what it should accept.
+fn gives_11(table: &[u8]) -> Verdict {
     match second_reader(table) {
-        Verdict::Accepted => refused(7, 0),
+        Verdict::Accepted => refused(11, 0),
         answer => answer,
+    }
+}
+
+/// A reader that gives a number that there is not.
+fn gives_13(table: &[u8]) -> Verdict {
+    match second_reader(table) {
+        Verdict::Accepted => refused(13, 255),
+        answer => answer,
+    }
+}
+
+/// A call that writes nothing and says that it did.
+fn writes_nothing(table: &[u8], list: &mut [u32]) -> Call {
+    second_schedule(table, &mut list.to_vec())
+}
+
+/// A call that clears the list that it refuses.
+fn clears_after_refusal(table: &[u8], list: &mut [u32]) -> Call {
+    let call = second_schedule(table, list);
+    if call.verdict != Verdict::Accepted {
+        list.fill(0);
+    }
+    call
+}
+
+/// A call that asks for one number more than it needs.
+fn wants_more(table: &[u8], list: &mut [u32]) -> Call {
+    match list.split_last_mut() {
+        Some((_, list)) => second_schedule(table, list),
+        None => second_schedule(table, list),
     }
 }
 
 /// Whether one of the classes tells the reader from the right one. The
 /// vectors and the corpus, the first two classes, are left aside.
-fn is_found_out(library: fn(&[u8]) -> Verdict) -> bool {
-    let second = second_reader;
+fn is_found_out(library: Reader) -> bool {
+    let second = Reader::second();
     let readers = Readers { library, second };
     CLASSES[2..].iter().any(|class| {
         let mut random = Random::new(Random::SEED);
@@ -67,25 +99,41 @@ fn is_found_out(library: fn(&[u8]) -> Verdict) -> bool {
     })
 }
 
+fn with_check(check: fn(&[u8]) -> Verdict) -> Reader {
+    let schedule = second_schedule;
+    Reader { check, schedule }
+}
+
+fn with_schedule(schedule: fn(&[u8], &mut [u32]) -> Call) -> Reader {
+    let check = second_reader;
+    Reader { check, schedule }
+}
+
 #[test]
 fn wrong_readers_are_found_out() {
-    assert!(!is_found_out(second_reader));
-    assert!(is_found_out(without::<1>));
-    assert!(is_found_out(without::<2>));
-    assert!(is_found_out(without::<3>));
-    assert!(is_found_out(without::<4>));
-    assert!(is_found_out(without::<5>));
-    assert!(is_found_out(without::<6>));
-    assert!(is_found_out(names_component_0));
-    assert!(is_found_out(refuses_all));
-    assert!(is_found_out(gives_7));
+    assert!(!is_found_out(Reader::second()));
+    let checks = [without::<1>, without::<2>, without::<3>, without::<4>];
+    let checks = checks.into_iter().chain([without::<5>, without::<6>]);
+    let checks = checks.chain([without::<7>, without::<8>, without::<9>]);
+    let checks = checks.chain([without::<10>, without::<11>, without::<12>]);
+    let checks = checks.chain([names_component_0, refuses_all, gives_11, gives_13]);
+    for (place, check) in checks.enumerate() {
+        assert!(is_found_out(with_check(check)), "{place}");
+    }
+}
+
+#[test]
+fn wrong_schedules_are_found_out() {
+    assert!(is_found_out(with_schedule(writes_nothing)));
+    assert!(is_found_out(with_schedule(clears_after_refusal)));
+    assert!(is_found_out(with_schedule(wants_more)));
 }
 
 #[test]
 fn two_readers_that_are_wrong_in_the_same_way_are_found_out_by_the_vectors() {
     let readers = Readers {
-        library: without::<6>,
-        second: without::<6>,
+        library: with_check(without::<6>),
+        second: with_check(without::<6>),
     };
     let Err(Stop::Differs(difference)) = short(&readers, 1) else {
         panic!("no difference was found");
@@ -93,49 +141,110 @@ fn two_readers_that_are_wrong_in_the_same_way_are_found_out_by_the_vectors() {
     assert_eq!(difference.class, "vectors");
     assert_eq!(difference.library, difference.second);
     let text = difference.to_string();
+    assert!(text.contains("\ncall: check\n"), "{text}");
     assert!(text.contains("\nlibrary: accepted\n"), "{text}");
     assert!(text.contains("\nexpected: refused 6 "), "{text}");
 }
 
 #[test]
+fn two_schedules_that_are_wrong_in_the_same_way_are_found_out_by_the_vectors() {
+    let readers = Readers {
+        library: with_schedule(writes_nothing),
+        second: with_schedule(writes_nothing),
+    };
+    let Err(Stop::Differs(difference)) = short(&readers, 1) else {
+        panic!("no difference was found");
+    };
+    assert_eq!(
+        (difference.class, &difference.call[..]),
+        ("vectors", "schedule")
+    );
+    let expected = difference.expected.unwrap();
+    assert!(
+        expected.starts_with("[[0, 0, 0, 0, 3, 5, 0], "),
+        "{expected}"
+    );
+}
+
+#[test]
 fn a_number_that_there_is_not_is_a_difference() {
     let readers = Readers {
-        library: gives_7,
-        second: gives_7,
+        library: with_check(gives_13),
+        second: with_check(gives_13),
     };
     assert!(matches!(short(&readers, 1), Err(Stop::Differs(_))));
 }
 
 #[test]
-fn later_checks_count_as_accepted() {
-    assert_eq!(first_checks(refused(7, 0)), Verdict::Accepted);
-    assert_eq!(first_checks(refused(12, 1)), Verdict::Accepted);
-    assert_eq!(first_checks(refused(6, 1)), refused(6, 1));
-    assert_eq!(first_checks(Verdict::Accepted), Verdict::Accepted);
+fn what_is_known_before_is_demanded() {
+    let answers = [Verdict::Accepted, refused(6, 0), refused(7, 0)];
+    let allowed = |expected: Expected| answers.map(|answer| expected.allows(answer));
+    assert_eq!(allowed(Expected::Anything), [true, true, true]);
+    assert_eq!(
+        allowed(Expected::Verdict(refused(6, 0))),
+        [false, true, false]
+    );
+    assert_eq!(allowed(Expected::Verdict(refused(6, 1))), [false; 3]);
+    assert_eq!(allowed(Expected::Number(7)), [false, false, true]);
+    assert_eq!(allowed(Expected::Past(6)), [true, false, true]);
+    assert!(!Expected::Anything.allows(refused(13, 255)));
+    assert!(!Expected::Anything.allows(refused(0, 255)));
 }
 
-fn tally(class: &'static str, answers: [u64; 7]) -> Tally {
-    Tally { class, answers }
+/// A class with these answers, and lists that came back in all ways.
+fn tally(class: &'static str, answers: [u64; 13]) -> Tally {
+    let lists = Lists {
+        written: 3,
+        short: 2,
+        kept: 1,
+    };
+    Tally {
+        class,
+        answers,
+        lists,
+    }
 }
+
+const FULL: [u64; 13] = [1, 2, 3, 4, 5, 6, 7, 8, 9, 10, 11, 12, 13];
 
 #[test]
 fn what_was_not_tried_is_told() {
-    let full = tally("full", [1, 2, 3, 4, 5, 6, 7]);
-    let empty = tally("empty", [0; 7]);
-    let some = tally("some", [0, 1, 1, 0, 1, 1, 1]);
-    assert_eq!(cases(&[full.clone(), some.clone()]), 33);
+    let full = tally("full", FULL);
+    let empty = tally("empty", [0; 13]);
+    let some = tally("some", [0, 1, 1, 0, 1, 1, 1, 1, 1, 1, 1, 1, 0]);
+    assert_eq!(cases(&[full.clone(), some.clone()]), 101);
     let one = std::slice::from_ref(&full);
-    assert_eq!(gaps(one, 28), Vec::<String>::new());
-    assert_eq!(gaps(one, 29), ["28 cases are fewer than 29"]);
+    assert_eq!(gaps(one, 91), Vec::<String>::new());
+    assert_eq!(gaps(one, 92), ["91 cases are fewer than 92"]);
     let told = ["nothing was tried in the class: empty"];
-    assert_eq!(gaps(&[full, empty], 0), told);
-    let told = ["no table was accepted", "no table was refused with 3"];
+    assert_eq!(gaps(&[full.clone(), empty], 0), told);
+    let told = [
+        "no table was accepted",
+        "no table was refused with 3",
+        "no table was refused with 12",
+    ];
     assert_eq!(gaps(&[some], 0), told);
+    let no_lists = Tally {
+        lists: Lists::default(),
+        ..full
+    };
+    let told = [
+        "no list was written",
+        "no list was too short",
+        "no list was lent for a refused table",
+    ];
+    assert_eq!(gaps(&[no_lists], 0), told);
 }
 
 #[test]
-fn a_line_tells_all_answers() {
-    let line = "name: 28 cases: accepted 1, refused 1: 2, refused 2: 3, \
-                refused 3: 4, refused 4: 5, refused 5: 6, refused 6: 7";
-    assert_eq!(tally("name", [1, 2, 3, 4, 5, 6, 7]).to_string(), line);
+fn a_line_tells_all_answers_that_were_given() {
+    let some = tally("name", [1, 2, 0, 0, 0, 0, 0, 0, 3, 0, 0, 0, 4]);
+    let line = "name: 10 cases: accepted 1, refused 1: 2, refused 8: 3, refused 12: 4; \
+                6 lists: written 3, too short 2, table refused 1";
+    assert_eq!(some.to_string(), line);
+    let sum = Tally::sum(&[some.clone(), some]);
+    assert!(sum
+        .to_string()
+        .starts_with("all classes: 20 cases: accepted 2, "));
+    assert_eq!(sum.lists.all(), 12);
 }

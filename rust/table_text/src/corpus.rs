@@ -1,7 +1,9 @@
 //! A folder of tables: for each name a source `NAME.txt` and its bytes
-//! `NAME.bin`, and one file `answers.tsv` with the table reader's answers.
+//! `NAME.bin`, for each accepted one its schedule `NAME.schedule`, and one file
+//! `answers.tsv` with the answers of checks 1 to 12.
 
 use crate::encode_file;
+use crate::schedule::{self, Passage};
 use std::collections::BTreeSet;
 use std::fmt;
 use std::fs;
@@ -9,7 +11,7 @@ use std::path::Path;
 
 const ANSWERS: &str = "answers.tsv";
 
-/// What the table reader has to answer.
+/// What checks 1 to 12 have to answer.
 #[derive(Debug, Clone, Copy, PartialEq, Eq)]
 pub enum Answer {
     Accepted,
@@ -41,14 +43,14 @@ fn build_one(folder: &Path, name: &str) -> Result<(), String> {
     fs::write(folder.join(&file), bytes).map_err(|error| format!("{file}: {error}"))
 }
 
-/// Tries that sources, bytes and answers belong together, name by name.
-/// Answers how many names there are, or everything that is wrong.
+/// Tries that sources, bytes, answers and schedules belong together, name by
+/// name. Answers how many names there are, or everything that is wrong.
 pub fn verify(folder: &Path) -> Result<usize, Vec<String>> {
     let whole = |problem| vec![problem];
     let sources = names_with(folder, "txt").map_err(whole)?;
     let tables = names_with(folder, "bin").map_err(whole)?;
     let answers = read_answers(folder).map_err(whole)?;
-    let answered: BTreeSet<String> = answers.into_iter().map(|(name, _)| name).collect();
+    let answered: BTreeSet<String> = answers.iter().map(|(name, _)| name.clone()).collect();
     let mut problems = missing(&tables, &sources, "has no source (.txt)");
     problems.extend(missing(
         &answered,
@@ -60,7 +62,35 @@ pub fn verify(folder: &Path) -> Result<usize, Vec<String>> {
         .iter()
         .filter_map(|name| verify_one(folder, name).err());
     problems.extend(differing);
+    problems.extend(verify_schedules(folder, &answers).map_err(whole)?);
     count_unless(problems, sources.len())
+}
+
+/// What is wrong with the schedules: each accepted table has one, no other
+/// has, and all are as the printer prints them.
+fn verify_schedules(folder: &Path, answers: &[(String, Answer)]) -> Result<Vec<String>, String> {
+    let stored = names_with(folder, "schedule")?;
+    let accepted = answers.iter().filter(|(_, a)| *a == Answer::Accepted);
+    let accepted: BTreeSet<String> = accepted.map(|(name, _)| name.clone()).collect();
+    let mut problems = missing(&accepted, &stored, "is accepted and has no schedule");
+    let message = "has a schedule and is not accepted";
+    problems.extend(missing(&stored, &accepted, message));
+    let unreadable = stored
+        .iter()
+        .filter_map(|name| read_schedule(folder, name).err());
+    problems.extend(unreadable);
+    Ok(problems)
+}
+
+/// The stored schedule of a name.
+pub fn read_schedule(folder: &Path, name: &str) -> Result<Vec<Passage>, String> {
+    let file = format!("{name}.schedule");
+    let wrong = |problem: &dyn fmt::Display| format!("{file}: {problem}");
+    let text = fs::read_to_string(folder.join(&file)).map_err(|error| wrong(&error))?;
+    if !text.ends_with('\n') {
+        return Err(wrong(&"the last line does not end"));
+    }
+    schedule::read(text.lines()).map_err(|problem| wrong(&problem))
 }
 
 fn verify_one(folder: &Path, name: &str) -> Result<(), String> {

@@ -11,6 +11,7 @@ mod decode;
 mod encode;
 mod line;
 mod parse;
+pub mod schedule;
 mod source;
 
 use std::fmt;

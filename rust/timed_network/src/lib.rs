@@ -1,8 +1,9 @@
 //! Safe calls of the library that the Rattle crates export.
 //!
-//! So far there is one call, [`check`], which answers checks 1 to 6 of
-//! document 01. The declarations of the library stand in one private module;
-//! each call gets its safe form here.
+//! [`check`] answers checks 1 to 12 of document 01, [`schedule`] writes the
+//! schedule of an accepted table into a lent list, [`passages`] gives it as a
+//! list of its own. The declarations of the library stand in one private
+//! module; each call gets its safe form here.
 #![deny(unsafe_code)]
 #![warn(missing_docs)]
 
@@ -10,7 +11,15 @@ mod exported;
 
 use std::fmt;
 
-/// What the library says of a table.
+/// The numbers that a passage takes in a list: component, edge, location,
+/// entry, ready, end, message.
+pub const FIELDS: usize = 7;
+/// The most passages that a schedule has.
+pub const MAX_PASSAGES: usize = 1024;
+/// The seventh number of a passage without a message.
+pub const NO_MESSAGE: u32 = 255;
+
+/// What the library says of a table or of a call.
 #[derive(Clone, Copy, Debug, PartialEq, Eq)]
 pub enum Verdict {
     /// All checks are passed.
@@ -24,6 +33,15 @@ pub enum Verdict {
     },
 }
 
+impl Verdict {
+    fn of(number: u8, component: u8) -> Verdict {
+        match number {
+            0 => Verdict::Accepted,
+            number => Verdict::Refused { number, component },
+        }
+    }
+}
+
 /// Written as the vectors write it: `accepted`, or `refused N C`.
 impl fmt::Display for Verdict {
     fn fmt(&self, out: &mut fmt::Formatter<'_>) -> fmt::Result {
@@ -32,6 +50,15 @@ impl fmt::Display for Verdict {
             Verdict::Refused { number, component } => write!(out, "refused {number} {component}"),
         }
     }
+}
+
+/// The answer of a call that writes into a lent list.
+#[derive(Clone, Copy, Debug, PartialEq, Eq)]
+pub struct Call {
+    /// Checks 1 to 12, then 13 for a list that is too short.
+    pub verdict: Verdict,
+    /// How many passages were written; 0 after a refusal.
+    pub size: usize,
 }
 
 /// Tries a table.
@@ -44,11 +71,52 @@ impl fmt::Display for Verdict {
 /// ```
 pub fn check(table: &[u8]) -> Verdict {
     let answer = exported::check(table);
-    match answer.number {
-        0 => Verdict::Accepted,
-        number => Verdict::Refused {
-            number,
-            component: answer.component,
-        },
+    Verdict::of(answer.number, answer.component)
+}
+
+/// Writes the schedule of a table to the front of the list, [`FIELDS`] numbers
+/// a passage. What stands past it stays; after a refusal the whole list does.
+///
+/// ```
+/// use timed_network::{schedule, Verdict};
+///
+/// let mut list = [7; 14];
+/// let call = schedule(&[], &mut list);
+/// let (number, component) = (1, 255);
+/// assert_eq!(call.verdict, Verdict::Refused { number, component });
+/// assert_eq!((call.size, list), (0, [7; 14]));
+/// ```
+pub fn schedule(table: &[u8], list: &mut [u32]) -> Call {
+    let answer = exported::schedule(table, list);
+    Call {
+        verdict: Verdict::of(answer.number, answer.component),
+        size: answer.size as usize,
     }
+}
+
+/// The schedule of a table, or why there is none.
+///
+/// ```
+/// use timed_network::{passages, Verdict};
+///
+/// let (number, component) = (1, 255);
+/// assert_eq!(passages(&[]), Err(Verdict::Refused { number, component }));
+/// ```
+pub fn passages(table: &[u8]) -> Result<Vec<[u32; FIELDS]>, Verdict> {
+    let mut list = vec![0; FIELDS * MAX_PASSAGES];
+    let Call { verdict, size } = schedule(table, &mut list);
+    match verdict {
+        Verdict::Accepted => Ok(rows(&list[..FIELDS * size])),
+        refused => Err(refused),
+    }
+}
+
+/// The numbers of a list, passage by passage.
+fn rows(list: &[u32]) -> Vec<[u32; FIELDS]> {
+    let row = |numbers: &[u32]| {
+        let mut row = [0; FIELDS];
+        row.copy_from_slice(numbers);
+        row
+    };
+    list.chunks_exact(FIELDS).map(row).collect()
 }

@@ -1,42 +1,9 @@
-//! The safe call: the worked example and what is next to it.
+//! The safe call `check`: the worked example and what is next to it.
 
+mod common;
+
+use common::*;
 use timed_network::{check, Verdict};
-
-/// "Probe and hub": 103 bytes.
-const PROBE_AND_HUB: [u8; 103] = [
-    1, 0, 103, 2, 1, 0, 20, // header
-    0, 38, 2, 0, 1, 0, 2, // component 0, the probe
-    0, 0, 5, // location 0
-    0, 0, 10, // location 1
-    1, 0, 1, 0, 1, 0, 1, // edge 0, a send
-    0, 0, 3, 255, 255, // its clock bound
-    0,   // its channel
-    0, 1, 0, 1, 1, 0, 0, // edge 1, internal
-    0, 0, 8, 255, 255, // its clock bound
-    0, 58, 3, 0, 1, 1, 3, // component 1, the hub
-    0, 0, 6, // location 0
-    0, 0, 10, // location 1
-    0, 0, 10, // location 2
-    2, 0, 2, 0, 1, 0, 1, // edge 0, a receive
-    0, 0, 2, 255, 255, // its clock bound
-    0, 1, // its pair
-    0, 1, 0, 1, 1, 0, 1, // edge 1, internal
-    0, 0, 9, 255, 255, // its clock bound
-    0, 1, 0, 1, // its update
-    0, 2, 0, 1, 1, 0, 0, // edge 2, internal
-    0, 0, 9, 255, 255, // its clock bound
-];
-
-fn refused(number: u8, component: u8) -> Verdict {
-    Verdict::Refused { number, component }
-}
-
-/// The worked example with one byte changed.
-fn with(at: usize, byte: u8) -> Vec<u8> {
-    let mut table = PROBE_AND_HUB.to_vec();
-    table[at] = byte;
-    table
-}
 
 #[test]
 fn the_worked_example_is_accepted() {
@@ -55,6 +22,16 @@ fn a_refusal_gives_its_number_and_its_component() {
     assert_eq!(check(&with(6, 0)), refused(3, 255));
     assert_eq!(check(&with(8, 37)), refused(4, 0));
     assert_eq!(check(&with(48, 3)), refused(5, 1));
+}
+
+#[test]
+fn refusals_of_the_worked_example_s_neighbours() {
+    let hub_low_3 = with(70, 3);
+    assert_eq!(check(&hub_low_3), refused(11, 0));
+    let hub_bound_5 = with(54, 5);
+    assert_eq!(check(&hub_bound_5), refused(11, 0));
+    let probe_low_5 = with(29, 5);
+    assert_eq!(check(&probe_low_5), refused(8, 0));
 }
 
 #[test]

@@ -4,9 +4,10 @@
 use super::bases;
 use super::Extent;
 use crate::bytes::{set_two, TOTAL};
+use crate::difference::Outcome;
 use crate::layout::Layout;
 use crate::random::Random;
-use crate::trial::{Outcome, Trial};
+use crate::trial::Trial;
 
 /// The lengths inside stay as they are.
 pub(super) fn kept(trial: &mut Trial, random: &mut Random, extent: &Extent) -> Outcome {

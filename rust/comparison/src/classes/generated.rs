@@ -3,28 +3,28 @@
 use super::bases;
 use super::Extent;
 use crate::bytes::set;
+use crate::difference::Outcome;
 use crate::layout::{Field, Layout};
 use crate::random::Random;
 use crate::tables::{of_length, table, Shape, Values, SHORTEST_EXACT};
-use crate::trial::{Outcome, Trial};
+use crate::trial::Trial;
 use reference::table::{write_table, Table};
-use timed_network::Verdict;
 
-/// Well-formed tables, all of them accepted.
+/// Well-formed tables: all of them pass checks 1 to 6.
 pub(super) fn well_formed(trial: &mut Trial, random: &mut Random, extent: &Extent) -> Outcome {
     for _ in 0..4 * extent.rounds {
         for shape in [Shape::small(), Shape::any(), Shape::greatest()] {
             let values = random.pick(&[Values::Small, Values::Any, Values::Ends]);
-            accept(trial, &table(random, &shape.with_values(values)))?;
+            well_read(trial, &table(random, &shape.with_values(values)))?;
         }
         let length = random.within(SHORTEST_EXACT..=8192);
-        accept(trial, &of_length(random, length, Values::Any))?;
+        well_read(trial, &of_length(random, length, Values::Any))?;
     }
     Ok(())
 }
 
-fn accept(trial: &mut Trial, table: &Table) -> Outcome {
-    trial.expect(&write_table(table), Verdict::Accepted)
+fn well_read(trial: &mut Trial, table: &Table) -> Outcome {
+    trial.expect_past(&write_table(table), 6)
 }
 
 /// Up to three numbers of a table take another value.

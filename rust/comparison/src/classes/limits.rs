@@ -3,12 +3,13 @@
 use super::bases;
 use super::Extent;
 use crate::bytes::{set, state_length};
+use crate::difference::Outcome;
 use crate::layout::Layout;
 use crate::random::Random;
+use crate::readers::refused;
 use crate::tables::{of_length, table, Shape, Values, WORKED_EXAMPLE};
-use crate::trial::{refused, Outcome, Trial};
+use crate::trial::Trial;
 use reference::table::write_table;
-use timed_network::Verdict;
 
 /// Sets a count in a shape.
 type Count = fn(&mut Shape, u8);
@@ -44,7 +45,7 @@ fn around_counts(trial: &mut Trial, random: &mut Random, shape: &Shape) -> Outco
         let component = if number == 3 { 255 } else { 0 };
         for count in [least, greatest - 1, greatest] {
             let bytes = with_count(random, shape, set_count, count);
-            trial.expect(&bytes, Verdict::Accepted)?;
+            trial.expect_past(&bytes, 6)?;
         }
         let past = (least > 0).then(|| least - 1).into_iter();
         for count in past.chain([greatest + 1]) {
@@ -67,11 +68,10 @@ fn around_longest(trial: &mut Trial, random: &mut Random) -> Outcome {
     for length in 8191..=8194 {
         let table = of_length(random, length, Values::Any);
         let mut bytes = write_table(&table);
-        let answer = match length {
-            ..=8192 => Verdict::Accepted,
-            _ => refused(2, 255),
-        };
-        trial.expect(&bytes, answer)?;
+        match length {
+            ..=8192 => trial.expect_past(&bytes, 6)?,
+            _ => trial.expect(&bytes, refused(2, 255))?,
+        }
         bytes.push(0);
         trial.expect(&bytes, refused(2, 255))?;
         bytes.truncate(length - 1);

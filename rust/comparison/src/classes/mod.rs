@@ -1,16 +1,22 @@
 //! The classes of cases.
 
 mod bases;
+mod close;
 mod cuts;
 mod generated;
 mod limits;
+mod long;
+mod near_misses;
 mod one_byte;
+mod planned;
 mod random_bytes;
 mod shifted;
 mod stored;
+mod ties;
 
+use crate::difference::Outcome;
 use crate::random::Random;
-use crate::trial::{Outcome, Trial};
+use crate::trial::Trial;
 
 /// How much is tried.
 #[derive(Clone, Copy, Debug, PartialEq, Eq)]
@@ -50,7 +56,7 @@ const fn class(name: &'static str, run: fn(&mut Trial, &mut Random, &Extent) -> 
 }
 
 /// All classes, in the order in which they are tried.
-pub const CLASSES: [Class; 17] = [
+pub const CLASSES: [Class; 35] = [
     class("vectors", stored::vectors),
     class("corpus", stored::corpus),
     class("random bytes", random_bytes::anything),
@@ -68,4 +74,22 @@ pub const CLASSES: [Class; 17] = [
     class("random numbers changed", generated::numbers_changed),
     class("parts repeated or left out", shifted::parts),
     class("lengths and bytes shifted", shifted::bytes),
+    class("a hub and its probes", planned::regular),
+    class("planned tables", planned::sparse),
+    class("planned tables, many edges", planned::crowded),
+    class("planned tables, late ticks", planned::far),
+    class("internal loops", planned::workers),
+    class("planned tables and internal loops", planned::mixed),
+    class("schedules near 1,024 passages", long::most),
+    class("loops that end near 1,024 passages", long::ending),
+    class("bounds moved by one", near_misses::moved_bounds),
+    class("windows of one tick", near_misses::no_candidate),
+    class("counters that overflow", near_misses::overflow),
+    class("two senders on one tick", near_misses::senders),
+    class("listeners too short, none or two", near_misses::listeners),
+    class("one listener for two sends", near_misses::one_for_two),
+    class("plans with windows moved", close::moved_windows),
+    class("windows close together", close::windows),
+    class("sends that end together", ties::messages),
+    class("windows that meet at an entry", ties::entries),
 ];

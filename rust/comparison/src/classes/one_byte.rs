@@ -2,8 +2,9 @@
 
 use super::bases::{self, Base};
 use super::Extent;
+use crate::difference::Outcome;
 use crate::random::Random;
-use crate::trial::{Outcome, Trial};
+use crate::trial::Trial;
 
 /// Each byte of the worked example takes all 255 other values.
 pub(super) fn worked_example(trial: &mut Trial, _: &mut Random, extent: &Extent) -> Outcome {

@@ -3,8 +3,9 @@
 
 use super::Extent;
 use crate::bytes::{set_two, state_length};
+use crate::difference::Outcome;
 use crate::random::Random;
-use crate::trial::{Outcome, Trial};
+use crate::trial::Trial;
 use reference::table::{MAX_CHANNELS, MAX_COMPONENTS, MAX_TICKS};
 
 /// A length: mostly a short one, sometimes past 8,192.

@@ -4,10 +4,11 @@
 use super::bases::{self, Base};
 use super::Extent;
 use crate::bytes::{add_two, left_out, repeated, replaced, set_two, two, Lengths};
+use crate::difference::Outcome;
 use crate::layout::Layout;
 use crate::random::Random;
 use crate::tables::{table, Shape};
-use crate::trial::{Outcome, Trial};
+use crate::trial::Trial;
 use reference::table::write_table;
 
 /// A part stands there twice, or not at all; its count says so. Tables at the

@@ -1,10 +1,12 @@
-//! Well-formed tables made at random: each one passes checks 1 to 6.
+//! Well-formed tables made at random: each one passes checks 1 to 6. Those of
+//! [`planned`] are made to pass 7 to 12 too, or to fail one of them narrowly.
 //!
 //! They are built as the second implementation's types, so that they can be
 //! changed before `write_table` turns them into bytes.
 
 mod edges;
 mod exact;
+pub mod planned;
 mod values;
 
 pub use exact::{of_length, SHORTEST_EXACT};

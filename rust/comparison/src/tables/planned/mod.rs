@@ -1,0 +1,48 @@
+//! Tables made from a plan: first the windows of each component, then the
+//! locations, clocks and edges that give these windows. What a plan promises
+//! (no two senders at once, one listener around each send) the table keeps, so
+//! it is accepted; a plan that breaks one promise gives a near miss.
+
+mod bounds;
+mod component;
+mod decoys;
+mod horizon;
+mod lanes;
+mod slots;
+mod style;
+mod worker;
+
+pub use component::component;
+pub use horizon::{greatest_horizon, near_passages, passages, shortened};
+pub use lanes::{Lane, Step, Target, Work};
+pub use slots::{Plan, Size, Slot};
+pub use style::Style;
+pub use worker::{worker, Work as WorkerSize};
+
+use crate::random::Random;
+use reference::table::{write_table, Table, LENGTHS};
+
+/// The table of these lanes, one component a lane. If it would be too long in
+/// this style it is written plainly.
+pub fn table(
+    random: &mut Random,
+    lanes: &[Lane],
+    channels: u8,
+    horizon: u16,
+    style: &Style,
+) -> Table {
+    let mut with = |style: &Style| Table {
+        channels,
+        horizon,
+        components: lanes
+            .iter()
+            .map(|lane| component(random, lane, channels, style))
+            .collect(),
+    };
+    let table = with(style);
+    if write_table(&table).len() <= *LENGTHS.end() {
+        table
+    } else {
+        with(&Style::PLAIN)
+    }
+}

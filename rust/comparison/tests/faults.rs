@@ -1,0 +1,75 @@
+//! Implementations that are wrong in one point are found out.
+
+mod plain;
+
+use comparison::classes::{Extent, CLASSES};
+use comparison::compare_class;
+use comparison::difference::{Outcome, Stop};
+use comparison::random::Random;
+use comparison::readers::{Reader, Readers};
+use plain::Fault;
+
+/// Implementations, each with one of the faults.
+macro_rules! wrong {
+    ($($fault:ident)*) => {
+        [$((
+            Fault::$fault,
+            Reader {
+                check: |table| plain::check(table, Fault::$fault),
+                schedule: |table, list| plain::write(table, list, Fault::$fault),
+            },
+        )),*]
+    };
+}
+
+const EXTENT: Extent = Extent {
+    rounds: 10,
+    step: 41,
+};
+
+/// Tries a class with an implementation in the library's place.
+fn tried(library: Reader, class: usize) -> Outcome {
+    let second = Reader::second();
+    let readers = Readers { library, second };
+    let mut random = Random::new(Random::SEED + class as u64);
+    compare_class(&readers, &CLASSES[class], &mut random, &EXTENT).map(|_| ())
+}
+
+/// A class that finds the fault, all but vectors and corpus tried, the last
+/// one first.
+fn finder(library: Reader) -> Option<&'static str> {
+    let finds = |class: &usize| matches!(tried(library, *class), Err(Stop::Differs(_)));
+    let class = (2..CLASSES.len()).rev().find(finds)?;
+    Some(CLASSES[class].name)
+}
+
+#[test]
+fn the_plain_implementation_agrees_with_the_second() {
+    let [(_, right)] = wrong![None];
+    for (number, class) in CLASSES.iter().enumerate() {
+        assert_eq!(tried(right, number), Ok(()), "{}", class.name);
+    }
+}
+
+#[test]
+fn each_fault_is_found() {
+    let faults = wrong![
+        TieToHighestEdge LastReadyTaken WindowOfOneTick HighsIgnored FirstBoundOnly DataIgnored
+        DataUnsigned ClocksGrowByWindow AllClocksReset NoClockReset UpdatesFromTheEnd
+        OverflowWraps OverflowFoundAtClosing TicksOf16Bits ClosesAtHorizon CloseTieToHighest
+        OnePassageMore OnePassageLess SevenAfterEight SevenAfterNine
+        MessageStartsTogether MessageEndsTogether MessageFromHorizonOn MessageAtHorizon
+        MessageTieToHighest MessageTieToFirstOpened MessageEndingLast MessageOfOpenForgotten
+        TimeoutToFirstPair TouchingSendsAllowed OwnSendsCollide SendsFromHorizonOnCount
+        SendsAtHorizonCount SendsEndingLaterForgotten ListenerStartsTogether
+        ListenerEndsTogether SecondListenerAllowed TouchingListenerAllowed
+        ListenersFromHorizonOnForgotten OwnListenerCounts OtherChannelHeard
+        TwoSendsForOneListener TwoSendsOfOneComponent OwnSendHeard EntryTickMissed
+        TwelveBeforeEleven ElevenBeforeTen LastAtFaultNamed MessageWrittenAs0 PassagesByEnd
+    ];
+    for (fault, library) in faults {
+        let finder = finder(library);
+        println!("{fault:?}: {finder:?}");
+        assert!(finder.is_some(), "{fault:?} is not found");
+    }
+}

@@ -1,0 +1,180 @@
+//! The message of a receive, and checks 10 to 12, each over all pairs.
+
+use super::{verdict, Fault, Passage};
+use reference::table::*;
+use timed_network::Verdict;
+
+/// The message of a passage, looked for among the passages that there are.
+pub fn message(table: &Table, list: &[Passage], index: usize, fault: Fault) -> Option<u8> {
+    let own = &list[index];
+    let Action::Receive(_) = own.edge(table).action else {
+        return own.message;
+    };
+    let horizon = u32::from(table.horizon);
+    let heard = list.iter().enumerate().filter(|(_, send)| {
+        let starts = match fault {
+            Fault::MessageStartsTogether => own.ready <= send.ready,
+            _ => own.ready < send.ready,
+        };
+        let ends = match fault {
+            Fault::MessageEndsTogether => send.end <= own.end,
+            _ => send.end < own.end,
+        };
+        let before = match fault {
+            Fault::MessageFromHorizonOn => true,
+            Fault::MessageAtHorizon => send.ready <= horizon,
+            _ => send.ready < horizon,
+        };
+        send.component != own.component && names(table, own, send) && starts && ends && before
+    });
+    let taken = heard.min_by_key(|(place, send)| match fault {
+        Fault::MessageTieToHighest => (send.end, 8 - send.component),
+        Fault::MessageTieToFirstOpened => (send.end, *place),
+        Fault::MessageEndingLast => (u32::MAX - send.end, send.component),
+        _ => (send.end, send.component),
+    });
+    taken.and_then(|(_, send)| send.message)
+}
+
+/// Whether one is a receive that names the channel of the other, a send.
+fn names(table: &Table, receive: &Passage, send: &Passage) -> bool {
+    match send.edge(table).action {
+        Action::Send(channel) => receive.edge(table).listens_to(channel),
+        _ => false,
+    }
+}
+
+fn share(one: &Passage, other: &Passage) -> bool {
+    one.ready <= other.end && other.ready <= one.end
+}
+
+/// The same without windows that have one tick in common.
+fn overlap(one: &Passage, other: &Passage) -> bool {
+    one.ready < other.end && other.ready < one.end
+}
+
+/// Checks 10 to 12.
+pub fn check_messages(table: &Table, list: &[Passage], fault: Fault) -> Result<(), Verdict> {
+    let all = All { table, list, fault };
+    let numbers = match fault {
+        Fault::TwelveBeforeEleven => [10, 12, 11],
+        Fault::ElevenBeforeTen => [11, 10, 12],
+        _ => [10, 11, 12],
+    };
+    for number in numbers {
+        let at_fault = |own: &&Passage| match number {
+            10 => all.collides(own),
+            11 => all.is_send(own) && !all.is_heard_once(own),
+            _ => all.hears_two(own),
+        };
+        let first = match fault {
+            Fault::LastAtFaultNamed => list.iter().rev().find(at_fault),
+            _ => list.iter().find(at_fault),
+        };
+        if let Some(own) = first {
+            return Err(verdict(number, own.component));
+        }
+    }
+    Ok(())
+}
+
+struct All<'a> {
+    table: &'a Table,
+    list: &'a [Passage],
+    fault: Fault,
+}
+
+impl All<'_> {
+    /// A send with ready < H.
+    fn is_send(&self, own: &Passage) -> bool {
+        let sends = matches!(own.edge(self.table).action, Action::Send(_));
+        let horizon = u32::from(self.table.horizon);
+        let counts = match self.fault {
+            Fault::SendsFromHorizonOnCount => true,
+            Fault::SendsAtHorizonCount => own.ready <= horizon,
+            Fault::SendsEndingLaterForgotten => own.end < horizon,
+            _ => own.ready < horizon,
+        };
+        sends && counts
+    }
+
+    /// Whether two windows meet; a passage entered when the other one ends
+    /// may be missed.
+    fn meet(&self, one: &Passage, other: &Passage) -> bool {
+        let missed = one.entry == other.end || other.entry == one.end;
+        share(one, other) && !(missed && self.fault == Fault::EntryTickMissed)
+    }
+
+    fn collides(&self, own: &Passage) -> bool {
+        let others = self.list.iter().filter(|other| {
+            let apart = other.component != own.component;
+            let itself = std::ptr::eq(*other, own);
+            apart || self.fault == Fault::OwnSendsCollide && !itself
+        });
+        let mut sends = others.filter(|other| self.is_send(other));
+        self.is_send(own)
+            && sends.any(|other| match self.fault {
+                Fault::TouchingSendsAllowed => overlap(own, other),
+                _ => self.meet(own, other),
+            })
+    }
+
+    fn is_heard_once(&self, own: &Passage) -> bool {
+        let listeners: Vec<&Passage> = self
+            .list
+            .iter()
+            .filter(|other| self.listens(other, own))
+            .collect();
+        let enclosing = |listener: &&Passage| {
+            let starts = match self.fault {
+                Fault::ListenerStartsTogether => listener.ready <= own.ready,
+                _ => listener.ready < own.ready,
+            };
+            let ends = match self.fault {
+                Fault::ListenerEndsTogether => own.end <= listener.end,
+                _ => own.end < listener.end,
+            };
+            starts && ends
+        };
+        match (self.fault, &listeners[..]) {
+            (Fault::SecondListenerAllowed, several) => several.iter().any(enclosing),
+            (_, [one]) => enclosing(one),
+            _ => false,
+        }
+    }
+
+    /// Whether a receive window counts for a send.
+    fn listens(&self, other: &Passage, send: &Passage) -> bool {
+        let edge = other.edge(self.table);
+        let named = match self.fault {
+            Fault::OtherChannelHeard => matches!(edge.action, Action::Receive(_)),
+            _ => names(self.table, other, send),
+        };
+        let apart = other.component != send.component || self.fault == Fault::OwnListenerCounts;
+        let meets = match self.fault {
+            Fault::TouchingListenerAllowed => overlap(other, send),
+            _ => self.meet(other, send),
+        };
+        let horizon = u32::from(self.table.horizon);
+        let forgotten =
+            self.fault == Fault::ListenersFromHorizonOnForgotten && other.ready >= horizon;
+        named && apart && meets && !forgotten
+    }
+
+    fn hears_two(&self, own: &Passage) -> bool {
+        let heard = self.list.iter().filter(|send| {
+            let apart = send.component != own.component || self.fault == Fault::OwnSendHeard;
+            self.is_send(send) && apart && names(self.table, own, send) && self.meet(own, send)
+        });
+        let mut components: Vec<usize> = heard.map(|send| send.component).collect();
+        match self.fault {
+            Fault::TwoSendsForOneListener => return false,
+            Fault::TwoSendsOfOneComponent => {
+                components.sort();
+                components.dedup();
+            }
+            _ => {}
+        }
+        components.len() > 1
+    }
+}

@@ -1,0 +1,177 @@
+//! The opening of a passage, and what a closed one leaves behind.
+
+use super::{verdict, Fault, Passage};
+use reference::table::*;
+use timed_network::Verdict;
+
+/// Component, location, entry, clocks and variables.
+pub type Entered = (usize, u8, u32, [u32; 4], [i32; 4]);
+
+/// Opens a passage: 7, 8, 9.
+pub fn opened(
+    table: &Table,
+    entered: Entered,
+    count: usize,
+    fault: Fault,
+) -> Result<Passage, Verdict> {
+    let (component, location, entry, clocks, variables) = entered;
+    let most = match fault {
+        Fault::OnePassageMore => 1025,
+        Fault::OnePassageLess => 1023,
+        _ => 1024,
+    };
+    let full = count >= most;
+    if full && fault != Fault::SevenAfterEight && fault != Fault::SevenAfterNine {
+        return Err(verdict(7, component));
+    }
+    let Some((edge, [ready, end])) = taken(table, entered, fault) else {
+        return Err(verdict(8, component));
+    };
+    if full && fault == Fault::SevenAfterEight {
+        return Err(verdict(7, component));
+    }
+    let edge_taken = &table.components[component].edges[edge];
+    let found_now = fault != Fault::OverflowFoundAtClosing;
+    if found_now && updated(edge_taken, variables, fault).is_none() {
+        return Err(verdict(9, component));
+    }
+    if full {
+        return Err(verdict(7, component));
+    }
+    let tick = |delay: u32| match fault {
+        Fault::TicksOf16Bits => (entry + delay) & 0xffff,
+        _ => entry + delay,
+    };
+    let message = match edge_taken.action {
+        Action::Send(channel) => Some(channel),
+        _ => None,
+    };
+    Ok(Passage {
+        component,
+        edge,
+        location,
+        entry,
+        ready: tick(ready),
+        end: tick(end),
+        message,
+        clocks,
+        variables,
+    })
+}
+
+/// The edge taken and its window, counted from the entry.
+fn taken(table: &Table, entered: Entered, fault: Fault) -> Option<(usize, [u32; 2])> {
+    let (component, location, _, clocks, variables) = entered;
+    let own = &table.components[component];
+    let mut best: Option<(usize, [u32; 2])> = None;
+    for (number, edge) in own.edges.iter().enumerate() {
+        let holds = fault == Fault::DataIgnored || data_holds(edge, variables, fault);
+        if edge.source != location || !holds {
+            continue;
+        }
+        let window = window(&own.locations[usize::from(location)], edge, clocks, fault);
+        let long_enough = |[ready, end]: &[u32; 2]| {
+            ready < end || fault == Fault::WindowOfOneTick && ready == end
+        };
+        if let Some(window) = window.filter(long_enough) {
+            let better = best.is_none_or(|(_, kept)| match fault {
+                Fault::TieToHighestEdge => window[0] <= kept[0],
+                Fault::LastReadyTaken => window[0] > kept[0],
+                _ => window[0] < kept[0],
+            });
+            if better {
+                best = Some((number, window));
+            }
+        }
+    }
+    best
+}
+
+/// The first and the last tick at which everything holds, tick by tick.
+fn window(location: &Location, edge: &Edge, clocks: [u32; 4], fault: Fault) -> Option<[u32; 2]> {
+    let bounds = match fault {
+        Fault::FirstBoundOnly => 1,
+        _ => 4,
+    };
+    let reach = |clock: u8, bound: u16| i64::from(bound) - i64::from(clocks[usize::from(clock)]);
+    let mut first = 0;
+    let mut last = reach(location.clock, location.bound);
+    for bound in edge.clock_bounds.iter().take(bounds) {
+        first = first.max(reach(bound.clock, bound.low));
+        if let (Some(high), true) = (bound.high, fault != Fault::HighsIgnored) {
+            last = last.min(reach(bound.clock, high));
+        }
+    }
+    (first <= last).then_some([first as u32, last as u32])
+}
+
+fn data_holds(edge: &Edge, variables: [i32; 4], fault: Fault) -> bool {
+    let read = |number: i32| match fault {
+        Fault::DataUnsigned => number & 0xffff,
+        _ => number,
+    };
+    edge.data_bounds.iter().all(|bound| {
+        let value = read(variables[usize::from(bound.variable)]);
+        read(bound.low.into()) <= value && value <= read(bound.high.into())
+    })
+}
+
+/// The variables after an edge's updates, if they stay in range.
+fn updated(edge: &Edge, mut variables: [i32; 4], fault: Fault) -> Option<[i32; 4]> {
+    let Action::Internal(updates) = &edge.action else {
+        return Some(variables);
+    };
+    let mut updates: Vec<Update> = updates.iter().copied().collect();
+    if fault == Fault::UpdatesFromTheEnd {
+        updates.reverse();
+    }
+    for update in updates {
+        let variable = &mut variables[usize::from(update.variable)];
+        *variable = match update.operation {
+            Operation::Set => update.number.into(),
+            Operation::Add => *variable + i32::from(update.number),
+        };
+        if i16::try_from(*variable).is_err() {
+            if fault != Fault::OverflowWraps {
+                return None;
+            }
+            *variable = i32::from(*variable as i16);
+        }
+    }
+    Some(variables)
+}
+
+/// What is entered when a passage closes.
+pub fn closed(table: &Table, passage: &Passage, fault: Fault) -> Result<Entered, Verdict> {
+    let edge = passage.edge(table);
+    let Some(variables) = updated(edge, passage.variables, fault) else {
+        return Err(verdict(9, passage.component));
+    };
+    let growth = match fault {
+        Fault::ClocksGrowByWindow => passage.end - passage.ready,
+        _ => passage.end - passage.entry,
+    };
+    let mask = match fault {
+        Fault::AllClocksReset => 0xff,
+        Fault::NoClockReset => 0,
+        _ => edge.mask,
+    };
+    let grown = |clock: usize| match mask >> clock & 1 {
+        0 => passage.clocks[clock] + growth,
+        _ => 0,
+    };
+    let clocks = std::array::from_fn(grown);
+    let location = target(edge, passage.message, fault);
+    Ok((passage.component, location, passage.end, clocks, variables))
+}
+
+fn target(edge: &Edge, message: Option<u8>, fault: Fault) -> u8 {
+    match (&edge.action, message) {
+        (Action::Receive(pairs), Some(channel)) => {
+            let named = |pair: &&Pair| pair.channel == channel;
+            pairs.iter().find(named).map_or(0, |pair| pair.location)
+        }
+        (Action::Receive(pairs), None) if fault == Fault::TimeoutToFirstPair => pairs[0].location,
+        _ => edge.destination,
+    }
+}
