@@ -74,3 +74,16 @@ pub mod WholeRun
 pub mod WholeRead
 pub mod WholeLimits
 pub mod WholePromise
+pub mod ProgressWeight
+pub mod ProgressNode
+pub mod ProgressMove
+pub mod ProgressTick
+pub mod ProgressRun
+pub mod ProgressShown
+pub mod MeaningStep
+pub mod MeaningPath
+pub mod MeaningHeard
+pub mod MeaningPass
+pub mod MeaningPresent
+pub mod MeaningStays
+pub mod MeaningLaw

@@ -16,3 +16,4 @@ pub mod Demand3
 pub mod Calls
 pub mod Build
 pub mod Cases
+pub mod Progress

@@ -125,6 +125,7 @@ fn verify_finds_what_does_not_belong() {
         "two: has no source (.txt)\n",
         "three: has an answer and no source (.txt)\n",
         "one: has no answer\n",
+        "three: is accepted and has no schedule\n",
     ];
     assert_eq!(call("verify", &folder), (Some(1), lines.concat()));
     fs::remove_dir_all(folder).unwrap();

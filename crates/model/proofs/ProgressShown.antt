@@ -1,0 +1,134 @@
+-- Something happens: every accepted table has a list of choices that ends with the horizon, with every observation due, and no run gets stuck
+-- before it. Assumes nothing.
+use mathlib.Core.Path.{_≡_, refl, sym, ap, subst, _∙_}
+use mathlib.Core.Bool.{Bool, true, cond}
+use mathlib.Core.List.{List, [], _∷_, _++_, map, append-nil, append-cancel-right}
+use Prim.Native.Nat.{ℕ, suc, _+_, _≤_, _<_}
+use native.Mathlib.Omega.{arith}
+use borrow.Author.Tests.{lt-ltb}
+use lib.Dec.{ltb}
+use lib.ListN.{length, length-append, length-map}
+use lib.Seq.{append-snoc}
+use Rattle.model.specs.Lists.{only, All, empty, more, accepted}
+use Rattle.model.specs.Table.{Read, size, componentOf}
+use Rattle.model.specs.Limits.{InLimits}
+use Rattle.model.specs.Schedule.{Visit, own}
+use Rattle.model.specs.Checks.{planOf}
+use Rattle.model.specs.Run.{settingOf, Run, Result, nodeOf, ticked, run, startRun}
+use Rattle.model.specs.Demand3.{observationsOf}
+use Rattle.model.specs.Progress.{readyPassages, dueOf, ReachesBy, Reaches, Continues, Happens}
+use Rattle.model.proofs.Members.{only-append}
+use Rattle.model.proofs.NetReached.{all-append, all-map}
+use Rattle.model.proofs.NetSays.{seen}
+use Rattle.model.proofs.NetWitness.{ahead-rest}
+use Rattle.model.proofs.WholeLimits.{read-limits}
+use Rattle.model.proofs.WholeTied.{Given, given, Held, coming, waiting, busy, leaving, resting, Tie, shownBy, Tied}
+use Rattle.model.proofs.WholeStart.{tied-start}
+use Rattle.model.proofs.WholeTick.{Live}
+use Rattle.model.proofs.WholeCount.{none-missing}
+use Rattle.model.proofs.ProgressRun.{Arrival, arrive, left, arrive-after}
+
+-- ## Lists
+
+-- all of them
+only-all : {A : Type 0} (p : A → Bool) {xs : List A} → All (λ x. p x ≡ true) xs → only p xs ≡ xs
+only-all p empty = refl
+only-all p (more {x = x} {xs = xs} e a) = ap (λ (b : Bool). cond b (x ∷ only p xs) (only p xs)) e ∙ ap (λ (l : List _). x ∷ l) (only-all p a)
+
+-- a list of no length
+nothing : {A : Type 0} (xs : List A) → length xs ≤ 0 → xs ≡ []
+nothing [] h = refl
+nothing (x ∷ xs) h = absurd (omega arith)
+
+-- those at the front all hold, and no more are counted: they are all that hold
+only-front : {A : Type 0} (p : A → Bool) (xs ys zs : List A) → xs ++ ys ≡ zs → All (λ x. p x ≡ true) xs → length (only p zs) ≤ length xs → only p zs ≡ xs
+only-front p xs ys zs e a h =
+    split ∙ (ap (λ (l : List _). xs ++ l) (nothing (only p ys) (omega (arith, ap length split, length-append xs (only p ys)))) ∙ append-nil xs)
+  where
+    split : only p zs ≡ xs ++ only p ys
+    split = ap (only p) (sym e) ∙ (only-append p xs ys ∙ ap (λ (l : List _). l ++ only p ys) (only-all p a))
+
+-- ## The observations at the horizon
+
+module _ {t : Read} {S : List Visit} (G : Given t S) {s : Run} (k : Live G s) (p : Tied G (ticked s)) (e : suc (s .tick) ≡ t .horizon) (c : ℕ) (h : c < size (t .table)) where
+  -- the node's tie before the last tick
+  abbrev K : Tie (t .table) (t .horizon) S c (s .tick) (nodeOf s c) (shownBy c (s .observations)) (k .tied .ahead c)
+  K = k .tied .ties c h
+
+  -- the passages whose work is finished were ready before the horizon
+  fin-ready : All (λ v. ltb (v .ready) (t .horizon) ≡ true) (K .fin)
+  fin-ready =
+      let r = ahead-rest (t .table) (t .horizon) S (k .tied .going .passing) c h in
+      let same : r .0 ≡ K .fin = append-cancel-right (r .0) (K .fin) (k .tied .ahead c) (r .1 ∙ sym (K .whole)) in
+      subst (All (λ v. ltb (v .ready) (t .horizon) ≡ true)) same (all-map (λ v i. lt-ltb (v .ready) (t .horizon) (omega arith)) (r .2))
+
+  -- those that were observed: the first of the schedule, all ready before the horizon
+  front : (rest : List Visit) × ((K .fin ++ K .more) ++ rest ≡ own c S) × All (λ v. ltb (v .ready) (t .horizon) ≡ true) (K .fin ++ K .more)
+  front = go (K .held)
+    where
+      Front : List Visit → Type 0
+      Front m = (rest : List Visit) × ((K .fin ++ m) ++ rest ≡ own c S) × All (λ v. ltb (v .ready) (t .horizon) ≡ true) (K .fin ++ m)
+
+      none : K .more ≡ [] → Front (K .more)
+      none m =
+          subst Front (sym m)
+          (k .tied .ahead c, ap (λ (l : List Visit). l ++ k .tied .ahead c) (append-nil (K .fin)) ∙ K .whole, all-append fin-ready empty)
+
+      go : Held (t .horizon) (componentOf (t .table) c) (s .tick) (K .count) (nodeOf s c) (k .tied .ahead c) (K .more) → Front (K .more)
+      go (coming v vs a m l q) = none m
+      go (waiting v vs a m l j q) = none m
+      go (busy v vs a m l b j q) =
+          subst Front (sym m)
+          (vs, append-snoc (K .fin) v vs ∙ (ap (λ (l : List Visit). K .fin ++ l) (sym a) ∙ K .whole), all-append fin-ready (more (lt-ltb (v .ready) (t .horizon) b) empty))
+      go (leaving at a m l q) = none m
+      go (resting at a m l j q) = none m
+
+  -- the observations are those of all passages with ready < H
+  due-shown : shownBy c (s .observations) ≡ dueOf t S c (t .horizon)
+  due-shown = K .shown ∙ ap (map (seen (componentOf (t .table) c) c)) (sym all)
+    where
+      few : length (readyPassages S c (t .horizon)) ≤ length (K .fin ++ K .more)
+      few =
+          let n = subst (λ (now : ℕ). length (readyPassages S c now) ≤ length (shownBy c (s .observations)) + 0) e (none-missing G (p .going) c h (p .ties c h)) in
+          omega (arith, ap length (K .shown), length-map (K .fin ++ K .more) (seen (componentOf (t .table) c) c))
+
+      all : readyPassages S c (t .horizon) ≡ K .fin ++ K .more
+      all = let f = front in only-front (λ v. ltb (v .ready) (t .horizon)) (K .fin ++ K .more) (f .0) (own c S) (f .1) (f .2) few
+
+-- ## The law
+
+module _ {t : Read} {S : List Visit} (G : Given t S) where
+  -- the start lies before the horizon
+  start-live : Live G (startRun (settingOf t S))
+  start-live = record { tied = tied-start G; below = omega (arith, G .limits .leastHorizon) }
+
+  -- an arrival from the start
+  reaches-by : (A : Arrival G (startRun (settingOf t S))) → ReachesBy t S (A .choices)
+  unfolding run
+  reaches-by A =
+      record {
+        end = ap (λ (r : Result). r .end) (A .is);
+        tick = ap (λ (r : Result). r .state .tick) (A .is) ∙ A .tick;
+        shown = λ c h. ap (observationsOf c) (A .is) ∙ due-shown G (A .live) (A .tied) (A .tick) c h;
+      }
+
+  -- some choices reach the horizon
+  reach : Reaches t S
+  reach = let a = arrive G (left G (startRun (settingOf t S))) start-live (omega arith) in (a .choices, reaches-by a)
+
+  -- and so do some more of any that are used up
+  go-on : Continues t S
+  unfolding run
+  go-on cs e = let a = arrive-after G cs start-live e in (a .more, subst (ReachesBy t S) (a .is) (reaches-by (a .arrival)))
+
+-- every accepted table reaches its horizon
+pub reaches : (t : Read) (S : List Visit) → InLimits t → planOf t ≡ accepted S → Reaches t S
+reaches t S l a = reach (given t S l a)
+
+-- and no run of it gets stuck
+pub continues : (t : Read) (S : List Visit) → InLimits t → planOf t ≡ accepted S → Continues t S
+continues t S l a = go-on (given t S l a)
+
+-- both, for every list of numbers that is read as a table and accepted
+pub happens : Happens
+happens bytes t S r e = let l = read-limits bytes t r in (reaches t S l e, continues t S l e)

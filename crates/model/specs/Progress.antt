@@ -1,0 +1,94 @@
+-- Beside demand 3, which speaks of every list of choices: that some list runs to the horizon, with every observation due; and that on every path
+-- that keeps to an accepted schedule a sender has exactly one partner.
+use mathlib.Core.Path.{_≡_}
+use mathlib.Core.Bool.{Bool, true}
+use mathlib.Core.List.{List, [], _∷_, _++_, map}
+use mathlib.Core.Option.{none, some}
+use Prim.Native.Nat.{ℕ, pred, _≤_, _<_}
+use lib.Dec.{ltb}
+use lib.ListN.{length}
+use Rattle.model.specs.Lists.{only, accepted}
+use Rattle.model.specs.Table.{Table, Read, size, componentOf}
+use Rattle.model.specs.Reader.{readTable}
+use Rattle.model.specs.Window.{channelOf}
+use Rattle.model.specs.Schedule.{Visit, visitArc, own}
+use Rattle.model.specs.Checks.{mayHear, planOf, visitAt}
+use Rattle.model.specs.Network.{State, Label, together, placeOf, start, mayJoin, follow, passagesOn, Observation, observation}
+use Rattle.model.specs.Run.{settingOf, run}
+use Rattle.model.specs.Demand3.{PassAs, SteppedBefore, observationsOf}
+
+-- ## Something happens
+
+-- the passages of component c that are ready before the tick, in order
+abbrev pub readyPassages : List Visit → ℕ → ℕ → List Visit
+readyPassages S c now = only (λ v. ltb (v .ready) now) (own c S)
+
+-- what component c shows in all passages that are ready before the tick, in order
+abbrev pub dueOf : Read → List Visit → ℕ → ℕ → List Observation
+dueOf t S c now = map (λ v. observation (componentOf (t .table) c) c (v .entry) (v .edge)) (readyPassages S c now)
+
+-- these choices end with the horizon, at the tick H, and the observations of each node are those of all its passages with ready < H
+pub record ReachesBy (t : Read) (S : List Visit) (choices : List ℕ) : Type 0 where
+  pub end : run (settingOf t S) choices .end ≡ 0
+  pub tick : run (settingOf t S) choices .state .tick ≡ t .horizon
+  pub shown : (c : ℕ) → c < size (t .table) → observationsOf c (run (settingOf t S) choices) ≡ dueOf t S c (t .horizon)
+
+-- some choices do
+abbrev pub Reaches : Read → List Visit → Type 0
+Reaches t S = (choices : List ℕ) × ReachesBy t S choices
+
+-- Whatever was chosen: where the choices are used up and the run has not ended otherwise, some further choices do. No run gets stuck.
+abbrev pub Continues : Read → List Visit → Type 0
+Continues t S = (choices : List ℕ) → run (settingOf t S) choices .end ≡ 1 → (more : List ℕ) × ReachesBy t S (choices ++ more)
+
+-- for every accepted table
+abbrev pub Happens : Type 0
+Happens = (bytes : List ℕ) (t : Read) (S : List Visit) → readTable bytes ≡ accepted t → planOf t ≡ accepted S → Reaches t S × Continues t S
+
+-- ## Acceptance means it
+
+-- the schedule's passage that component c is in at the end of the path: the one beside its last passage on it
+abbrev pub presentOf : Table → List Visit → List Label → ℕ → Visit
+presentOf T S path c = visitAt (own c S) (pred (length (passagesOn T c (start T) path)))
+
+-- a path of the network, to the state s, that passes as the schedule says and misses no window
+pub record OnSchedule (T : Table) (S : List Visit) (path : List Label) (s : State) : Type 0 where
+  pub valid : follow T (start T) path ≡ some s
+  pub scheduled : (c : ℕ) → c < size T → PassAs (passagesOn T c (start T) path) (own c S)
+  pub kept : (c : ℕ) → c < size T → SteppedBefore (s .tick) (passagesOn T c (start T) path) (own c S)
+
+-- component a is in its send window below the horizon, and has yet to step in (that the window's end has not passed follows)
+pub record Sending (T : Table) (H : ℕ) (S : List Visit) (path : List Label) (s : State) (a : ℕ) : Type 0 where
+  pub there : a < size T
+  pub free : placeOf s a .waiting ≡ none
+  pub channel : ℕ
+  pub sends : channelOf (visitArc T (presentOf T S path a)) ≡ some channel
+  pub ready : presentOf T S path a .ready ≤ s .tick
+  pub below : s .tick < H
+
+-- The joint step of a and b on the edges that the schedule takes. What follows is about these edges alone: the network is the table's, and where
+-- a location has several edges it may also allow one that the schedule does not take (a second receive that names the channel, say), but
+-- no node ever takes that one, and a path that does no longer passes as the schedule says.
+abbrev pub meet : Table → List Visit → List Label → ℕ → ℕ → Label
+meet T S path a b = together a (presentOf T S path a .edge) b (presentOf T S path b .edge)
+
+-- it is allowed
+abbrev pub mayMeet : Table → List Visit → List Label → State → ℕ → ℕ → Bool
+mayMeet T S path s a b = mayJoin T s a (presentOf T S path a .edge) b (presentOf T S path b .edge)
+
+-- exactly one partner with which the joint step is allowed: the component whose receive window 11 found
+pub record OnePartner (T : Table) (S : List Visit) (path : List Label) (s : State) (a : ℕ) : Type 0 where
+  pub partner : ℕ
+  pub allowed : mayMeet T S path s a partner ≡ true
+  pub hears : mayHear T (presentOf T S path partner) (presentOf T S path a) ≡ true
+  -- no other component's scheduled edge may join
+  pub alone : (b : ℕ) → mayMeet T S path s a b ≡ true → b ≡ partner
+  -- the same by paths: with that step the path keeps to the schedule, and with no other joint step of a, on whatever edges
+  pub keeps : (u : State) × OnSchedule T S (path ++ (meet T S path a partner ∷ [])) u
+  pub only : (e b f : ℕ) (u : State) → OnSchedule T S (path ++ (together a e b f ∷ [])) u → together a e b f ≡ meet T S path a partner
+
+-- for every accepted table and every such path
+abbrev pub Means : Type 0
+Means =
+    (bytes : List ℕ) (t : Read) (S : List Visit) → readTable bytes ≡ accepted t → planOf t ≡ accepted S
+    → (path : List Label) (s : State) → OnSchedule (t .table) S path s → (a : ℕ) → Sending (t .table) (t .horizon) S path s a → OnePartner (t .table) S path s a
