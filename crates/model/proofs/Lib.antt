@@ -87,3 +87,4 @@ pub mod MeaningPass
 pub mod MeaningPresent
 pub mod MeaningStays
 pub mod MeaningLaw
+pub mod ProgramSize

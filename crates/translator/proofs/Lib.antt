@@ -1,0 +1,11 @@
+pub mod Parting
+pub mod Runs
+pub mod Parts
+pub mod Arcs
+pub mod Blocks
+pub mod Laying
+pub mod Nodes
+pub mod Sizes
+pub mod Standing
+pub mod Programs
+pub mod Callers

@@ -1,0 +1,118 @@
+-- How long the pieces of a node's part are. Assumes nothing.
+use mathlib.Core.Path.{_≡_, refl, ap, _∙_}
+use mathlib.Core.List.{List, [], _∷_}
+use Prim.Native.Nat.{ℕ, zero, suc, _+_, _-_, _*_, _≤_, _<_}
+use native.Mathlib.Omega.{arith}
+use borrow.Author.Tests.{eq-eqb, ne-eqb}
+use lib.ListN.{length, take, drop, length-append}
+use lib.Seq.{drop-drop}
+use Rattle.model.specs.Lists.{each}
+use Rattle.model.specs.Reader.{byte, word, clockGuardAt, dataGuardAt, updateAt, pairAt}
+use Rattle.model.specs.Places.{listAt, itemsPlace, arcLength, arcAt, updatesAt, pairsAt}
+use Rattle.model.specs.Program.{clockTests, code, blockBytes, nodeBytes}
+use Rattle.model.proofs.Walk.{list-length}
+use Rattle.model.proofs.ProgramSize.{total, trialLength, arcShare, workLength, Sourced, clock-tests-most, trial-parts, edge-block-length, node-length}
+use Rattle.parts.proofs.Skim.{tail}
+use Rattle.translator.specs.declared.Kind.the-variants.{ClockGuards}
+use Rattle.translator.specs.Made.{madeOf, allMade}
+use Rattle.translator.specs.Front.{arcsAt, arcsPlace, frontComponent}
+use Rattle.translator.proofs.Arcs.{edge-passed}
+use Rattle.translator.proofs.Parts.{clocks-made}
+use Rattle.translator.proofs.Nodes.{front-locations}
+
+-- ## Clock bounds
+
+pub one-test : (h : List ℕ) (k : ℕ) → k ≡ word h 3 → k ≡ 65535 → 4 ≡ length (blockBytes (clockTests (clockGuardAt h ∷ [])))
+unfolding blockBytes each code
+one-test h k q e = rw (← q, eq-eqb k 65535 e)
+
+pub two-tests : (h : List ℕ) (k : ℕ) → k ≡ word h 3 → (k ≡ 65535 → ⊥) → 8 ≡ length (blockBytes (clockTests (clockGuardAt h ∷ [])))
+unfolding blockBytes each code
+two-tests h k q e = rw (← q, ne-eqb k 65535 e)
+
+pub clocks-most : (n : ℕ) (h : List ℕ) → length (allMade ClockGuards n h) ≤ 8 * n
+clocks-most n h =
+    let gs = listAt clockGuardAt 5 n h in
+    omega (arith, ap length (clocks-made n h), clock-tests-most gs, list-length clockGuardAt 5 n h)
+
+-- a turn of the loop: the test ahead is counted
+pub clock-counted : (h : List ℕ) (place k long all r : ℕ) → 0 < k → long + length (allMade ClockGuards k (drop place h)) ≡ all
+    → r ≡ length (blockBytes (clockTests (clockGuardAt (take (length h - place) (drop place h)) ∷ [])))
+    → long + r + length (allMade ClockGuards (k - 1) (drop (place + 5) h)) ≡ all
+unfolding allMade
+clock-counted h place k long all r q e f =
+    let z : k ≡ suc (k - 1) = omega arith in
+    let g : r ≡ length (madeOf ClockGuards (drop place h)) = f ∙ ap (λ (l : List ℕ). length (blockBytes (clockTests (clockGuardAt l ∷ [])))) (tail h place) in
+    let s : length (allMade ClockGuards k (drop place h)) ≡ length (madeOf ClockGuards (drop place h)) + length (allMade ClockGuards (k - 1) (drop (place + 5) h)) =
+    ap (λ (n : ℕ). length (allMade ClockGuards n (drop place h))) z
+    ∙ length-append (madeOf ClockGuards (drop place h)) (allMade ClockGuards (k - 1) (drop 5 (drop place h)))
+    ∙ ap (λ (l : List ℕ). length (madeOf ClockGuards (drop place h)) + length (allMade ClockGuards (k - 1) l)) (drop-drop 5 place h) in
+    omega arith
+
+pub none-counted : (h : List ℕ) (k : ℕ) → k ≤ 0 → length (allMade ClockGuards k h) ≡ 0
+unfolding allMade
+none-counted h zero q = refl
+none-counted h (suc k) q = absurd (omega arith)
+
+-- ## An edge
+
+module _ (h : List ℕ) where
+  pub send-length : byte h 0 ≡ 1 → 4 ≡ workLength (arcAt h) (arcAt h .edge .action)
+  unfolding workLength arcAt
+  send-length q = rw q
+
+  -- the others have a statement for each item
+  pub items-length : (byte h 0 ≡ 1 → ⊥) → byte h 6 * 4 + 4 ≡ workLength (arcAt h) (arcAt h .edge .action)
+  unfolding workLength arcAt updatesAt pairsAt
+  items-length q = go (byte h 0) q refl
+    where
+      go : (k : ℕ) → (k ≡ 1 → ⊥) → byte h 0 ≡ k → byte h 6 * 4 + 4 ≡ workLength (arcAt h) (arcAt h .edge .action)
+      go zero a e = rw e (omega (arith, list-length updateAt 4 (byte h 6) (drop (itemsPlace h) h)))
+      go (suc zero) a e = absurd (a refl)
+      go (suc (suc k)) a e = rw e (omega (arith, list-length pairAt 2 (byte h 6) (drop (itemsPlace h) h)))
+
+  trial-size : trialLength (arcAt h) ≡ 12 + length (allMade ClockGuards (byte h 4) (drop 7 h)) + 8 * byte h 5
+  unfolding arcAt
+  trial-size =
+      omega (arith, trial-parts (arcAt h), ap length (clocks-made (byte h 4) (drop 7 h)), list-length dataGuardAt 5 (byte h 5) (drop (7 + byte h 4 * 5) h))
+
+  -- its share, from its counts
+  pub shared : (clocks c d w k : ℕ) → c ≡ length (allMade ClockGuards (byte h 4) (take (length h - 7) (drop 7 h))) → d ≡ byte h 5 → w ≡ workLength (arcAt h) (arcAt h .edge .action) → k ≡ clocks
+      → 2 + (12 + c + d * 8) + (12 + w + k * 4) ≡ arcShare clocks (arcAt h)
+  unfolding arcShare
+  shared clocks c d w k a b e f =
+      let t : c ≡ length (allMade ClockGuards (byte h 4) (drop 7 h)) = a ∙ ap (λ (l : List ℕ). length (allMade ClockGuards (byte h 4) l)) (tail h 7) in
+      omega (arith, trial-size, edge-block-length clocks (arcAt h))
+
+-- ## A node
+
+-- the shares of k edges
+abbrev pub sharesFrom : ℕ → ℕ → List ℕ → ℕ
+sharesFrom clocks k h = total (arcShare clocks) (arcsAt k h)
+
+pub share-counted : (clocks : ℕ) (h : List ℕ) (edge k long all r next : ℕ) → 0 < k → long + sharesFrom clocks k (drop edge h) ≡ all
+    → r ≡ arcShare clocks (arcAt (take (length h - edge) (drop edge h)))
+    → next ≡ arcLength (take (length h - edge) (drop edge h))
+    → (long + r ≤ all) × (long + r + sharesFrom clocks (k - 1) (drop (edge + next) h) ≡ all)
+unfolding total arcsAt
+share-counted clocks h edge k long all r next q e f g =
+    let z : k ≡ suc (k - 1) = omega arith in
+    let v : r ≡ arcShare clocks (arcAt (drop edge h)) = f ∙ ap (λ (l : List ℕ). arcShare clocks (arcAt l)) (tail h edge) in
+    let d = edge-passed h edge next g in
+    let s : sharesFrom clocks k (drop edge h) ≡ arcShare clocks (arcAt (drop edge h)) + sharesFrom clocks (k - 1) (drop (edge + next) h) =
+    ap (λ (n : ℕ). sharesFrom clocks n (drop edge h)) z ∙ ap (λ (l : List ℕ). arcShare clocks (arcAt (drop edge h)) + sharesFrom clocks (k - 1) l) d in
+    (omega arith, omega arith)
+
+pub no-shares : (clocks k : ℕ) (h : List ℕ) → k ≤ 0 → sharesFrom clocks k h ≡ 0
+unfolding total arcsAt
+no-shares clocks zero h q = refl
+no-shares clocks (suc k) h q = absurd (omega arith)
+
+-- before the first edge
+pub node-shares : (p : List ℕ) (n edge : ℕ) → Sourced (frontComponent p) → n ≡ byte p 2 → edge ≡ 7 + n * 3
+    → 6 + n * 6 + sharesFrom (byte p 4) (byte p 6) (drop edge p) ≡ length (nodeBytes (frontComponent p))
+unfolding frontComponent
+node-shares p n edge h e f =
+    let z : edge ≡ arcsPlace p = omega arith in
+    let s : sharesFrom (byte p 4) (byte p 6) (drop edge p) ≡ sharesFrom (byte p 4) (byte p 6) (drop (arcsPlace p) p) = ap (λ (i : ℕ). sharesFrom (byte p 4) (byte p 6) (drop i p)) z in
+    omega (arith, node-length (frontComponent p) h, front-locations p)

@@ -1,0 +1,5 @@
+pub mod Part
+pub mod Put
+pub mod Made
+pub mod Front
+pub mod Laid
