@@ -18,7 +18,7 @@ use timed_network::{check, schedule, Verdict, FIELDS, MAX_PASSAGES};
 const REPETITIONS: usize = 15;
 /// A loop makes so many calls that it takes about this long.
 const LOOP: Duration = Duration::from_millis(20);
-/// The length of the table that is refused soon after it is read.
+/// The length of the table that is refused as soon as it has been read.
 const LARGE: usize = 8000;
 
 fn main() -> ExitCode {
@@ -31,7 +31,7 @@ fn main() -> ExitCode {
     let tables = [
         ("worked example", WORKED_EXAMPLE.to_vec()),
         ("a hub and 7 probes", hub_and_probes()),
-        ("generated table, refused when it is read", generated()),
+        ("large generated table", generated()),
     ];
     for (name, table) in &tables {
         if !agree(table) {
@@ -53,7 +53,7 @@ fn hub_and_probes() -> Vec<u8> {
     write_table(&table)
 }
 
-/// A large table whose first passages have no candidate.
+/// A large table that is refused as soon as it has been read.
 fn generated() -> Vec<u8> {
     let large = of_length(&mut Random::new(Random::SEED), LARGE, Values::Any);
     write_table(&large)

@@ -1,9 +1,9 @@
 //! Holds the exported library against the second implementation.
 //!
-//! Both get the same tables, class after class, and lend the same lists for
-//! the schedules; the first difference ends the comparison. [`tables`] makes
-//! well-formed tables, [`layout`] and [`bytes`] serve to damage them,
-//! [`classes`] lists what is tried, [`trial`] tries it.
+//! Both get the same tables, class after class, and are lent lists of the same
+//! lengths for the schedules; the first difference ends the comparison.
+//! [`tables`] makes well-formed tables, [`layout`] and [`bytes`] serve to
+//! damage them, [`classes`] lists what is tried, [`trial`] tries it.
 #![forbid(unsafe_code)]
 #![warn(missing_docs)]
 

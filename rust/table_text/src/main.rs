@@ -14,7 +14,7 @@ const USAGE: &str = "usage:
   table_text encode < source.txt > table.bin
   table_text decode < table.bin > source.txt
   table_text build DIR    writes DIR/NAME.bin for each DIR/NAME.txt
-  table_text verify DIR   tries DIR's sources, bytes and answers.tsv against each other";
+  table_text verify DIR   tries DIR's sources, bytes, schedules and answers.tsv against each other";
 
 fn main() -> ExitCode {
     let words: Vec<String> = env::args().skip(1).collect();

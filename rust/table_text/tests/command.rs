@@ -151,3 +151,43 @@ fn verify_reads_the_answers_strictly() {
     assert_eq!(call("verify", &folder), (Some(1), sorted));
     fs::remove_dir_all(folder).unwrap();
 }
+
+/// The smallest good table, with its schedule.
+const GOOD: &str = "horizon 1
+channels 0
+component
+  clocks 1
+  variables 0
+  initial 0
+  location x0 <= 1
+  internal 0 -> 0
+";
+const SCHEDULE: &str = "c e l entry ready end msg\n0 0 0 0 0 1 -\n";
+
+#[test]
+fn verify_reads_the_schedules() {
+    let folder = folder_with_one("schedules");
+    let file = |name: &str, text: &str| fs::write(folder.join(name), text).unwrap();
+    file("two.txt", GOOD);
+    file("answers.tsv", "one\trefused 3 255\ntwo\taccepted\n");
+    assert_eq!(call("build", &folder).0, Some(0));
+    let none = "two: is accepted and has no schedule\n".to_string();
+    assert_eq!(call("verify", &folder), (Some(1), none));
+
+    file("two.schedule", SCHEDULE);
+    let verified = "2 tables verified\n".to_string();
+    assert_eq!(call("verify", &folder), (Some(0), verified));
+
+    file("one.schedule", SCHEDULE);
+    let other = "one: has a schedule and is not accepted\n".to_string();
+    assert_eq!(call("verify", &folder), (Some(1), other));
+    fs::remove_file(folder.join("one.schedule")).unwrap();
+
+    file("two.schedule", "c e l entry ready end msg\n0 0 0 0 0 1\n");
+    let form = "two.schedule: line 2: write seven numbers, - for no message\n".to_string();
+    assert_eq!(call("verify", &folder), (Some(1), form));
+    file("two.schedule", SCHEDULE.trim_end());
+    let end = "two.schedule: the last line does not end\n".to_string();
+    assert_eq!(call("verify", &folder), (Some(1), end));
+    fs::remove_dir_all(folder).unwrap();
+}

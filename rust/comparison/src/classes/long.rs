@@ -104,40 +104,40 @@ fn waiting() -> Component {
 /// A component that opens a passage each tick, so many times, until no edge is
 /// a candidate or the counter overflows.
 fn counting(openings: i16, number: u8) -> Component {
-    let count = |operation, number| Update {
-        variable: 0,
-        operation,
-        number,
+    let (first, high) = match number {
+        9 => (i16::MAX - (openings - 1), i16::MAX),
+        _ => (0, openings - 2),
     };
-    let first = match number {
-        9 => i16::MAX - (openings - 1),
-        _ => 0,
-    };
-    let before = DataBound {
+    let bound = DataBound {
         variable: 0,
         low: i16::MIN,
-        high: match number {
-            9 => i16::MAX,
-            _ => openings - 2,
-        },
+        high,
     };
-    let edge = |source, data: &[DataBound], update| Edge {
-        source,
-        destination: 1,
-        mask: 1,
-        data_bounds: data.iter().copied().collect(),
-        action: Action::Internal([update].into_iter().collect()),
-        ..Edge::default()
-    };
-    let location = Location { clock: 0, bound: 1 };
     Component {
         initial: 0,
         clocks: 1,
         variables: 1,
-        locations: vec![location; 2],
+        locations: vec![Location { clock: 0, bound: 1 }; 2],
         edges: vec![
-            edge(0, &[], count(Operation::Set, first)),
-            edge(1, &[before], count(Operation::Add, 1)),
+            to_loop(0, &[], Operation::Set, first),
+            to_loop(1, &[bound], Operation::Add, 1),
         ],
+    }
+}
+
+/// An edge to the loop that changes the counter.
+fn to_loop(source: u8, bounds: &[DataBound], operation: Operation, number: i16) -> Edge {
+    let update = Update {
+        variable: 0,
+        operation,
+        number,
+    };
+    Edge {
+        source,
+        destination: 1,
+        mask: 1,
+        data_bounds: bounds.iter().copied().collect(),
+        action: Action::Internal([update].into_iter().collect()),
+        ..Edge::default()
     }
 }

@@ -101,7 +101,8 @@ fn senders(component: usize, channel: u8) -> impl Iterator<Item = Sender> {
 }
 
 /// One listener, and what follows from the rule: the send that ends first, the
-/// lower component on a tie. Nothing as the dead channel is the timeout.
+/// lower component on a tie. `dead` is the channel of the outcome that leads
+/// nowhere, none for the timeout.
 fn message(
     trial: &mut Trial,
     random: &mut Random,

@@ -11,7 +11,6 @@ use timed_network::{Call, Verdict, FIELDS, NO_MESSAGE};
 
 /// What is wrong with it.
 #[derive(Clone, Copy, Debug, PartialEq, Eq)]
-#[repr(usize)]
 pub enum Fault {
     None,
     // The choice of an edge.

@@ -7,7 +7,7 @@ use timed_network::Verdict;
 /// Component, location, entry, clocks and variables.
 pub type Entered = (usize, u8, u32, [u32; 4], [i32; 4]);
 
-/// Opens a passage: 7, 8, 9.
+/// Opens a passage.
 pub fn opened(
     table: &Table,
     entered: Entered,
@@ -15,34 +15,13 @@ pub fn opened(
     fault: Fault,
 ) -> Result<Passage, Verdict> {
     let (component, location, entry, clocks, variables) = entered;
-    let most = match fault {
-        Fault::OnePassageMore => 1025,
-        Fault::OnePassageLess => 1023,
-        _ => 1024,
-    };
-    let full = count >= most;
-    if full && fault != Fault::SevenAfterEight && fault != Fault::SevenAfterNine {
-        return Err(verdict(7, component));
-    }
-    let Some((edge, [ready, end])) = taken(table, entered, fault) else {
-        return Err(verdict(8, component));
-    };
-    if full && fault == Fault::SevenAfterEight {
-        return Err(verdict(7, component));
-    }
-    let edge_taken = &table.components[component].edges[edge];
-    let found_now = fault != Fault::OverflowFoundAtClosing;
-    if found_now && updated(edge_taken, variables, fault).is_none() {
-        return Err(verdict(9, component));
-    }
-    if full {
-        return Err(verdict(7, component));
-    }
+    let (edge, [ready, end]) =
+        tried(table, entered, count, fault).map_err(|number| verdict(number, component))?;
     let tick = |delay: u32| match fault {
         Fault::TicksOf16Bits => (entry + delay) & 0xffff,
         _ => entry + delay,
     };
-    let message = match edge_taken.action {
+    let message = match table.components[component].edges[edge].action {
         Action::Send(channel) => Some(channel),
         _ => None,
     };
@@ -57,6 +36,37 @@ pub fn opened(
         clocks,
         variables,
     })
+}
+
+/// The edge taken and its window, or 7, 8, 9.
+fn tried(
+    table: &Table,
+    entered: Entered,
+    count: usize,
+    fault: Fault,
+) -> Result<(usize, [u32; 2]), u8> {
+    let (component, _, _, _, variables) = entered;
+    let most = match fault {
+        Fault::OnePassageMore => 1025,
+        Fault::OnePassageLess => 1023,
+        _ => 1024,
+    };
+    let full = count >= most;
+    if full && fault != Fault::SevenAfterEight && fault != Fault::SevenAfterNine {
+        return Err(7);
+    }
+    let (edge, window) = taken(table, entered, fault).ok_or(8)?;
+    if full && fault == Fault::SevenAfterEight {
+        return Err(7);
+    }
+    let in_range = updated(&table.components[component].edges[edge], variables, fault).is_some();
+    if !in_range && fault != Fault::OverflowFoundAtClosing {
+        return Err(9);
+    }
+    match full {
+        true => Err(7),
+        false => Ok((edge, window)),
+    }
 }
 
 /// The edge taken and its window, counted from the entry.
@@ -87,7 +97,8 @@ fn taken(table: &Table, entered: Entered, fault: Fault) -> Option<(usize, [u32; 
     best
 }
 
-/// The first and the last tick at which everything holds, tick by tick.
+/// The first and the last tick at which everything holds, counted from the
+/// entry.
 fn window(location: &Location, edge: &Edge, clocks: [u32; 4], fault: Fault) -> Option<[u32; 2]> {
     let bounds = match fault {
         Fault::FirstBoundOnly => 1,

@@ -23,7 +23,7 @@ use crate::random::Random;
 use reference::table::{write_table, Table, LENGTHS};
 
 /// The table of these lanes, one component a lane. If it would be too long in
-/// this style it is written plainly.
+/// this style it gets fewer edges that are not taken, or is written plainly.
 pub fn table(
     random: &mut Random,
     lanes: &[Lane],
@@ -31,18 +31,27 @@ pub fn table(
     horizon: u16,
     style: &Style,
 ) -> Table {
-    let mut with = |style: &Style| Table {
+    for decoys in [style.decoys, style.decoys / 3, 0] {
+        let style = Style { decoys, ..*style };
+        let table = in_style(random, lanes, channels, horizon, &style);
+        if write_table(&table).len() <= *LENGTHS.end() {
+            return table;
+        }
+    }
+    in_style(random, lanes, channels, horizon, &Style::PLAIN)
+}
+
+fn in_style(
+    random: &mut Random,
+    lanes: &[Lane],
+    channels: u8,
+    horizon: u16,
+    style: &Style,
+) -> Table {
+    let one = |lane: &Lane| component(random, lane, channels, style);
+    Table {
         channels,
         horizon,
-        components: lanes
-            .iter()
-            .map(|lane| component(random, lane, channels, style))
-            .collect(),
-    };
-    let table = with(style);
-    if write_table(&table).len() <= *LENGTHS.end() {
-        table
-    } else {
-        with(&Style::PLAIN)
+        components: lanes.iter().map(one).collect(),
     }
 }
