@@ -122,7 +122,7 @@ pub fn items_length(kind: u8, n: u8) -> usize
 }
 
 // Where an edge's items start.
-fn items_place(h: &[u8]) -> usize
+pub fn items_place(h: &[u8]) -> usize
     requires { ⌜ 7 ≤ length (now h) ⌝ }
     ensures { λ r. ⌜ r ≡ itemsPlace (now (h .entry)) ⌝ }
 {

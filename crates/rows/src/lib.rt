@@ -6,7 +6,7 @@ ghost use Prim.Native.Nat.{ℕ, _+_, _*_, _≤_, _<_};
 ghost use lib.ListN.{length};
 ghost use lib.Seq.{sets};
 ghost use Rattle.model.specs.Window.{channelOf, listens};
-ghost use Rattle.model.specs.Places.{itemsPlace, arcAt, readOf};
+ghost use Rattle.model.specs.Places.{arcAt, readOf};
 ghost use Rattle.model.specs.Schedule.{visitArc, names, heardBy, endsSooner, sooner, earliest, messageIn};
 ghost use Rattle.rows.specs.Rows.{num, messageOf, rowVisit, rowsOf, RowsPlaced, MessagesPut, EdgeStands, RowKnown, inTime, bestOf, BestBelow, heardRow};
 
@@ -20,12 +20,6 @@ fn wide(x: u8) -> u32
     ensures { λ r. ⌜ (r ≡ x) × (r < 256) ⌝ }
 {
     x as u32
-}
-
-fn counted(x: u8) -> usize
-    ensures { λ r. ⌜ (r ≡ x) × (r < 256) ⌝ }
-{
-    x as usize
 }
 
 // Number k of row i.
@@ -87,21 +81,13 @@ pub fn first_open(l: &[u32], low: usize, n: usize, tick: u32) -> usize
     i
 }
 
-// Where the items of the edge at the front start.
-fn items_place(h: &[u8]) -> usize
-    requires { ⌜ 7 ≤ length (now h) ⌝ }
-    ensures { λ r. ⌜ r ≡ itemsPlace (now (h .entry)) ⌝ }
-{
-    7 + (counted(h[4]) + counted(h[5])) * 5
-}
-
 // The channel that the edge at the front sends on (255: none).
 pub fn sent(h: &[u8]) -> u8
     requires { ⌜ EdgeStands (now h) ⌝ }
     ensures { λ r. ⌜ messageOf r ≡ channelOf (arcAt (now (h .entry))) ⌝ }
 {
     if h[0] == 1 {
-        let at = items_place(h);
+        let at = decoder::items_place(h);
         return h[at];
     }
     255
@@ -118,7 +104,7 @@ pub fn lists(h: &[u8], channel: u8) -> bool
     if h[0] < 2 {
         return false;
     }
-    let mut at = items_place(h);
+    let mut at = decoder::items_place(h);
     let mut k = h[6];
     while 0 < k {
         if h[at] == channel {

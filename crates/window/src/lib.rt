@@ -9,7 +9,7 @@ ghost use lib.ListN.{length};
 ghost use Rattle.model.specs.Lists.{All};
 ghost use Rattle.model.specs.Table.{size};
 ghost use Rattle.model.specs.Reader.{clockGuardAt, dataGuardAt, updateAt, pairAt};
-ghost use Rattle.model.specs.Places.{listAt, itemsPlace, arcAt, arcPlace, startOf, Valid, readOf, componentIn};
+ghost use Rattle.model.specs.Places.{listAt, arcAt, arcPlace, startOf, Valid, readOf, componentIn};
 ghost use Rattle.model.specs.Window.{readyOf, pastOf, dataWithin, dataHolds, considered, choice, updated, aged, paired, leadsTo, leaves};
 ghost use Rattle.model.specs.Schedule.{opening};
 ghost use Rattle.window.specs.Views.{entryOf, pickOf, Kept, updatedOf, messageOf, openingOf, ArcReady, Placed, betterOf, newOf};
@@ -284,14 +284,6 @@ pub fn update(h: &[u8], n: u8, values: [i16; 4]) -> Updated
     }
 }
 
-// Where the items of the edge at the front of h start.
-fn items_of(h: &[u8]) -> usize
-    requires { ⌜ 7 ≤ length (now h) ⌝ }
-    ensures { λ r. ⌜ r ≡ itemsPlace (now (h .entry)) ⌝ }
-{
-    7 + (wide(h[4]) + wide(h[5])) * 5
-}
-
 // The updates of the edge at the front of h (only an internal edge has some).
 pub fn edge_update(h: &[u8], values: [i16; 4]) -> Updated
     requires { ⌜ ArcReady (now h) ⌝ }
@@ -300,7 +292,7 @@ pub fn edge_update(h: &[u8], values: [i16; 4]) -> Updated
     if h[0] != 0 {
         return Updated { fits: true, values };
     }
-    let items = items_of(h);
+    let items = decoder::items_place(h);
     update(&h[items..], h[6], values)
 }
 
@@ -352,7 +344,7 @@ pub fn leads_to(h: &[u8], message: u8) -> u8
     if h[0] < 2 {
         return h[2];
     }
-    let items = items_of(h);
+    let items = decoder::items_place(h);
     paired_location(&h[items..], h[6], message, h[2])
 }
 

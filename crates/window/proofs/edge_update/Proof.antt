@@ -21,8 +21,8 @@ returns c =
     let h = a .h .now in
     no-updates (getD h 0 0) (getD h 6 0) (drop (itemsPlace h) h) (a .values) (c .if1 .taken)
 
-items-of-requires : tie.Need-items-of-requires
-items-of-requires c κs = search needs
+items-place-requires : tie.Need-items-place-requires
+items-place-requires c κs = search needs
 
 sub-update : tie.Need-sub-update
 sub-update c = search needs
@@ -38,14 +38,14 @@ shared-slice-read-update c = search needs
 
 update-requires : tie.Need-update-requires
 update-requires c κs =
-    updates-asked (c .before .before .before .before .before .before .args .h .now) (c .before .before .before .before .before .before .pre) (c .before .before .items-of .result) (c .before .before .items-of .ensures) (c .before .before .before .if1 .left)
+    updates-asked (c .before .before .before .before .before .before .args .h .now) (c .before .before .before .before .before .before .pre) (c .before .before .items-place .result) (c .before .before .items-place .ensures) (c .before .before .before .if1 .left)
 
 returns-2 : tie.Need-returns-2
 unfolding arcAt
 returns-2 c =
     let a = c .before .before .before .before .before .before .before .args in
     let h = a .h .now in
-    found (λ bs. updated (listAt updateAt 4 (getD h 6 0) bs) (a .values)) h (c .before .before .before .items-of .result) (itemsPlace h) (c .before .before .before .items-of .ensures) (c .update .ensures)
+    found (λ bs. updated (listAt updateAt 4 (getD h 6 0) bs) (a .values)) h (c .before .before .before .items-place .result) (itemsPlace h) (c .before .before .before .items-place .ensures) (c .update .ensures)
     ∙ some-updates (getD h 0 0) (getD h 6 0) (drop (itemsPlace h) h) (a .values) (c .before .before .before .before .if1 .left)
 
 pub edge-update-spec : {M : Type 1} → statement M
@@ -54,7 +54,7 @@ edge-update-spec =
     (tie.spec
     shared-slice-read-if1
     returns
-    items-of-requires
+    items-place-requires
     sub-update
     part-update-start
     part-update-end

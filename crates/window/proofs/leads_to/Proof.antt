@@ -27,8 +27,8 @@ shared-slice-read-result-2 c = search needs
 returns-2 : tie.Need-returns-2
 returns-2 c = leads-plain (c .before .before .before .before .before .args .h .now) (c .before .before .before .before .before .args .message) (c .before .before .before .if1 .left) (omega arith)
 
-items-of-requires : tie.Need-items-of-requires
-items-of-requires c κs = search needs
+items-place-requires : tie.Need-items-place-requires
+items-place-requires c κs = search needs
 
 sub-paired-location : tie.Need-sub-paired-location
 sub-paired-location c = search needs
@@ -47,13 +47,13 @@ shared-slice-read-paired-location-2 c = search needs
 
 paired-location-requires : tie.Need-paired-location-requires
 paired-location-requires c κs =
-    pairs-asked (c .before .before .before .before .before .before .before .before .args .h .now) (c .before .before .before .before .before .before .before .before .pre) (c .before .before .before .items-of .result) (c .before .before .before .items-of .ensures) (c .before .before .before .before .if2 .left)
+    pairs-asked (c .before .before .before .before .before .before .before .before .args .h .now) (c .before .before .before .before .before .before .before .before .pre) (c .before .before .before .items-place .result) (c .before .before .before .items-place .ensures) (c .before .before .before .before .if2 .left)
 
 returns-3 : tie.Need-returns-3
 returns-3 c =
     let a = c .before .before .before .before .before .before .before .before .before .args in
     let h = a .h .now in
-    found (λ bs. paired (listAt pairAt 2 (getD h 6 0) bs) (a .message) (getD h 2 0)) h (c .before .before .before .before .items-of .result) (itemsPlace h) (c .before .before .before .before .items-of .ensures) (c .paired-location .ensures)
+    found (λ bs. paired (listAt pairAt 2 (getD h 6 0) bs) (a .message) (getD h 2 0)) h (c .before .before .before .before .items-place .result) (itemsPlace h) (c .before .before .before .before .items-place .ensures) (c .paired-location .ensures)
     ∙ leads-paired h (a .message) (c .before .before .before .before .before .before .before .if1 .left) (c .before .before .before .before .before .if2 .left)
 
 pub leads-to-spec : {M : Type 1} → statement M
@@ -65,7 +65,7 @@ leads-to-spec =
     shared-slice-read-if2
     shared-slice-read-result-2
     returns-2
-    items-of-requires
+    items-place-requires
     sub-paired-location
     part-paired-location-start
     part-paired-location-end
