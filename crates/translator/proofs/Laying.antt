@@ -15,12 +15,13 @@ use Rattle.model.specs.Program.{Statement, locationBlock, edgeBlockOf, blockByt
 use Rattle.model.proofs.Walk.{list-length, list-part}
 use Rattle.model.proofs.ProgramSize.{each-join, four, start-bytes-length}
 use Rattle.parts.proofs.Skim.{tail}
-use Rattle.translator.specs.Put.{Room, Put}
-use Rattle.translator.specs.Front.{arcsAt, ArcsFit, arcsPlace, frontComponent, Whole}
+use Rattle.blocks.specs.Put.{Room, Put}
+use Rattle.blocks.specs.FrontEdges.{arcsAt, ArcsFit}
+use Rattle.translator.specs.Front.{arcsPlace, frontComponent, Whole}
 use Rattle.translator.specs.Laid.{locationBlocks, Ready, Laid, Aligned}
-use Rattle.translator.proofs.Runs.{sets-append, put-long}
-use Rattle.translator.proofs.Arcs.{edge-passed}
-use Rattle.translator.proofs.Blocks.{blockFrom}
+use Rattle.blocks.proofs.Runs.{sets-append, put-long}
+use Rattle.blocks.proofs.Arcs.{edge-passed}
+use Rattle.blocks.proofs.Blocks.{blockFrom}
 
 -- ## Runs that do not touch
 

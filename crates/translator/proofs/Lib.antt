@@ -1,8 +1,3 @@
-pub mod Parting
-pub mod Runs
-pub mod Parts
-pub mod Arcs
-pub mod Blocks
 pub mod Laying
 pub mod Nodes
 pub mod Sizes

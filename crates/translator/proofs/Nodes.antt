@@ -12,10 +12,11 @@ use Rattle.model.specs.Program.{Statement, locationBlock, edgeBlockOf, blockByt
 use Rattle.model.proofs.Walk.{list-length}
 use Rattle.model.proofs.ProgramSize.{each-join, length-from, blocks-four, edge-blocks, start-bytes-length}
 use Rattle.parts.proofs.Skim.{tail}
-use Rattle.translator.specs.Put.{Room, Put}
-use Rattle.translator.specs.Front.{arcsAt, arcsPlace, frontComponent}
+use Rattle.blocks.specs.Put.{Room, Put}
+use Rattle.blocks.specs.FrontEdges.{arcsAt}
+use Rattle.translator.specs.Front.{arcsPlace, frontComponent}
 use Rattle.translator.specs.Laid.{locationBlocks, edgeBlocks, Ready, Laid, Aligned, nodeHead}
-use Rattle.translator.proofs.Runs.{put-is}
+use Rattle.blocks.proofs.Runs.{put-is}
 use Rattle.translator.proofs.Laying.{put-before, laid-join, laid-long, laid-put, edgesFrom}
 
 -- ## A component's blocks

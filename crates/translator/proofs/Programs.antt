@@ -13,10 +13,10 @@ use Rattle.model.specs.Places.{startOf, Valid, readOf, componentIn}
 use Rattle.model.specs.Program.{nodeBytes, programBytes}
 use Rattle.model.proofs.Located.{valid-located}
 use Rattle.model.proofs.ProgramSize.{program-fits}
-use Rattle.translator.specs.Put.{Room, Put}
+use Rattle.blocks.specs.Put.{Room, Put}
 use Rattle.translator.specs.Front.{frontComponent, Whole}
 use Rattle.translator.specs.Laid.{programHead}
-use Rattle.translator.proofs.Runs.{Writing, left-is, put-is, put-on, room-is, room-left, room-first, put-long}
+use Rattle.blocks.proofs.Runs.{Writing, left-is, put-is, put-on, room-is, room-left, room-first, put-long}
 use Rattle.translator.proofs.Laying.{put-before}
 use Rattle.translator.proofs.Standing.{valid-limits, valid-count, node-is, node-whole, node-small}
 

@@ -13,11 +13,12 @@ use Rattle.model.specs.Program.{clockTests, code, blockBytes, nodeBytes}
 use Rattle.model.proofs.Walk.{list-length}
 use Rattle.model.proofs.ProgramSize.{total, trialLength, arcShare, workLength, Sourced, clock-tests-most, trial-parts, edge-block-length, node-length}
 use Rattle.parts.proofs.Skim.{tail}
-use Rattle.translator.specs.declared.Kind.the-variants.{ClockGuards}
-use Rattle.translator.specs.Made.{madeOf, allMade}
-use Rattle.translator.specs.Front.{arcsAt, arcsPlace, frontComponent}
-use Rattle.translator.proofs.Arcs.{edge-passed}
-use Rattle.translator.proofs.Parts.{clocks-made}
+use Rattle.blocks.specs.declared.Kind.the-variants.{ClockGuards}
+use Rattle.blocks.specs.Made.{madeOf, allMade}
+use Rattle.blocks.specs.FrontEdges.{arcsAt}
+use Rattle.translator.specs.Front.{arcsPlace, frontComponent}
+use Rattle.blocks.proofs.Arcs.{edge-passed}
+use Rattle.blocks.proofs.Parts.{clocks-made}
 use Rattle.translator.proofs.Nodes.{front-locations}
 
 -- ## Clock bounds

@@ -23,7 +23,8 @@ use Rattle.model.proofs.Located.{are-bytes, valid-read, valid-located, valid-in
 use Rattle.model.proofs.ProgramSize.{Sourced, sourced, node-fits}
 use Rattle.parts.proofs.Skim.{tail}
 use Rattle.table.specs.Directory.{startsOf}
-use Rattle.translator.specs.Front.{arcsAt, ArcsFit, arcsPlace, frontComponent, Whole}
+use Rattle.blocks.specs.FrontEdges.{arcsAt, ArcsFit}
+use Rattle.translator.specs.Front.{arcsPlace, frontComponent, Whole}
 
 -- ## One component
 

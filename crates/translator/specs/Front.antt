@@ -1,20 +1,11 @@
--- The edges, and the component, that stand at the front of bytes. Nothing is tested here.
-use mathlib.Core.List.{List, [], _∷_}
-use Prim.Native.Nat.{ℕ, zero, suc, _+_, _*_, _≤_}
+-- The component that stands at the front of bytes. Nothing is tested here.
+use mathlib.Core.List.{List}
+use Prim.Native.Nat.{ℕ, _+_, _*_, _≤_}
 use lib.ListN.{length, drop}
-use Rattle.model.specs.Table.{Arc, Component}
+use Rattle.model.specs.Table.{Component}
 use Rattle.model.specs.Reader.{byte, locationAt}
-use Rattle.model.specs.Places.{listAt, arcLength, arcAt}
-
--- n edges, each as long as its counts say
-unfoldable pub arcsAt : ℕ → List ℕ → List Arc
-arcsAt zero h = []
-arcsAt (suc n) h = arcAt h ∷ arcsAt n (drop (arcLength h) h)
-
--- n edges stand whole
-unfoldable pub ArcsFit : ℕ → List ℕ → Type 0
-ArcsFit zero h = Unit {0}
-ArcsFit (suc n) h = (arcLength h ≤ length h) × ArcsFit n (drop (arcLength h) h)
+use Rattle.model.specs.Places.{listAt}
+use Rattle.blocks.specs.FrontEdges.{arcsAt, ArcsFit}
 
 -- where a component's edges start
 abbrev pub arcsPlace : List ℕ → ℕ

@@ -4,8 +4,8 @@ use mathlib.Core.Path.{_≡_}
 use Prim.Native.Nat.{_+_, _*_, _≤_}
 use native.Mathlib.Omega.{arith}
 use lib.ListN.{length, drop}
-use Rattle.translator.specs.declared.Kind.the-variants.{ClockGuards}
-use Rattle.translator.specs.Made.{allMade}
+use Rattle.blocks.specs.declared.Kind.the-variants.{ClockGuards}
+use Rattle.blocks.specs.Made.{allMade}
 use Rattle.translator.proofs.Laying.{left-there}
 use Rattle.translator.proofs.Sizes.{clocks-most, clock-counted, none-counted}
 use Rattle.translator.proofs.clocks_length.Statement.{statement}

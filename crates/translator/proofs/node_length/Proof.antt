@@ -7,8 +7,9 @@ use lib.ListN.{length, take, drop}
 use Rattle.model.specs.Reader.{byte}
 use Rattle.model.specs.Places.{arcLength}
 use Rattle.model.specs.Program.{nodeBytes}
-use Rattle.translator.specs.Front.{ArcsFit, arcsPlace, frontComponent}
-use Rattle.translator.proofs.Arcs.{edge-head, edge-whole, edge-on, edges-on}
+use Rattle.blocks.specs.FrontEdges.{ArcsFit}
+use Rattle.translator.specs.Front.{arcsPlace, frontComponent}
+use Rattle.blocks.proofs.Arcs.{edge-head, edge-whole, edge-on, edges-on}
 use Rattle.translator.proofs.Sizes.{sharesFrom, share-counted, no-shares, node-shares}
 use Rattle.translator.proofs.node_length.Statement.{statement}
 use Rattle.translator.proofs.node_length.Tie as tie

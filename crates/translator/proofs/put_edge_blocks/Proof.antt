@@ -7,11 +7,11 @@ use native.Mathlib.Omega.{arith}
 use lib.ListN.{length, drop}
 use Rattle.model.specs.Places.{arcAt}
 use Rattle.model.specs.Program.{edgeBlockOf}
-use Rattle.translator.specs.Front.{ArcsFit}
+use Rattle.blocks.specs.FrontEdges.{ArcsFit}
 use Rattle.translator.specs.Laid.{Aligned}
-use Rattle.translator.proofs.Runs.{put-is}
+use Rattle.blocks.proofs.Runs.{put-is}
 use Rattle.translator.proofs.Laying.{Laying, lay-begin, lay-is, lay-end, lay-long, start-room, block-room, lay-on, aligned-on, edgesFrom, edges-ahead, edges-gone, edge-room, edge-put, edges-behind}
-use Rattle.translator.proofs.Arcs.{edge-whole, edge-head, edge-on, edges-on}
+use Rattle.blocks.proofs.Arcs.{edge-whole, edge-head, edge-on, edges-on}
 use Rattle.translator.proofs.put_edge_blocks.Statement.{statement}
 use Rattle.translator.proofs.put_edge_blocks.Tie as tie
 

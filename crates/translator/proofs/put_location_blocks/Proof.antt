@@ -8,7 +8,7 @@ use Rattle.model.specs.Reader.{byte}
 use Rattle.model.specs.Program.{locationBlock}
 use Rattle.translator.specs.Front.{arcsPlace, frontComponent}
 use Rattle.translator.specs.Laid.{Ready, Laid, Aligned}
-use Rattle.translator.proofs.Runs.{put-is, room-is}
+use Rattle.blocks.proofs.Runs.{put-is, room-is}
 use Rattle.translator.proofs.Laying.{Laying, lay-begin, lay-is, lay-end, lay-long, start-room, block-room, lay-on, aligned-here, aligned-on, locationsFrom, all-locations, locations-ahead, locations-gone, location-block-is, location-fits, left-there, arcs-there}
 use Rattle.translator.proofs.put_location_blocks.Statement.{statement}
 use Rattle.translator.proofs.put_location_blocks.Tie as tie

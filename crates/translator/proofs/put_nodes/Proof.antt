@@ -4,7 +4,7 @@ use Prim.Native.Nat.{_-_, _≤_}
 use native.Mathlib.Omega.{arith}
 use lib.ListN.{getD}
 use Rattle.translator.proofs.Standing.{slice-bytes, few-nodes, start-fits, found, valid-long}
-use Rattle.translator.proofs.Runs.{Writing, begin, left-is, put-all, writing-long}
+use Rattle.blocks.proofs.Runs.{Writing, begin, left-is, put-all, writing-long}
 use Rattle.translator.proofs.Programs.{nodesFrom, nodes-gone, node-asked, node-on}
 use Rattle.translator.proofs.put_nodes.Statement.{statement}
 use Rattle.translator.proofs.put_nodes.Tie as tie

@@ -1,0 +1,230 @@
+-- The blocks of locations and edges as runs of statements. Assumes nothing.
+use mathlib.Core.Path.{_≡_, refl, sym, ap, subst, _∙_}
+use mathlib.Core.Bool.{Bool, true, false, cond}
+use mathlib.Core.List.{List, [], _∷_, _++_, map, append-nil, append-assoc}
+use Prim.Native.Nat.{ℕ, suc, _+_, _-_, _*_, _/_, _%_, _^_, _≤_, _<_}
+use native.Mathlib.Nat.{pow-suc, div-div-eq-div-mul}
+use native.Mathlib.Numerals.{add-one}
+use native.Mathlib.Omega.{arith}
+use borrow.Author.Tests.{eq-eqb, ne-eqb}
+use lib.Dec.{eqb}
+use lib.ListN.{length, take, drop, length-append}
+use Rattle.model.specs.declared.Location.{Location}
+use Rattle.model.specs.Lists.{each, from, below}
+use Rattle.model.specs.Table.{Arc}
+use Rattle.model.specs.Reader.{byte, clockGuardAt, dataGuardAt, updateAt, pairAt}
+use Rattle.model.specs.Places.{listAt, itemsPlace, arcLength, arcAt, updatesAt, pairsAt}
+use Rattle.model.specs.Program.{Statement, done, age, reset, enter, keep, takeEdge, choose, clockTests, dataTests, trialOf, trials, updateOf, workOf, ageing, edgeBlockOf, quad, pairQuad, code, blockBytes}
+use Rattle.model.proofs.Walk.{list-length}
+use Rattle.model.proofs.ProgramSize.{block-join}
+use Rattle.parts.proofs.Skim.{tail}
+use Rattle.blocks.specs.declared.Kind.the-variants.{ClockGuards, DataGuards, Updates, Pairs}
+use Rattle.blocks.specs.Put.{Room, Put}
+use Rattle.blocks.specs.Made.{allMade}
+use Rattle.blocks.specs.FrontEdges.{arcsAt}
+use Rattle.blocks.proofs.Runs.{Writing, left-is, put-on, room-is, room-left, room-first, put-all}
+use Rattle.blocks.proofs.Arcs.{edge-passed}
+use Rattle.blocks.proofs.Parts.{clocks-made, datas-made, updates-made, pairs-made}
+
+-- ## A trial
+
+module _ (l : Location) (e : ℕ) (h : List ℕ) where
+  -- what follows its first statement, its second, its clock bounds
+  abbrev pub fromHigh : List ℕ
+  fromHigh = quad 0x0C (l .clock) (l .bound) ++ (allMade ClockGuards (byte h 4) (drop 7 h) ++ (allMade DataGuards (byte h 5) (drop (7 + byte h 4 * 5) h) ++ quad 0x0F 0 e))
+
+  abbrev pub fromClocks : List ℕ
+  fromClocks = allMade ClockGuards (byte h 4) (drop 7 h) ++ (allMade DataGuards (byte h 5) (drop (7 + byte h 4 * 5) h) ++ quad 0x0F 0 e)
+
+  abbrev pub fromDatas : List ℕ
+  fromDatas = allMade DataGuards (byte h 5) (drop (7 + byte h 4 * 5) h) ++ quad 0x0F 0 e
+
+  pub trial-made : quad 0x0A 0 0 ++ fromHigh ≡ blockBytes (trialOf l e (arcAt h))
+  unfolding blockBytes each code arcAt
+  trial-made =
+      let G = clockTests (listAt clockGuardAt 5 (byte h 4) (drop 7 h)) in
+      let D = dataTests (listAt dataGuardAt 5 (byte h 5) (drop (7 + byte h 4 * 5) h)) in
+      let K = keep e ∷ [] in
+      rw (clocks-made (byte h 4) (drop 7 h), datas-made (byte h 5) (drop (7 + byte h 4 * 5) h), block-join G (D ++ K), block-join D K)
+
+-- its bounds stand in the edge
+pub bounds-fit : (h : List ℕ) → arcLength h ≤ length h → (7 + byte h 4 * 5 ≤ length h) × (7 + byte h 4 * 5 + byte h 5 * 5 ≤ length h)
+bounds-fit h f = (omega arith, omega arith)
+
+-- ## The edges from a location
+
+module _ (l : Location) (here e : ℕ) where
+  pub skipped : (h : List ℕ) → (byte h 1 ≡ here → ⊥) → [] ≡ blockBytes (trials l here e (arcAt h ∷ []))
+  unfolding trials arcAt blockBytes each
+  skipped h q = rw (ne-eqb (byte h 1) here q)
+
+  pub tried : (h : List ℕ) → byte h 1 ≡ here → blockBytes (trialOf l e (arcAt h)) ≡ blockBytes (trials l here e (arcAt h ∷ []))
+  unfolding trials arcAt
+  tried h q = rw (eq-eqb (byte h 1) here q, append-nil (trialOf l e (arcAt h)))
+
+  trials-cons : (a : Arc) (as′ : List Arc) → trials l here e (a ∷ as′) ≡ trials l here e (a ∷ []) ++ trials l here (suc e) as′
+  unfolding trials
+  trials-cons a as′ = go (eqb (a .edge .source) here)
+    where
+      go : (t : Bool) → cond t (trialOf l e a ++ trials l here (suc e) as′) (trials l here (suc e) as′) ≡ cond t (trialOf l e a ++ []) [] ++ trials l here (suc e) as′
+      go true = ap (λ (x : List Statement). x ++ trials l here (suc e) as′) (sym (append-nil (trialOf l e a)))
+      go false = refl
+
+-- the block's bytes from edge e on, of which k are left
+abbrev pub blockFrom : Location → ℕ → ℕ → ℕ → List ℕ → List ℕ
+blockFrom l here e k h = blockBytes (trials l here e (arcsAt k h) ++ (takeEdge ∷ []))
+
+module _ (l : Location) (here e k : ℕ) (h : List ℕ) (more : 0 < k) where
+  block-ahead : blockFrom l here e k h ≡ blockBytes (trials l here e (arcAt h ∷ [])) ++ blockFrom l here (e + 1) (k - 1) (drop (arcLength h) h)
+  unfolding arcsAt
+  block-ahead =
+      let q : k ≡ suc (k - 1) = omega arith in
+      let R = arcsAt (k - 1) (drop (arcLength h) h) in
+      ap (λ (i : ℕ). blockFrom l here e i h) q
+      ∙ ap (λ (b : List Statement). blockBytes (b ++ (takeEdge ∷ []))) (trials-cons l here e (arcAt h) R)
+      ∙ ap blockBytes (append-assoc (trials l here e (arcAt h ∷ [])) (trials l here (suc e) R) (takeEdge ∷ []))
+      ∙ block-join (trials l here e (arcAt h ∷ [])) (trials l here (suc e) R ++ (takeEdge ∷ []))
+      ∙ ap (λ (i : ℕ). blockBytes (trials l here e (arcAt h ∷ [])) ++ blockFrom l here i (k - 1) (drop (arcLength h) h)) (sym (add-one e))
+
+-- ### The loop over the edges, from place to place in the bytes h
+
+module _ (l : Location) (here e n : ℕ) (h : List ℕ) (place : ℕ) {o₀ all o : List ℕ} {at₀ at : ℕ}
+    (more : e < n) (w : Writing o₀ at₀ all o at (blockFrom l here e (n - e) (drop place h))) where
+  pub some-left : 0 < n - e
+  some-left = omega arith
+
+  -- the trial ahead, and the rest
+  ahead : Writing o₀ at₀ all o at (blockBytes (trials l here e (arcAt (drop place h) ∷ [])) ++ blockFrom l here (e + 1) (n - e - 1) (drop (arcLength (drop place h)) (drop place h)))
+  ahead = left-is (block-ahead l here e (n - e) (drop place h) some-left) w
+
+  -- the trial has room
+  pub trial-room : Room o₀ at₀ all → Room o at (blockBytes (trials l here e (arcAt (take (length h - place) (drop place h)) ∷ [])))
+  trial-room r =
+      let x = blockBytes (trials l here e (arcAt (drop place h) ∷ [])) in
+      let y = blockFrom l here (e + 1) (n - e - 1) (drop (arcLength (drop place h)) (drop place h)) in
+      rw (tail h place) (room-first o at x y (room-left ahead r))
+
+  -- a turn
+  module _ (long : ℕ) (q : long ≡ arcLength (take (length h - place) (drop place h))) where
+    fewer : n - e - 1 ≡ n - (e + 1)
+    fewer = omega arith
+
+    pub trial-put : {p : List ℕ} {m : ℕ} → Put o at (blockBytes (trials l here e (arcAt (take (length h - place) (drop place h)) ∷ []))) m p
+        → Writing o₀ at₀ all p m (blockFrom l here (e + 1) (n - (e + 1)) (drop (place + long) h))
+    trial-put {p} {m} k =
+        let y = blockFrom l here (e + 1) (n - e - 1) (drop (arcLength (drop place h)) (drop place h)) in
+        let t : Put o at (blockBytes (trials l here e (arcAt (drop place h) ∷ []))) m p =
+        subst (λ (s : List ℕ). Put o at (blockBytes (trials l here e (arcAt s ∷ []))) m p) (tail h place) k in
+        rw (← fewer, ← edge-passed h place long q) (put-on y ahead t)
+
+-- the last statement is left
+pub take-left : (l : Location) (here e n : ℕ) (h : List ℕ) {o₀ all o : List ℕ} {at₀ at : ℕ} → n ≤ e → Writing o₀ at₀ all o at (blockFrom l here e (n - e) h)
+    → Writing o₀ at₀ all o at (quad 0x10 0 0 ++ [])
+unfolding arcsAt trials blockBytes each code
+take-left l here e n h {o₀} {all} {o} {at₀} {at} q w =
+    let z : n - e ≡ 0 = omega arith in
+    subst (λ (i : ℕ). Writing o₀ at₀ all o at (blockFrom l here e i h)) z w
+
+-- ## Work
+
+pub from-two : (k : ℕ) → (k ≡ 0 → ⊥) → (k ≡ 1 → ⊥) → k ≡ suc (suc (k - 2))
+from-two k a b = omega arith
+
+module _ (h : List ℕ) where
+  -- the work's bytes
+  abbrev pub workBytes : List ℕ
+  workBytes = blockBytes (workOf (arcAt h) (arcAt h .edge .action))
+
+  pub internal-work : byte h 0 ≡ 0 → allMade Updates (byte h 6) (drop (itemsPlace h) h) ++ quad 0x03 0 0 ≡ workBytes
+  unfolding arcAt updatesAt blockBytes each code
+  internal-work q =
+      rw (q, updates-made (byte h 6) (drop (itemsPlace h) h))
+      (sym (block-join (map updateOf (listAt updateAt 4 (byte h 6) (drop (itemsPlace h) h))) (done ∷ [])))
+
+  pub send-work : byte h 0 ≡ 1 → quad 0x04 (byte h (itemsPlace h)) 0 ≡ workBytes
+  unfolding arcAt blockBytes each code
+  send-work q = rw q
+
+  pub receive-work : (byte h 0 ≡ 0 → ⊥) → (byte h 0 ≡ 1 → ⊥) → quad 0x05 (byte h 6) 0 ++ allMade Pairs (byte h 6) (drop (itemsPlace h) h) ≡ workBytes
+  unfolding arcAt pairsAt blockBytes each code
+  receive-work a b =
+      let ps = listAt pairAt 2 (byte h 6) (drop (itemsPlace h) h) in
+      rw (from-two (byte h 0) a b, pairs-made (byte h 6) (drop (itemsPlace h) h), list-length pairAt 2 (byte h 6) (drop (itemsPlace h) h))
+      (sym (append-nil (quad 0x05 (byte h 6) 0 ++ each pairQuad ps)))
+
+  -- the items stand in the edge
+  pub updates-stand : byte h 0 ≡ 0 → arcLength h ≤ length h → itemsPlace h + byte h 6 * 4 ≤ length h
+  updates-stand q f = rw q at f
+
+  pub channel-stands : byte h 0 ≡ 1 → arcLength h ≤ length h → itemsPlace h < length h
+  channel-stands q f = let g = rw q at f in omega arith
+
+  pub pairs-stand : (byte h 0 ≡ 0 → ⊥) → (byte h 0 ≡ 1 → ⊥) → arcLength h ≤ length h → itemsPlace h + byte h 6 * 2 ≤ length h
+  pairs-stand a b f = rw (from-two (byte h 0) a b) at f
+
+-- ## Clocks
+
+module _ (bits i : ℕ) where
+  pub zeroed : bits % 2 ≡ 1 → quad 0x08 i 0 ≡ blockBytes (cond (eqb (bits % 2) 1) (reset i) (age i) ∷ [])
+  unfolding blockBytes each code
+  zeroed q = rw (eq-eqb (bits % 2) 1 q)
+
+  pub grown : (bits % 2 ≡ 1 → ⊥) → quad 0x07 i 0 ≡ blockBytes (cond (eqb (bits % 2) 1) (reset i) (age i) ∷ [])
+  unfolding blockBytes each code
+  grown q = rw (ne-eqb (bits % 2) 1 q)
+
+clock-four : (t : Bool) (i : ℕ) → length (blockBytes (cond t (reset i) (age i) ∷ [])) ≡ 4
+unfolding blockBytes each code
+clock-four true i = refl
+clock-four false i = refl
+
+-- the bytes of the clocks from number i on, of which k are left
+abbrev pub clocksFrom : ℕ → ℕ → ℕ → List ℕ
+clocksFrom mask i k = blockBytes (map (ageing mask) (from i k))
+
+-- one bit on
+pub halved : (mask bits i : ℕ) → bits ≡ mask / 2 ^ i → bits / 2 ≡ mask / 2 ^ (i + 1)
+halved mask bits i e = rw (e, add-one i, pow-suc 2 i) (div-div-eq-div-mul mask (2 ^ i) 2)
+
+module _ (mask bits i n : ℕ) {o₀ all o : List ℕ} {at₀ at : ℕ}
+    (more : i < n) (e : bits ≡ mask / 2 ^ i) (w : Writing o₀ at₀ all o at (clocksFrom mask i (n - i))) where
+  clock-ahead : clocksFrom mask i (n - i) ≡ blockBytes (cond (eqb (bits % 2) 1) (reset i) (age i) ∷ []) ++ clocksFrom mask (i + 1) (n - (i + 1))
+  clock-ahead =
+      let q : n - i ≡ suc (n - (i + 1)) = omega arith in
+      rw (q, e, add-one i) (block-join (ageing mask i ∷ []) (map (ageing mask) (from (suc i) (n - suc i))))
+
+  pub clock-asked : Room o₀ at₀ all → at + 4 ≤ length o
+  clock-asked r =
+      let room = room-is o at clock-ahead (room-left w r) in
+      omega (arith, length-append (blockBytes (cond (eqb (bits % 2) 1) (reset i) (age i) ∷ [])) (clocksFrom mask (i + 1) (n - (i + 1))), clock-four (eqb (bits % 2) 1) i)
+
+  pub clock-put : {p : List ℕ} {m : ℕ} → Put o at (blockBytes (cond (eqb (bits % 2) 1) (reset i) (age i) ∷ [])) m p → Writing o₀ at₀ all p m (clocksFrom mask (i + 1) (n - (i + 1)))
+  clock-put k = put-on (clocksFrom mask (i + 1) (n - (i + 1))) (left-is clock-ahead w) k
+
+-- none left
+pub clocks-done : (mask i n : ℕ) {o₀ all o : List ℕ} {at₀ at : ℕ} → n ≤ i → Writing o₀ at₀ all o at (clocksFrom mask i (n - i)) → Put o₀ at₀ all at o
+unfolding blockBytes each
+clocks-done mask i n {o₀} {all} {o} {at₀} {at} q w =
+    let z : n - i ≡ 0 = omega arith in
+    put-all (subst (λ (k : ℕ). Writing o₀ at₀ all o at (clocksFrom mask i k)) z w)
+
+-- ## An edge's block
+
+module _ (clocks : ℕ) (h : List ℕ) where
+  -- what follows its first statement, its work, its clocks
+  abbrev pub fromEnter : List ℕ
+  fromEnter = quad 0x09 0 (byte h 2) ++ quad 0x11 0 0
+
+  abbrev pub fromAges : List ℕ
+  fromAges = blockBytes (map (ageing (byte h 3)) (below clocks)) ++ (quad 0x09 0 (byte h 2) ++ quad 0x11 0 0)
+
+  abbrev pub fromWork : List ℕ
+  fromWork = workBytes h ++ (blockBytes (map (ageing (byte h 3)) (below clocks)) ++ (quad 0x09 0 (byte h 2) ++ quad 0x11 0 0))
+
+  pub edge-made : quad 0x00 0 0 ++ fromWork ≡ blockBytes (edgeBlockOf clocks (arcAt h))
+  unfolding blockBytes each code arcAt
+  edge-made =
+      let W = workOf (arcAt h) (arcAt h .edge .action) in
+      let M = map (ageing (byte h 3)) (below clocks) in
+      let E = enter (byte h 2) ∷ choose ∷ [] in
+      rw (block-join W (M ++ E), block-join M E)

@@ -1,0 +1,3 @@
+pub mod Put
+pub mod Made
+pub mod FrontEdges
