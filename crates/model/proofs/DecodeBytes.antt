@@ -43,16 +43,16 @@ code-bytes (addTo v k) h = signed 0x02 v k (omega arith) (h .0) (h .1)
 code-bytes done h = short 0x03 0 (omega arith) (omega arith)
 code-bytes (send k) h = short 0x04 k (omega arith) h
 code-bytes (listen qs) h =
-    all-join (short 0x05 (length qs) (omega arith) (h .0)) (each-bytes pairQuad (λ q i. quad-bytes 0x06 (q .channel) (q .location) (omega arith) (i .channel) (i .location)) (h .1))
+    all-join (short 0x05 (length qs) (omega arith) (h .0)) (each-bytes pairQuad (λ q i. quad-bytes 0x06 (q .channel) (q .location) (omega arith) (i .channel) (omega (arith, i .location))) (h .1))
 code-bytes (age i) h = short 0x07 i (omega arith) h
 code-bytes (reset i) h = short 0x08 i (omega arith) h
-code-bytes (enter l) h = quad-bytes 0x09 0 l (omega arith) (omega arith) h
+code-bytes (enter l) h = quad-bytes 0x09 0 l (omega arith) (omega arith) (omega (arith, h))
 code-bytes trial h = short 0x0A 0 (omega arith) (omega arith)
 code-bytes (low i k) h = quad-bytes 0x0B i k (omega arith) (h .0) (h .1)
 code-bytes (high i k) h = quad-bytes 0x0C i k (omega arith) (h .0) (h .1)
 code-bytes (dataLow v k) h = signed 0x0D v k (omega arith) (h .0) (h .1)
 code-bytes (dataHigh v k) h = signed 0x0E v k (omega arith) (h .0) (h .1)
-code-bytes (keep e) h = quad-bytes 0x0F 0 e (omega arith) (omega arith) h
+code-bytes (keep e) h = quad-bytes 0x0F 0 e (omega arith) (omega arith) (omega (arith, h))
 code-bytes takeEdge h = short 0x10 0 (omega arith) (omega arith)
 code-bytes choose h = short 0x11 0 (omega arith) (omega arith)
 

@@ -60,14 +60,14 @@ module _ (s : Sizes) (channels : s .channels ≤ 16) (locations : s .locations �
 
   module _ (l : Location) (lh : LocationIn s l) where
     -- the trial of an edge
-    trial-inside : (e : ℕ) (a : Arc) → e < 65536 → ArcIn s a → All Inside (trialOf l e a)
+    trial-inside : (e : ℕ) (a : Arc) → e < 256 → ArcIn s a → All Inside (trialOf l e a)
     trial-inside e a k h =
         more (inside trial tt refl)
         (more (inside (high (l .clock) (l .bound)) (omega arith) refl)
         (all-join (clocks-inside (h .clockGuards)) (all-join (datas-inside (h .dataGuards)) (more (inside (keep e) k refl) empty))))
 
     -- the trials of the edges from number e on
-    trials-inside : (here e : ℕ) {as′ : List Arc} → All (ArcIn s) as′ → e + length as′ ≤ 65536 → All Inside (trials l here e as′)
+    trials-inside : (here e : ℕ) {as′ : List Arc} → All (ArcIn s) as′ → e + length as′ ≤ 256 → All Inside (trials l here e as′)
     unfolding trials
     trials-inside here e empty k = empty
     trials-inside here e (more {x = a} {xs = as′} h t) k = go (trials-inside here (suc e) t (omega arith)) (eqb (a .edge .source) here)

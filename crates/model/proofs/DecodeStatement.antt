@@ -3,7 +3,7 @@ use mathlib.Core.Path.{_≡_, refl, sym, ap, _∙_}
 use mathlib.Core.Bool.{Bool, true, false}
 use mathlib.Core.List.{List, _++_}
 use mathlib.Core.Option.{none, some}
-use Prim.Native.Nat.{ℕ, suc, _+_, _*_, _<_}
+use Prim.Native.Nat.{ℕ, suc, _+_, _*_, _%_, _<_}
 use native.Mathlib.Omega.{arith}
 use borrow.Author.Tests.{le-leb}
 use lib.Dec.{leb}
@@ -21,10 +21,10 @@ use Rattle.model.proofs.Walk.{each-length, list-back}
 
 -- ## Numbers that fit a statement's fields
 
--- a pair fits: a byte and two bytes
+-- a pair fits: two numbers of one byte
 pub record PairFits (q : Pair) : Type 0 where
   pub channel : q .channel < 256
-  pub location : q .location < 65536
+  pub location : q .location < 256
 
 -- the numbers of a statement fit its bytes
 abbrev pub Fitting : Statement → Type 0
@@ -36,13 +36,13 @@ Fitting (send k) = k < 256
 Fitting (listen qs) = (length qs < 256) × All PairFits qs
 Fitting (age i) = i < 256
 Fitting (reset i) = i < 256
-Fitting (enter l) = l < 65536
+Fitting (enter l) = l < 256
 Fitting trial = Unit {0}
 Fitting (low i k) = (i < 256) × (k < 65536)
 Fitting (high i k) = (i < 256) × (k < 65536)
 Fitting (dataLow v k) = (v < 256) × Int16 k
 Fitting (dataHigh v k) = (v < 256) × Int16 k
-Fitting (keep e) = e < 65536
+Fitting (keep e) = e < 256
 Fitting takeEdge = Unit {0}
 Fitting choose = Unit {0}
 
@@ -124,9 +124,13 @@ ends-back s r = coded s r .2
 
 -- ## Decoding
 
+-- the lower byte of a small number is the number
+low-back : (n : ℕ) → n < 256 → n % 256 ≡ n
+low-back n h = omega arith
+
 -- a pair written is read back
 pair-back : (q : Pair) (r : List ℕ) → PairFits q → pairAt (pairQuad q ++ r) ≡ q
-pair-back q r h = rw (word-back (q .location))
+pair-back q r h = rw (low-back (q .location) (h .location))
 
 -- the statement that stands for the op and the fields
 found : (s : Statement) (r : List ℕ) → Fitting s → getD (decodings (code s ++ r)) (byte (code s ++ r) 0) none ≡ some s
@@ -139,13 +143,13 @@ found (send k) r h = refl
 found (listen qs) r h = ap (λ l. some (listen l)) (list-back pairQuad 4 (λ q. refl) pairAt PairFits pair-back (h .1) r)
 found (age i) r h = refl
 found (reset i) r h = refl
-found (enter l) r h = rw (word-back l)
+found (enter l) r h = rw (low-back l h)
 found trial r h = refl
 found (low i k) r h = rw (word-back k)
 found (high i k) r h = rw (word-back k)
 found (dataLow v k) r h = rw (word-back (unsigned k), complement-back k (h .1))
 found (dataHigh v k) r h = rw (word-back (unsigned k), complement-back k (h .1))
-found (keep e) r h = rw (word-back e)
+found (keep e) r h = rw (low-back e h)
 found takeEdge r h = refl
 found choose r h = refl
 

@@ -1,15 +1,20 @@
 -- The exported calls. Each has one definition, from its inputs and the lent numbers to its answer and the lent numbers afterwards.
+use mathlib.Core.Path.{_≡_}
 use mathlib.Core.Bool.{Bool, true, false, cond}
 use mathlib.Core.List.{List, _++_}
-use Prim.Native.Nat.{ℕ}
-use lib.Dec.{leb}
+use Prim.Native.Nat.{ℕ, _*_}
+use lib.Dec.{leb, ltb}
 use lib.ListN.{length, drop}
 use Rattle.model.specs.declared.Verdict.{Verdict}
 use Rattle.model.specs.declared.Verdict.the-variants.{Accepted, Refused}
 use Rattle.model.specs.Lists.{Answer, accepted, refused, _after_, each}
+use Rattle.model.specs.Table.{Read}
 use Rattle.model.specs.Reader.{readTable}
 use Rattle.model.specs.Schedule.{Visit, sevenOf}
 use Rattle.model.specs.Checks.{plan, planOf}
+use Rattle.model.specs.Program.{programBytes}
+use Rattle.model.specs.Run.{Result, settingOf, run, observationBytes}
+use Rattle.model.specs.Demand3.{Demand3}
 
 -- ## Answers
 
@@ -67,3 +72,67 @@ scheduleWith lent (refused n c) = refusing n c lent
 unfoldable pub scheduleCall : List ℕ → List ℕ → Call
 unfolding planIn each
 scheduleCall table lent = scheduleWith lent (planIn table)
+
+-- The call `translate`: the program's bytes. Its size is their number.
+abbrev pub programIn : List ℕ → Answer (List ℕ)
+programIn table = readTable table after λ t. planOf t after λ S. accepted (programBytes t)
+
+abbrev pub translateWith : List ℕ → Answer (List ℕ) → Call
+translateWith lent (accepted program) = laid (length program) program lent
+translateWith lent (refused n c) = refusing n c lent
+
+unfoldable pub translateCall : List ℕ → List ℕ → Call
+unfolding planIn programBytes
+translateCall table lent = translateWith lent (programIn table)
+
+-- ## The run
+
+-- the verdict; the end, the node, the tick and the choices used; the number of observations; and the lent bytes afterwards
+pub record RunCall : Type 0 where
+  pub verdict : Verdict
+  pub end : ℕ
+  pub node : ℕ
+  pub tick : ℕ
+  pub used : ℕ
+  pub size : ℕ
+  pub lent : List ℕ
+
+abbrev pub notRun : ℕ → ℕ → List ℕ → RunCall
+notRun n c lent = record { verdict = Refused n c; end = 0; node = 255; tick = 0; used = 0; size = 0; lent = lent }
+
+-- the observations' bytes are laid over the front of what was lent
+abbrev pub ran : Result → List ℕ → RunCall
+ran r lent =
+    let bytes = each observationBytes (r .state .observations) in
+    record {
+      verdict = Accepted;
+      end = r .end;
+      node = r .node;
+      tick = r .state .tick;
+      used = r .state .used;
+      size = length (r .state .observations);
+      lent = bytes ++ drop (length bytes) lent;
+    }
+
+-- 13. "Does the lent buffer hold .. a run's 32 bytes for each passage?" Then 14. "Are there at most 1,000,000 choices?"
+abbrev pub runWith : Read → List Visit → List ℕ → List ℕ → RunCall
+runWith t S choices lent =
+    cond (ltb (length lent) (length S * 32)) (notRun 13 255 lent)
+    (cond (ltb 1000000 (length choices)) (notRun 14 255 lent) (ran (run (settingOf t S) choices) lent))
+
+abbrev pub runPlanned : Read → Answer (List Visit) → List ℕ → List ℕ → RunCall
+runPlanned t (accepted S) choices lent = runWith t S choices lent
+runPlanned t (refused n c) choices lent = notRun n c lent
+
+abbrev pub runRead : Answer Read → List ℕ → List ℕ → RunCall
+runRead (accepted t) choices lent = runPlanned t (planOf t) choices lent
+runRead (refused n c) choices lent = notRun n c lent
+
+-- the call `run`: table, choices, and the bytes lent for the observations
+unfoldable pub runCall : List ℕ → List ℕ → List ℕ → RunCall
+unfolding planIn programBytes run observationBytes each
+runCall table choices lent = runRead (readTable table) choices lent
+
+-- demand 3, of these bytes and these choices: for the accepted table that the bytes are, if they are one
+abbrev pub Demand3Of : List ℕ → List ℕ → Type 0
+Demand3Of table choices = (t : Read) (S : List Visit) → readTable table ≡ accepted t → planOf t ≡ accepted S → Demand3 t S choices

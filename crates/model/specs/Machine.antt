@@ -16,9 +16,13 @@ use Rattle.model.specs.Program.{Statement, sleep, setTo, addTo, done, se
 
 -- ## Statements from bytes
 
+-- A location or an edge has a number of one byte: the lower byte of k, the upper one being 0 in every program.
+abbrev pub numberIn : List ℕ → ℕ
+numberIn bs = byte bs 3
+
 -- a pair behind a listen: 06, a = channel, k = location
 abbrev pub pairAt : List ℕ → Pair
-pairAt bs = record { channel = byte bs 1; location = word bs 2 }
+pairAt bs = record { channel = byte bs 1; location = numberIn bs }
 
 -- by op, from 00 on; a pair (06) is no statement of its own
 abbrev pub decodings : List ℕ → List (Option Statement)
@@ -28,13 +32,13 @@ decodings bs =
     let z = complement k in
     some sleep ∷ some (setTo a z) ∷ some (addTo a z) ∷ some done ∷ some (send a) ∷ some (listen (listAt pairAt 4 a (drop 4 bs))) ∷ none ∷ some (age a)
     ∷ some (reset a)
-    ∷ some (enter k)
+    ∷ some (enter (numberIn bs))
     ∷ some trial
     ∷ some (low a k)
     ∷ some (high a k)
     ∷ some (dataLow a z)
     ∷ some (dataHigh a z)
-    ∷ some (keep k)
+    ∷ some (keep (numberIn bs))
     ∷ some takeEdge
     ∷ some choose
     ∷ []
