@@ -5,7 +5,8 @@ ghost use Prim.Native.Nat.{_≤_};
 ghost use Rattle.model.specs.declared.Verdict.the-variants.{Refused};
 ghost use Rattle.model.specs.Reader.{byte};
 ghost use Rattle.model.specs.Places.{Valid};
-ghost use Rattle.model.specs.Calls.{checkCall, scheduleCall, numberOf, concernedOf};
+ghost use Rattle.model.specs.Program.{partOf, within};
+ghost use Rattle.model.specs.Calls.{checkCall, scheduleCall, translateCall, numberOf, concernedOf};
 ghost use Rattle.table.specs.Directory.{startsOf};
 use model::Verdict;
 
@@ -22,6 +23,13 @@ pub struct CallNumbers {
     pub number: u8,
     pub component: u8,
     pub size: u32,
+}
+
+// The part of one node as a range of the program's bytes; 0 and 0 where there is none.
+#[repr(C)]
+pub struct PartNumbers {
+    pub start: usize,
+    pub length: usize,
 }
 
 // The answer of a call that writes.
@@ -124,7 +132,51 @@ pub fn schedule(table: &[u8], list: &mut [u32]) -> Called
     }
 }
 
-// The two calls for C.
+// The program of a table that was read.
+fn translate_into(table: &[u8], starts: [u16; 8], program: &mut [u8]) -> Called
+    requires { ⌜ Valid (now table) × (starts ≡ startsOf (now table) (byte (now table) 3)) ⌝ }
+    ensures { λ r. ⌜ (r .verdict ≡ translateCall (now (table .entry)) (now (program .entry)) .verdict) × (r .size ≡ translateCall (now (table .entry)) (now (program .entry)) .size) × (now (program .exit) ≡ translateCall (now (table .entry)) (now (program .entry)) .lent) × (r .size ≤ 24576) ⌝ }
+{
+    let v = plan_verdict(table, starts);
+    match v {
+        Verdict::Refused(number, component) => refused(number, component),
+        Verdict::Accepted => {
+            let long = translator::program_length(table, starts);
+            if program.len() < long {
+                return refused(13, 255);
+            }
+            translator::write_program(table, starts, program);
+            Called {
+                verdict: Verdict::Accepted,
+                size: long,
+            }
+        }
+    }
+}
+
+// The programs of the nodes: bytes laid over the front of those lent.
+pub fn translate(table: &[u8], program: &mut [u8]) -> Called
+    ensures { λ r. ⌜ (r .verdict ≡ translateCall (now (table .entry)) (now (program .entry)) .verdict) × (r .size ≡ translateCall (now (table .entry)) (now (program .entry)) .size) × (now (program .exit) ≡ translateCall (now (table .entry)) (now (program .entry)) .lent) × (r .size ≤ 24576) ⌝ }
+{
+    let r = table::read(table);
+    let v = r.verdict;
+    match v {
+        Verdict::Refused(number, component) => refused(number, component),
+        Verdict::Accepted => {
+            let starts = r.starts;
+            translate_into(table, starts, program)
+        }
+    }
+}
+
+// The part of the program bytes that belongs to one node, for any bytes.
+pub fn part<'a>(program: &'a [u8], node: u8) -> &'a [u8]
+    ensures { λ r. ⌜ now r ≡ within (partOf (now (program .entry)) node) (now (program .entry)) ⌝ }
+{
+    program::part(program, node)
+}
+
+// The calls for C.
 #[no_mangle]
 pub extern "C" fn timed_network_check(table: &[u8]) -> VerdictNumbers
     ensures { λ r. ⌜ (r .number ≡ numberOf (checkCall (now (table .entry)))) × (r .component ≡ concernedOf (checkCall (now (table .entry)))) ⌝ }
@@ -145,4 +197,23 @@ pub extern "C" fn timed_network_schedule(table: &[u8], list: &mut [u32]) -> Call
 {
     let c = schedule(table, list);
     numbers_of(c)
+}
+
+#[no_mangle]
+pub extern "C" fn timed_network_translate(table: &[u8], program: &mut [u8]) -> CallNumbers
+    ensures { λ r. ⌜ (r .number ≡ numberOf (translateCall (now (table .entry)) (now (program .entry)) .verdict)) × (r .component ≡ concernedOf (translateCall (now (table .entry)) (now (program .entry)) .verdict)) × (r .size ≡ translateCall (now (table .entry)) (now (program .entry)) .size) × (now (program .exit) ≡ translateCall (now (table .entry)) (now (program .entry)) .lent) ⌝ }
+{
+    let c = translate(table, program);
+    numbers_of(c)
+}
+
+#[no_mangle]
+pub extern "C" fn timed_network_part(program: &[u8], node: u8) -> PartNumbers
+    ensures { λ r. ⌜ (r .start ≡ partOf (now (program .entry)) node .start) × (r .length ≡ partOf (now (program .entry)) node .long) ⌝ }
+{
+    let span = program::span_of(program, node);
+    PartNumbers {
+        start: span.start,
+        length: span.long,
+    }
 }
