@@ -31,7 +31,7 @@ fn row_sends(s: &[u8], l: &[u32], i: usize) -> bool
 }
 
 // Whether row i is a send that is ready before the tick h.
-fn is_send(s: &[u8], l: &[u32], i: usize, h: u32) -> bool
+pub fn is_send(s: &[u8], l: &[u32], i: usize, h: u32) -> bool
     requires { ⌜ RowKnown (now s) (now l) i ⌝ }
     ensures { λ r. ⌜ r ≡ isSend (readOf (now (s .entry)) .table) h (rowVisit (now (l .entry)) i) ⌝ }
 {
@@ -52,7 +52,7 @@ fn overlap(l: &[u32], i: usize, j: usize) -> bool
 }
 
 // Whether row j is a send of another component that shares a tick with row i, a send.
-fn is_met(s: &[u8], l: &[u32], i: usize, j: usize, h: u32) -> bool
+pub fn is_met(s: &[u8], l: &[u32], i: usize, j: usize, h: u32) -> bool
     requires { ⌜ RowKnown (now s) (now l) i × RowKnown (now s) (now l) j ⌝ }
     ensures { λ r. ⌜ r ≡ meets (readOf (now (s .entry)) .table) h (rowVisit (now (l .entry)) i) (rowVisit (now (l .entry)) j) ⌝ }
 {
@@ -85,7 +85,7 @@ pub fn collides_with_one(s: &[u8], l: &[u32], n: usize, i: usize, h: u32) -> boo
 }
 
 // Whether row j hears the send window of row i, which is on that channel (255: none).
-fn may_hear(s: &[u8], l: &[u32], j: usize, i: usize, channel: u8) -> bool
+pub fn may_hear(s: &[u8], l: &[u32], j: usize, i: usize, channel: u8) -> bool
     requires { ⌜ RowKnown (now s) (now l) j × RowKnown (now s) (now l) i × (messageOf channel ≡ channelOf (visitArc (readOf (now s) .table) (rowVisit (now l) i))) ⌝ }
     ensures { λ r. ⌜ r ≡ mayHear (readOf (now (s .entry)) .table) (rowVisit (now (l .entry)) j) (rowVisit (now (l .entry)) i) ⌝ }
 {
@@ -247,7 +247,7 @@ pub fn first_crowded(s: &[u8], l: &[u32], n: usize, h: u32) -> Fault
 }
 
 // The refusal with that number, of the component of row i.
-fn refused(l: &[u32], number: u8, i: usize) -> Verdict
+pub fn refused(l: &[u32], number: u8, i: usize) -> Verdict
     requires { ⌜ RowStands (now l) i ⌝ }
     ensures { λ r. ⌜ r ≡ Refused number (num (now (l .entry)) i 0) ⌝ }
 {

@@ -60,7 +60,7 @@ any-map f p [] = refl
 any-map f p (x ∷ S) = ap (λ b. p (f x) || b) (any-map f p S)
 
 -- the first with a fault is the same, where the faults are
-first-map : {A B : Type 0} (f : A → B) (p : B → Bool) (q : A → Bool) → ((x : A) → p (f x) ≡ q x) → (S : List A) → first p (map f S) ≡ Option·map f (first q S)
+pub first-map : {A B : Type 0} (f : A → B) (p : B → Bool) (q : A → Bool) → ((x : A) → p (f x) ≡ q x) → (S : List A) → first p (map f S) ≡ Option·map f (first q S)
 first-map f p q e [] = refl
 first-map f p q e (x ∷ S) = rw (e x, first-map f p q e S) (go (q x))
   where
@@ -83,15 +83,15 @@ fault-light n none a b e = e
 fault-light n (some v) a b e = refl
 
 module _ (T : Table) (H : ℕ) (S : List Visit) where
-  collides-light : (s : Visit) → collides T H (map light S) (light s) ≡ collides T H S s
+  pub collides-light : (s : Visit) → collides T H (map light S) (light s) ≡ collides T H S s
   collides-light s = ap (λ b. isSend T H s && b) (any-map light (meets T H s) S)
 
-  unheard-light : (s : Visit) → unheard T H (map light S) (light s) ≡ unheard T H S s
+  pub unheard-light : (s : Visit) → unheard T H (map light S) (light s) ≡ unheard T H S s
   unheard-light s =
       ap (λ b. isSend T H s && not b)
       (ap (heardWell (light s)) (only-map light (λ r. mayHear T r s) S) ∙ heard-light s (only (λ r. mayHear T r s) S))
 
-  crowded-light : (r : Visit) → crowded T H (map light S) (light r) ≡ crowded T H S r
+  pub crowded-light : (r : Visit) → crowded T H (map light S) (light r) ≡ crowded T H S r
   crowded-light r =
       ap (λ b. isReceive T r && b)
       (ap two (only-map light (λ s. isSend T H s && mayHear T r s) S) ∙ two-light (only (λ s. isSend T H s && mayHear T r s) S))

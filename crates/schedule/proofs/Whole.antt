@@ -13,6 +13,7 @@ use Rattle.model.specs.Schedule.{Visit, messageIn, withMessage, goOn, finished,
 use Rattle.model.specs.Checks.{limit, checked, plan}
 use Rattle.model.specs.Calls.{verdictOf}
 use Rattle.model.proofs.Heard.{checked-is}
+use Rattle.table.proofs.Answered.{verdict-accepted}
 use Rattle.rows.specs.Rows.{rowsOf, RowsPlaced, MessagesPut}
 use Rattle.rows.proofs.Grown.{put-placed, rows-finished}
 use Rattle.schedule.specs.declared.Scheduled.{Scheduled}
@@ -102,12 +103,8 @@ module _ (bs : List ℕ) (r : Scheduled) (l : List ℕ) (f : Filled bs (schedule
 
   module _ (v : r .verdict ≡ Accepted) where
     -- what was accepted
-    was : (S : List Visit) × (scheduleOf bs ≡ accepted S)
-    was = go (scheduleOf bs) refl
-      where
-        go : (a : Answer (List Visit)) → scheduleOf bs ≡ a → (S : List Visit) × (a ≡ accepted S)
-        go (accepted S) e = (S, refl)
-        go (refused k c) e = let q : Accepted ≡ Refused k c = sym v ∙ f .verdict ∙ ap verdictOf e in let z : _≡_ {A = ℕ} 0 1 = cc in absurd (omega arith)
+    pub was : (S : List Visit) × (scheduleOf bs ≡ accepted S)
+    was = verdict-accepted (scheduleOf bs) (sym (f .verdict) ∙ v)
 
     -- the rows to check
     pub rows-placed : RowsPlaced bs l (r .count)

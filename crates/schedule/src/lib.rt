@@ -301,12 +301,12 @@ pub fn plan_rows(s: &[u8], starts: [u16; 8], l: &mut [u32]) -> Scheduled
     }
 }
 
-// The seven fields of row i.
-fn put_seven(l: &[u32], i: usize, out: &mut [u32])
-    requires { ⌜ (i * 9 + 9 ≤ length (now l)) × (i * 7 + 7 ≤ length (now out)) × (i ≤ 1024) ⌝ }
-    ensures { λ _. ⌜ now (out .exit) ≡ sets (now (out .entry)) (i * 7) (sevenOf (rowVisit (now (l .entry)) i)) ⌝ }
+// The seven fields of row i, as passage number k of the list.
+pub fn put_seven(l: &[u32], i: usize, out: &mut [u32], k: usize)
+    requires { ⌜ (i * 9 + 9 ≤ length (now l)) × (k * 7 + 7 ≤ length (now out)) × (k ≤ 1024) ⌝ }
+    ensures { λ _. ⌜ now (out .exit) ≡ sets (now (out .entry)) (k * 7) (sevenOf (rowVisit (now (l .entry)) i)) ⌝ }
 {
-    let at = i * 7;
+    let at = k * 7;
     out[at] = rows::number(l, i, 0);
     out[at + 1] = rows::number(l, i, 1);
     out[at + 2] = rows::number(l, i, 2);
@@ -323,7 +323,7 @@ pub fn put_fields(l: &[u32], n: usize, out: &mut [u32])
 {
     let mut i: usize = 0;
     while i < n {
-        put_seven(l, i, out);
+        put_seven(l, i, out, i);
         i += 1;
     }
 }

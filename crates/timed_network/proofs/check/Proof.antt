@@ -1,6 +1,6 @@
 use mathlib.Core.Path.{sym, ap, _∙_}
 use Rattle.model.specs.Calls.{verdictOf, checkCall}
-use Rattle.timed_network.proofs.Answering.{was-valid, its-starts, was-refused}
+use Rattle.table.proofs.Answered.{was-valid, its-starts, was-refused}
 use borrow.Author.Needs.{needs}
 use Rattle.timed_network.proofs.check.Statement.{statement}
 use Rattle.timed_network.proofs.check.Tie as tie

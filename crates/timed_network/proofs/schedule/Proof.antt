@@ -1,6 +1,7 @@
 use mathlib.Core.Path.{sym, ap, _∙_}
 use Rattle.model.specs.Calls.{Call}
-use Rattle.timed_network.proofs.Answering.{was-valid, its-starts, was-refused, call-refused}
+use Rattle.table.proofs.Answered.{was-valid, its-starts, was-refused}
+use Rattle.timed_network.proofs.Answering.{call-refused}
 use borrow.Author.Needs.{needs}
 use Rattle.timed_network.proofs.schedule.Statement.{statement}
 use Rattle.timed_network.proofs.schedule.Tie as tie

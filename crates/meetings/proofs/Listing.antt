@@ -1,0 +1,131 @@
+-- The call from its parts: a list that fits or not, the three questions in order, and the passages behind the rows. Assumes nothing.
+use mathlib.Core.Path.{_≡_, refl, sym, ap, ap₂, subst, _∙_}
+use mathlib.Core.Bool.{Bool, _&&_}
+use mathlib.Core.List.{List, [], _∷_, _++_, map}
+use mathlib.Core.Option.{Option, none, some, Option·map}
+use Prim.Native.Nat.{ℕ, suc, _*_, _≤_, _<_}
+use native.Mathlib.Omega.{arith}
+use lib.ListN.{length, drop, length-map}
+use Rattle.model.specs.declared.Verdict.{Verdict}
+use Rattle.model.specs.declared.Verdict.the-variants.{Accepted, Refused}
+use Rattle.model.specs.Lists.{first, Answer, accepted, refused, _after_, each}
+use Rattle.model.specs.Table.{Table, Read}
+use Rattle.model.specs.Reader.{readTable}
+use Rattle.model.specs.Places.{Valid, readOf}
+use Rattle.model.specs.Schedule.{Visit, schedule, sevenOf, light}
+use Rattle.model.specs.Checks.{isSend, meets, collides, mayHear, unheard, crowded, faultOf, checked, plan, planOf}
+use Rattle.model.specs.Calls.{Call, verdictOf, laid, planIn, checkCall}
+use Rattle.model.specs.Meetings.{sendsMet, listenersMet, sendsHeard, withMet, concerned, concernedIn, listOr, meetingsIn, noted, meetingsCall}
+use Rattle.model.proofs.Independence.{only-map}
+use Rattle.model.proofs.Located.{valid-read}
+use Rattle.table.proofs.Answered.{verdict-refused}
+use Rattle.rows.specs.Rows.{num, rowVisit, rowsOf}
+use Rattle.checks.specs.declared.Fault.{Fault}
+use Rattle.checks.specs.declared.Fault.the-variants.{Nothing, At}
+use Rattle.checks.specs.Faults.{faultView}
+use Rattle.schedule.specs.declared.Scheduled.{Scheduled}
+use Rattle.schedule.specs.Filled.{Filled, scheduleOf}
+use Rattle.schedule.proofs.Bare.{first-map, collides-light, unheard-light, crowded-light, checked-light}
+use Rattle.schedule.proofs.Fields.{fields-light, laid-fits, laid-short}
+use Rattle.schedule.proofs.Whole.{was}
+use Rattle.meetings.specs.declared.Listed.{Listed}
+use Rattle.meetings.specs.Asked.{listing, Says}
+
+-- ## The list
+
+module _ (given : Verdict) (lent : List ℕ) (r : Listed) where
+  -- there is nothing to list
+  pub says-none : r .verdict ≡ given → r .size ≡ 0 → Says (listing given [] lent) r lent
+  unfolding each
+  says-none a b =
+      subst (λ (c : Call). Says (noted given c) r lent) (sym (laid-fits [] 0 [] lent refl refl (omega arith)))
+      (record { verdict = a; size = b; lent = refl })
+
+  module _ (P : List Visit) (k : ℕ) (e : k ≡ length P) where
+    -- the list is too short ..
+    pub says-short : length lent < k * 7 → r .verdict ≡ Refused 13 255 → r .size ≡ 0 → Says (listing given P lent) r lent
+    says-short h a b =
+        subst (λ (c : Call). Says (noted given c) r lent) (sym (laid-short P k lent e h))
+        (record { verdict = a; size = b; lent = refl })
+
+    -- .. or the passages are laid
+    pub says-laid : k * 7 ≤ length lent → (written : List ℕ) → written ≡ each sevenOf P ++ drop (k * 7) lent → r .verdict ≡ given → r .size ≡ k → Says (listing given P lent) r written
+    says-laid h written q a b =
+        subst (λ (c : Call). Says (noted given c) r written) (sym (laid-fits P k (each sevenOf P) lent e refl h))
+        (record { verdict = a; size = b; lent = q })
+
+-- ## The questions
+
+module _ (p : Visit → Bool) (S : List Visit) (l : List ℕ) (f : Fault) (seen : faultView l f ≡ first p S) (number : ℕ) (met : Visit → List Visit) (further : Answer (List Visit)) (others : List Visit) (lent : List ℕ) (r : Listed) (written : List ℕ) where
+  -- no row is at fault: the next question ..
+  pub passed : f ≡ Nothing → Says (listing (verdictOf further) others lent) r written
+      → Says (listing (verdictOf (faultOf number (first p S) further)) (withMet met (first p S) others) lent) r written
+  passed e q = rw (← seen, e) q
+
+  -- .. or the first that is, with those that it meets
+  pub failed : (i : ℕ) → f ≡ At i → Says (listing (Refused number (num l i 0)) (rowVisit l i ∷ met (rowVisit l i)) lent) r written
+      → Says (listing (verdictOf (faultOf number (first p S) further)) (withMet met (first p S) others) lent) r written
+  failed i e q = rw (← seen, e) q
+
+-- ## The passages behind the rows
+
+met-light : (met met′ : Visit → List Visit) → ((v : Visit) → met′ (light v) ≡ map light (met v)) → (o : Option Visit) (vs ws : List Visit) → ws ≡ map light vs
+    → withMet met′ (Option·map light o) ws ≡ map light (withMet met o vs)
+met-light met met′ same none vs ws e = e
+met-light met met′ same (some v) vs ws e = ap (λ (us : List Visit). light v ∷ us) (same v)
+
+module _ (T : Table) (H : ℕ) (S : List Visit) where
+  -- the passages concerned are the same
+  concerned-light : concerned T H (map light S) ≡ map light (concerned T H S)
+  unfolding concerned
+  concerned-light =
+      rw (
+        first-map light (collides T H (map light S)) (collides T H S) (collides-light T H S) S,
+        first-map light (unheard T H (map light S)) (unheard T H S) (unheard-light T H S) S,
+        first-map light (crowded T H (map light S)) (crowded T H S) (crowded-light T H S) S,
+      )
+      (met-light (sendsMet T H S) (sendsMet T H (map light S)) (λ s. only-map light (meets T H s) S) (first (collides T H S) S) _ _
+      (met-light (listenersMet T S) (listenersMet T (map light S)) (λ s. only-map light (λ r. mayHear T r s) S) (first (unheard T H S) S) _ _
+      (met-light (sendsHeard T H S) (sendsHeard T H (map light S)) (λ r. only-map light (λ s. isSend T H s && mayHear T r s) S) (first (crowded T H S) S) [] [] refl)))
+
+  -- and so is the call
+  pub listing-light : (lent : List ℕ)
+      → listing (verdictOf (checked T H (map light S))) (concerned T H (map light S)) lent ≡ listing (verdictOf (checked T H S)) (concerned T H S) lent
+  listing-light lent =
+      ap₂ (λ (given : Verdict) (P : List Visit). listing given P lent) (checked-light T H S) concerned-light
+      ∙ ap₂ (λ (k : ℕ) (out : List ℕ). noted (verdictOf (checked T H S)) (laid k out lent)) (length-map (concerned T H S) light) (fields-light (concerned T H S))
+
+-- ## A table that was read
+
+-- not at all: 1 to 6
+pub read-not : (bs lent : List ℕ) {n c : ℕ} → readTable bs ≡ refused n c → meetingsCall bs lent ≡ listing (Refused n c) [] lent
+unfolding meetingsCall checkCall planIn meetingsIn
+read-not bs lent e = ap (λ (a : Answer Read). listing (verdictOf (a after planOf)) (listOr (a after concernedIn)) lent) e
+
+module _ (bs lent : List ℕ) (v : Valid bs) where
+  planned : Answer (List Visit) → Call
+  planned a =
+      listing (verdictOf (a after λ S. checked (readOf bs .table) (readOf bs .horizon) S))
+      (listOr (a after λ S. accepted (concerned (readOf bs .table) (readOf bs .horizon) S))) lent
+
+  call-is : meetingsCall bs lent ≡ planned (scheduleOf bs)
+  unfolding meetingsCall checkCall planIn plan meetingsIn planned
+  call-is = ap (λ (a : Answer Read). listing (verdictOf (a after planOf)) (listOr (a after concernedIn)) lent) (valid-read bs v)
+
+  module _ (r : Scheduled) (rows : List ℕ) (F : Filled bs (scheduleOf bs) r rows) where
+    -- 7 to 9
+    pub scheduled-not : {n c : ℕ} → r .verdict ≡ Refused n c → meetingsCall bs lent ≡ listing (Refused n c) [] lent
+    unfolding planned
+    scheduled-not e = call-is ∙ ap planned (verdict-refused (scheduleOf bs) (sym (F .verdict) ∙ e))
+
+    -- 10 to 12 are asked of the rows
+    pub of-rows : r .verdict ≡ Accepted → (H : ℕ) → H ≡ readOf bs .horizon
+        → listing (verdictOf (checked (readOf bs .table) H (rowsOf rows (r .count)))) (concerned (readOf bs .table) H (rowsOf rows (r .count))) lent ≡ meetingsCall bs lent
+    unfolding planned
+    of-rows e H h =
+        let S = was bs r rows F e .0 in
+        let q = was bs r rows F e .1 in
+        let light-rows : rowsOf rows (r .count) ≡ map light S = ap (rowsOf rows) (F .count S q) ∙ F .rows S q in
+        ap₂ (λ (k : ℕ) (W : List Visit). listing (verdictOf (checked (readOf bs .table) k W)) (concerned (readOf bs .table) k W) lent) h light-rows
+        ∙ listing-light (readOf bs .table) (readOf bs .horizon) S lent
+        ∙ sym (call-is ∙ ap planned q)

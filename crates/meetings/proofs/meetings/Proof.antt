@@ -1,0 +1,54 @@
+-- `meetings::meetings` meets its contract. Assumes nothing.
+use mathlib.Core.Path.{sym, subst}
+use borrow.Author.Needs.{needs}
+use Rattle.model.specs.Calls.{Call}
+use Rattle.table.proofs.Answered.{was-valid, its-starts, read-refused}
+use Rattle.meetings.specs.Asked.{Says}
+use Rattle.meetings.proofs.Listing.{says-none, read-not}
+use Rattle.meetings.proofs.meetings.Statement.{statement}
+use Rattle.meetings.proofs.meetings.Tie as tie
+
+read-requires : tie.Need-read-requires
+read-requires c κs = search needs
+
+enum-known-v : tie.Need-enum-known-v
+enum-known-v c = search needs
+
+nothing-requires : tie.Need-nothing-requires
+nothing-requires c κs = search needs
+
+enum-told : tie.Need-enum-told
+enum-told c = search needs
+
+list-meetings-requires : tie.Need-list-meetings-requires
+list-meetings-requires c κs =
+    let bs = c .before .before .before .before .before .before .before .args .table .now in
+    let r = c .before .before .before .before .read in
+    (was-valid bs (r .result) (r .ensures) (c .before .before .enum-told .given .1), its-starts bs (r .result) (r .ensures) (c .before .before .enum-told .given .1))
+
+returns : tie.Need-returns
+returns c =
+    let a = c .before .before .before .before .before .before .before .args in
+    let r = c .before .before .before .before .read in
+    let k = subst (λ (k : Call). Says k (c .nothing .result) (a .list .now)) (sym (read-not (a .table .now) (a .list .now) (read-refused (a .table .now) (r .result) (r .ensures) (c .before .before .v .given .1))))
+    (says-none _ (a .list .now) (c .nothing .result) (c .nothing .ensures .0) (c .nothing .ensures .1)) in
+    (k .verdict, k .size, k .lent)
+
+same-length : tie.Need-same-length
+same-length c = search needs
+
+returns-2 : tie.Need-returns-2
+returns-2 c = search needs
+
+pub meetings-spec : {M : Type 1} → statement M
+meetings-spec =
+    tie.close
+    (tie.spec
+    read-requires
+    enum-known-v
+    nothing-requires
+    enum-told
+    list-meetings-requires
+    returns
+    same-length
+    returns-2)

@@ -1,0 +1,49 @@
+-- The questions 10 to 12 asked of two rows, and what the functions between them answer.
+use mathlib.Core.Path.{_≡_}
+use mathlib.Core.Bool.{Bool, _&&_}
+use mathlib.Core.List.{List, [], _∷_}
+use Prim.Native.Nat.{ℕ}
+use lib.ListN.{length}
+use Rattle.model.specs.declared.Verdict.{Verdict}
+use Rattle.model.specs.Lists.{only, first, each}
+use Rattle.model.specs.Table.{Table}
+use Rattle.model.specs.Schedule.{Visit, sevenOf}
+use Rattle.model.specs.Checks.{isSend, meets, mayHear, unheard, crowded}
+use Rattle.model.specs.Calls.{Call, laid}
+use Rattle.model.specs.Meetings.{listenersMet, sendsHeard, withMet, noted}
+use Rattle.meetings.specs.declared.Question.{Question}
+use Rattle.meetings.specs.declared.Question.the-variants.{Collision, Unheard, Crowded}
+use Rattle.meetings.specs.declared.Listed.{Listed}
+
+-- document 01's number of a question
+abbrev pub numberAsked : Question → ℕ
+numberAsked Collision = 10
+numberAsked Unheard = 11
+numberAsked Crowded = 12
+
+-- w is one that v, at fault, meets
+abbrev pub metBy : Question → Table → ℕ → Visit → Visit → Bool
+metBy Collision T H v w = meets T H v w
+metBy Unheard T H v w = mayHear T w v
+metBy Crowded T H v w = isSend T H w && mayHear T v w
+
+-- the passage at fault, and those that it meets
+abbrev pub foundBy : Question → Table → ℕ → List Visit → Visit → List Visit
+foundBy q T H S v = v ∷ only (metBy q T H v) S
+
+-- `concerned` from question 12 on, and from question 11 on
+abbrev pub concerned12 : Table → ℕ → List Visit → List Visit
+concerned12 T H S = withMet (sendsHeard T H S) (first (crowded T H S) S) []
+
+abbrev pub concerned11 : Table → ℕ → List Visit → List Visit
+concerned11 T H S = withMet (listenersMet T S) (first (unheard T H S) S) (concerned12 T H S)
+
+-- the call that lists these passages with that verdict
+abbrev pub listing : Verdict → List Visit → List ℕ → Call
+listing v P lent = noted v (laid (length P) (each sevenOf P) lent)
+
+-- the answer, and the list afterwards, are those of the call
+pub record Says (c : Call) (r : Listed) (after : List ℕ) : Type 0 where
+  pub verdict : r .verdict ≡ c .verdict
+  pub size : r .size ≡ c .size
+  pub lent : after ≡ c .lent

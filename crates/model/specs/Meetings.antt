@@ -1,0 +1,71 @@
+-- Which windows met: for a table that 10, 11 or 12 refuses, the passage at fault and the passages that it meets.
+use mathlib.Core.Bool.{_&&_}
+use mathlib.Core.List.{List, [], _∷_}
+use mathlib.Core.Option.{Option, none, some}
+use Prim.Native.Nat.{ℕ}
+use lib.ListN.{length}
+use Rattle.model.specs.declared.Verdict.{Verdict}
+use Rattle.model.specs.declared.Verdict.the-variants.{Accepted, Refused}
+use Rattle.model.specs.Lists.{only, first, Answer, accepted, refused, _after_, each}
+use Rattle.model.specs.Table.{Table, Read}
+use Rattle.model.specs.Reader.{readTable}
+use Rattle.model.specs.Schedule.{Visit, schedule, sevenOf}
+use Rattle.model.specs.Checks.{limit, isSend, meets, collides, mayHear, unheard, crowded}
+use Rattle.model.specs.Calls.{Call, laid, checkCall}
+
+-- ## Over a schedule S
+
+-- 10: the send windows of other components that share a tick with the send s
+abbrev pub sendsMet : Table → ℕ → List Visit → Visit → List Visit
+sendsMet T H S s = only (meets T H s) S
+
+-- 11: the receive windows of other components that name the channel of the send s and share a tick with it; there may be none
+abbrev pub listenersMet : Table → List Visit → Visit → List Visit
+listenersMet T S s = only (λ r. mayHear T r s) S
+
+-- 12: the send windows of other components on channels of the receive r that share a tick with it
+abbrev pub sendsHeard : Table → ℕ → List Visit → Visit → List Visit
+sendsHeard T H S r = only (λ s. isSend T H s && mayHear T r s) S
+
+-- one question: the passage at fault, then those that it meets; where none is at fault, what the next question finds
+abbrev pub withMet : (Visit → List Visit) → Option Visit → List Visit → List Visit
+withMet met none further = further
+withMet met (some v) further = v ∷ met v
+
+-- the three questions in the order of `checked`, each of "the first passage in schedule order at fault"; none if all three pass
+unfoldable pub concerned : Table → ℕ → List Visit → List Visit
+concerned T H S =
+    withMet (sendsMet T H S) (first (collides T H S) S)
+    (withMet (listenersMet T S) (first (unheard T H S) S) (withMet (sendsHeard T H S) (first (crowded T H S) S) []))
+
+-- ## Of a table's bytes
+
+-- the passages concerned of a table that was read; 7 to 9 refuse before there is a schedule
+abbrev pub concernedIn : Read → Answer (List Visit)
+concernedIn t = schedule limit (t .table) (t .horizon) after λ S. accepted (concerned (t .table) (t .horizon) S)
+
+-- none after a refusal
+abbrev pub listOr : Answer (List Visit) → List Visit
+listOr (accepted vs) = vs
+listOr (refused n c) = []
+
+-- for any bytes; none unless 10, 11 or 12 refuses the table
+unfoldable pub meetingsIn : List ℕ → List Visit
+unfolding readTable schedule concerned
+meetingsIn table = listOr (readTable table after concernedIn)
+
+-- ## The call
+
+-- a list that is laid comes with the verdict on the table, a refusal of the call stays
+abbrev pub verdictOver : Verdict → Verdict → Verdict
+verdictOver v Accepted = v
+verdictOver v (Refused n c) = Refused n c
+
+abbrev pub noted : Verdict → Call → Call
+noted v c = record { verdict = verdictOver v (c .verdict); size = c .size; lent = c .lent }
+
+-- The call `meetings`: the verdict of checks 1 to 12, and the passages concerned, seven numbers a passage. Its size is the number of passages.
+-- A list too short for them is refused by 13 and keeps its numbers; a table of which nothing is to be listed is never refused by 13.
+unfoldable pub meetingsCall : List ℕ → List ℕ → Call
+unfolding checkCall meetingsIn each
+meetingsCall table lent = noted (checkCall table) (laid (length (meetingsIn table)) (each sevenOf (meetingsIn table)) lent)
