@@ -3,7 +3,7 @@ use mathlib.Core.Path.{_≡_, refl, sym, ap, ap₂, subst, _∙_}
 use mathlib.Core.Bool.{Bool, _&&_}
 use mathlib.Core.List.{List, [], _∷_, _++_, map}
 use mathlib.Core.Option.{Option, none, some, Option·map}
-use Prim.Native.Nat.{ℕ, suc, _*_, _≤_, _<_}
+use Prim.Native.Nat.{ℕ, _*_, _≤_, _<_}
 use native.Mathlib.Omega.{arith}
 use lib.ListN.{length, drop, length-map}
 use Rattle.model.specs.declared.Verdict.{Verdict}
@@ -12,7 +12,7 @@ use Rattle.model.specs.Lists.{first, Answer, accepted, refused, _after_, each}
 use Rattle.model.specs.Table.{Table, Read}
 use Rattle.model.specs.Reader.{readTable}
 use Rattle.model.specs.Places.{Valid, readOf}
-use Rattle.model.specs.Schedule.{Visit, schedule, sevenOf, light}
+use Rattle.model.specs.Schedule.{Visit, sevenOf, light}
 use Rattle.model.specs.Checks.{isSend, meets, collides, mayHear, unheard, crowded, faultOf, checked, plan, planOf}
 use Rattle.model.specs.Calls.{Call, verdictOf, laid, planIn, checkCall}
 use Rattle.model.specs.Meetings.{sendsMet, listenersMet, sendsHeard, withMet, concerned, concernedIn, listOr, meetingsIn, noted, meetingsCall}

@@ -1,21 +1,19 @@
 -- The calls' definitions, from what the reader and the schedule answer. Assumes nothing.
 use mathlib.Core.Path.{_≡_, refl, sym, ap, subst, _∙_}
 use mathlib.Core.Bool.{Bool, true, false, cond}
-use mathlib.Core.List.{List, [], _∷_, _++_, map}
-use Prim.Native.Nat.{ℕ, suc, _+_, _*_, _≤_, _<_}
+use mathlib.Core.List.{List, _++_}
+use Prim.Native.Nat.{ℕ, _+_, _*_, _≤_, _<_}
 use native.Mathlib.Omega.{arith}
-use borrow.Author.Tests.{le-leb, lt-leb}
 use lib.Dec.{leb}
-use lib.ListN.{length, drop, length-append}
-use Rattle.model.specs.declared.Verdict.{Verdict}
+use lib.ListN.{length, drop}
 use Rattle.model.specs.declared.Verdict.the-variants.{Accepted, Refused}
 use Rattle.model.specs.Lists.{Answer, accepted, refused, _after_, each}
 use Rattle.model.specs.Table.{Read}
-use Rattle.model.specs.Reader.{byte, readTable}
-use Rattle.model.specs.Places.{Valid, readOf, isAccepted}
-use Rattle.model.specs.Schedule.{Visit, schedule, sevenOf, light}
+use Rattle.model.specs.Reader.{readTable}
+use Rattle.model.specs.Places.{Valid}
+use Rattle.model.specs.Schedule.{Visit, schedule, sevenOf}
 use Rattle.model.specs.Checks.{limit, plan, planOf, checked}
-use Rattle.model.specs.Calls.{verdictOf, Call, refusing, laid, planIn, checkCall, scheduleWith, scheduleCall}
+use Rattle.model.specs.Calls.{verdictOf, refusing, laid, planIn, checkCall, scheduleWith, scheduleCall}
 use Rattle.model.proofs.Located.{valid-read}
 use Rattle.model.proofs.Heard.{checked-is}
 use Rattle.model.proofs.Scheduled.{schedule-is}

@@ -18,6 +18,7 @@ use Rattle.model.specs.Checks.{planOf}
 use Rattle.model.specs.Program.{programBytes}
 use Rattle.model.specs.Calls.{verdictOf, Call, refusing, laid, planIn, programIn, translateWith, checkCall, translateCall}
 use Rattle.model.proofs.Located.{valid-read}
+use Rattle.table.proofs.Answered.{verdict-refused, verdict-accepted}
 
 -- a table that is not accepted has no program
 pub translate-refused : (bs lent : List ℕ) {n c : ℕ} → planIn bs ≡ refused n c → translateCall bs lent ≡ refusing n c lent
@@ -30,15 +31,6 @@ translate-refused bs lent {n} {c} e = go (readTable bs) e
     go : (a : Answer Read) → (a after planOf) ≡ refused n c → translateWith lent (a after λ t. planOf t after λ S. accepted (programBytes t)) ≡ refusing n c lent
     go (accepted t) q = planned t (planOf t) q
     go (refused m d) q = ap (translateWith lent) (let z : _≡_ {A = Answer (List ℕ)} (refused m d) (refused n c) = cc in z)
-
--- an accepted table's verdict comes from its plan
-verdict-refused : {A : Type 0} (a : Answer A) {n c : ℕ} → verdictOf a ≡ Refused n c → a ≡ refused n c
-verdict-refused (accepted x) e = let z : _≡_ {A = ℕ} 0 1 = cc in absurd (omega arith)
-verdict-refused (refused m d) e = cc
-
-verdict-accepted : {A : Type 0} (a : Answer A) → verdictOf a ≡ Accepted → (x : A) × (a ≡ accepted x)
-verdict-accepted (accepted x) e = (x, refl)
-verdict-accepted (refused n c) e = let z : _≡_ {A = ℕ} 0 1 = cc in absurd (omega arith)
 
 pub check-refused : (bs lent : List ℕ) {v : Verdict} {n c : ℕ} → v ≡ checkCall bs → v ≡ Refused n c → translateCall bs lent ≡ refusing n c lent
 unfolding checkCall

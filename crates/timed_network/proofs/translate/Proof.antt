@@ -2,7 +2,7 @@
 use mathlib.Core.Path.{sym, ap, _∙_}
 use native.Mathlib.Omega.{arith}
 use Rattle.model.specs.Calls.{Call}
-use Rattle.timed_network.proofs.Answering.{was-valid, its-starts, was-refused}
+use Rattle.table.proofs.Answered.{was-valid, its-starts, was-refused}
 use Rattle.timed_network.proofs.Translating.{translate-refused}
 use borrow.Author.Needs.{needs}
 use Rattle.timed_network.proofs.translate.Statement.{statement}

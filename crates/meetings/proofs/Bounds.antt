@@ -1,0 +1,65 @@
+-- How many passages are concerned, and when there are any. Assumes nothing.
+use mathlib.Core.Path.{_≡_, refl}
+use mathlib.Core.Logic.{_↔_}
+use mathlib.Core.Bool.{Bool, true, false, cond, _&&_}
+use mathlib.Core.List.{List, [], _∷_}
+use mathlib.Core.Option.{Option, none, some}
+use Prim.Native.Nat.{ℕ, suc, _≤_}
+use native.Mathlib.Omega.{arith}
+use lib.ListN.{length}
+use Rattle.model.specs.Lists.{only, first, Answer, accepted, refused, _after_}
+use Rattle.model.specs.Table.{Table, Read}
+use Rattle.model.specs.Reader.{readTable}
+use Rattle.model.specs.Schedule.{Visit, schedule}
+use Rattle.model.specs.Checks.{limit, isSend, meets, collides, mayHear, unheard, crowded, faultOf, checked}
+use Rattle.model.specs.Meetings.{sendsMet, listenersMet, sendsHeard, withMet, concerned, concernedIn, listOr, meetingsIn}
+use Rattle.model.proofs.Scheduled.{schedule-is}
+
+only-few : (p : Visit → Bool) (S : List Visit) → length (only p S) ≤ length S
+only-few p [] = omega arith
+only-few p (v ∷ S) = go (only-few p S) (p v)
+  where
+    go : length (only p S) ≤ length S → (t : Bool) → length (cond t (v ∷ only p S) (only p S)) ≤ suc (length S)
+    go h true = omega arith
+    go h false = omega arith
+
+module _ (T : Table) (H : ℕ) (S : List Visit) where
+  met-few : (met : Visit → List Visit) → ((v : Visit) → length (met v) ≤ length S) → (o : Option Visit) (vs : List Visit) → length vs ≤ suc (length S)
+      → length (withMet met o vs) ≤ suc (length S)
+  met-few met h none vs e = e
+  met-few met h (some v) vs e = omega (arith, h v)
+
+  -- the passage at fault, and at most all
+  pub concerned-few : length (concerned T H S) ≤ suc (length S)
+  unfolding concerned
+  concerned-few =
+      met-few (sendsMet T H S) (λ s. only-few (meets T H s) S) (first (collides T H S) S) _
+      (met-few (listenersMet T S) (λ s. only-few (λ r. mayHear T r s) S) (first (unheard T H S) S) _
+      (met-few (sendsHeard T H S) (λ r. only-few (λ s. isSend T H s && mayHear T r s) S) (first (crowded T H S) S) [] (omega arith)))
+
+  -- none exactly if 10 to 12 pass
+  pub concerned-none : (concerned T H S ≡ []) ↔ (checked T H S ≡ accepted S)
+  unfolding concerned checked
+  concerned-none = go (first (collides T H S) S) (first (unheard T H S) S) (first (crowded T H S) S)
+    where
+      go : (a b c : Option Visit)
+          → (withMet (sendsMet T H S) a (withMet (listenersMet T S) b (withMet (sendsHeard T H S) c [])) ≡ [])
+          ↔ (faultOf 10 a (faultOf 11 b (faultOf 12 c (accepted S))) ≡ accepted S)
+      go none none none = (λ e. refl, λ e. refl)
+      go none none (some v) = (λ e. let z : _≡_ {A = ℕ} 0 1 = cc in absurd (omega arith), λ e. let z : _≡_ {A = ℕ} 0 1 = cc in absurd (omega arith))
+      go none (some v) c = (λ e. let z : _≡_ {A = ℕ} 0 1 = cc in absurd (omega arith), λ e. let z : _≡_ {A = ℕ} 0 1 = cc in absurd (omega arith))
+      go (some v) b c = (λ e. let z : _≡_ {A = ℕ} 0 1 = cc in absurd (omega arith), λ e. let z : _≡_ {A = ℕ} 0 1 = cc in absurd (omega arith))
+
+-- a list for 1,025 passages is never too short
+pub meetings-few : (bs : List ℕ) → length (meetingsIn bs) ≤ 1025
+unfolding meetingsIn
+meetings-few bs = go (readTable bs)
+  where
+    made : (t : Read) (a : Answer (List Visit)) → schedule limit (t .table) (t .horizon) ≡ a
+        → length (listOr (a after λ S. accepted (concerned (t .table) (t .horizon) S))) ≤ 1025
+    made t (refused n c) q = omega arith
+    made t (accepted S) q = omega (arith, concerned-few (t .table) (t .horizon) S, schedule-is (t .table) (t .horizon) limit q .few)
+
+    go : (a : Answer Read) → length (listOr (a after concernedIn)) ≤ 1025
+    go (refused n c) = omega arith
+    go (accepted t) = made t (schedule limit (t .table) (t .horizon)) refl
