@@ -88,3 +88,5 @@ pub mod MeaningPresent
 pub mod MeaningStays
 pub mod MeaningLaw
 pub mod ProgramSize
+pub mod ObservationSize
+pub mod WholeFew

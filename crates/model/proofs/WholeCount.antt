@@ -32,7 +32,7 @@ abbrev pub readied : ℕ → List Visit → List Visit
 readied now vs = only (λ v. ltb (v .ready) now) vs
 
 -- no more than all
-only-few : {A : Type 0} (p : A → Bool) (xs : List A) → length (only p xs) ≤ length xs
+pub only-few : {A : Type 0} (p : A → Bool) (xs : List A) → length (only p xs) ≤ length xs
 only-few p [] = omega arith
 only-few p (x ∷ xs) = go (only-few p xs) (p x)
   where

@@ -1,0 +1,126 @@
+-- `node::finish` meets its contract. Assumes nothing.
+use mathlib.Core.Path.{refl, sym, _∙_}
+use Prim.Native.Nat.{_+_, _-_, _≤_}
+use native.Mathlib.Omega.{arith}
+use lib.ListN.{length, take, drop}
+use Rattle.parts.proofs.Skim.{tail}
+use Rattle.node.proofs.Held.{still}
+use Rattle.node.proofs.Ops.{Opens, opens}
+use Rattle.node.proofs.Moves.{inside, below-ends, finish-none, finish-on, moved-within, moved-grown}
+use borrow.Author.Needs.{needs}
+use Rattle.node.proofs.finish.Statement.{statement}
+use Rattle.node.proofs.finish.Tie as tie
+
+op-at-requires : tie.Need-op-at-requires
+op-at-requires c κs = search needs
+
+returns : tie.Need-returns
+returns c =
+    let a = c .before .before .before .args in
+    (finish-none (a .p .now) (a .held) (a .r) (sym (c .before .op-at .ensures) ∙ c .if1 .taken), still (a .r) (a .r) refl refl refl)
+
+take-edge-requires : tie.Need-take-edge-requires
+take-edge-requires c κs = search needs
+
+returns-2 : tie.Need-returns-2
+returns-2 c = search needs
+
+choose-block-requires : tie.Need-choose-block-requires
+choose-block-requires c κs = search needs
+
+returns-3 : tie.Need-returns-3
+returns-3 c = search needs
+
+-- the op is known, and its statement stands inside the part
+opened : (c : tie.Else3) → Opens (drop (c .before .before .before .before .before .args .r .pc) (c .before .before .before .before .before .args .p .now)) (c .before .before .before .op-at .result)
+opened c = opens _ _ (sym (c .before .before .before .op-at .ensures)) (c .before .before .if1 .left)
+
+front : (c : tie.Else3)
+    → let a = c .before .before .before .before .before .args in
+    let at = a .r .pc in
+    Opens (take (length (a .p .now) - at) (drop at (a .p .now))) (c .before .before .before .op-at .result)
+front c = let a = c .before .before .before .before .before .args in rw (tail (a .p .now) (a .r .pc)) (opened c)
+
+placed : (c : tie.Else3) → let a = c .before .before .before .before .before .args in a .r .pc + 4 ≤ length (a .p .now)
+placed c = let a = c .before .before .before .before .before .args in inside (a .p .now) (a .r .pc) (c .before .before .before .op-at .result) (opened c)
+
+sub-h : tie.Need-sub-h
+sub-h c = omega (arith, placed c)
+
+part-h-start : tie.Need-part-h-start
+part-h-start c =
+    let a = c .before .before .before .before .before .args in
+    let w : a .r .pc ≤ length (a .p .now) = sub-h c in
+    search needs
+
+part-h-end : tie.Need-part-h-end
+part-h-end c = search needs
+
+statement-length-requires : tie.Need-statement-length-requires
+statement-length-requires c κs = front (c .before) .fits
+
+add-q : tie.Need-add-q
+add-q c = omega (arith, placed (c .before .before), c .statement-length .ensures .1)
+
+work-statement-requires : tie.Need-work-statement-requires
+work-statement-requires c κs =
+    let e = c .before .before .before in
+    let s = e .before .before .before .before .before in
+    let o = front e in
+    (o .fits, omega (arith, o .first), s .pre .1, moved-within _ _ _ (s .pre .2), rw (tail (s .args .p .now) (s .args .r .pc)) (record { fits = s .pre .3 .fits }))
+
+returns-4 : tie.Need-returns-4
+returns-4 c =
+    let e = c .before .before .before .before in
+    let s = e .before .before .before .before .before in
+    let a = s .args in (
+      finish-on (a .p .now) (a .held) (a .r) _ (tail (a .p .now) (a .r .pc)) (e .before .before .before .op-at .result) (sym (e .before .before .before .op-at .ensures))
+          (omega arith)
+          (c .before .before .statement-length .result)
+          (c .before .before .statement-length .ensures .0)
+          (c .work-statement .result)
+          (c .work-statement .ensures .0),
+      moved-grown _ (a .r) (c .work-statement .result) (c .work-statement .ensures .1),
+    )
+
+try-statement-requires : tie.Need-try-statement-requires
+try-statement-requires c κs =
+    let e = c .before .before .before in
+    let s = e .before .before .before .before .before in
+    let o = front e in
+    (o .fits, omega (arith, o .first), below-ends _ _ o (e .before .if2 .left) (e .if3 .left), s .pre .1)
+
+returns-5 : tie.Need-returns-5
+returns-5 c =
+    let e = c .before .before .before .before in
+    let s = e .before .before .before .before .before in
+    let a = s .args in
+    let w = opened e .low in (
+      finish-on (a .p .now) (a .held) (a .r) _ (tail (a .p .now) (a .r .pc)) (e .before .before .before .op-at .result) (sym (e .before .before .before .op-at .ensures))
+          (omega arith)
+          (c .before .before .statement-length .result)
+          (c .before .before .statement-length .ensures .0)
+          (c .try-statement .result)
+          (c .try-statement .ensures .0),
+      moved-grown _ (a .r) (c .try-statement .result) (c .try-statement .ensures .1),
+    )
+
+pub finish-spec : {M : Type 1} → statement M
+finish-spec =
+    tie.close
+    (tie.spec
+    op-at-requires
+    returns
+    take-edge-requires
+    returns-2
+    choose-block-requires
+    returns-3
+    sub-h
+    part-h-start
+    part-h-end
+    statement-length-requires
+    add-q
+    work-statement-requires
+    returns-4
+    try-statement-requires
+    returns-5)

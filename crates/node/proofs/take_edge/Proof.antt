@@ -1,0 +1,86 @@
+-- `node::take_edge` meets its contract. Assumes nothing.
+use mathlib.Core.Path.{_≡_, refl, _∙_}
+use Prim.Native.Nat.{_+_}
+use native.Mathlib.Omega.{arith}
+use borrow.Author.Tests.{not-true, not-false}
+use Rattle.node.proofs.Held.{still}
+use Rattle.node.proofs.Moves.{take-none, take-some, take-grown}
+use borrow.Author.Needs.{needs}
+use Rattle.node.proofs.take_edge.Statement.{statement}
+use Rattle.node.proofs.take_edge.Tie as tie
+
+returns : tie.Need-returns
+returns c =
+    let s = c .before .before .before .before in
+    let a = s .args in
+    (take-none (a .p .now) (a .held) (a .r) (s .pre .0) (not-true _ (c .if1 .taken)), still (a .r) _ refl refl refl)
+
+byte-at-requires : tie.Need-byte-at-requires
+byte-at-requires c κs = search needs
+
+wide-requires : tie.Need-wide-requires
+wide-requires c κs = search needs
+
+wide-requires-2 : tie.Need-wide-requires-2
+wide-requires-2 c κs = search needs
+
+add-block-place : tie.Need-add-block-place
+add-block-place c = search needs
+
+block-place-requires : tie.Need-block-place-requires
+block-place-requires c κs = search needs
+
+wide64-requires : tie.Need-wide64-requires
+wide64-requires c κs = search needs
+
+left-of-requires : tie.Need-left-of-requires
+left-of-requires c κs = search needs
+
+wide64-requires-2 : tie.Need-wide64-requires-2
+wide64-requires-2 c κs = search needs
+
+add-q : tie.Need-add-q
+add-q c = search needs
+
+wide64-requires-3 : tie.Need-wide64-requires-3
+wide64-requires-3 c κs = search needs
+
+add-q-2 : tie.Need-add-q-2
+add-q-2 c = search needs
+
+returns-2 : tie.Need-returns-2
+returns-2 c =
+    let old = c .before .before in
+    let new = old .before in
+    let place = new .before .before in
+    let if1 = place .before .before .before .before in
+    let s = if1 .before .before .before .before in
+    let a = s .args in
+    let t : a .r .t + old .wide642 .result + c .wide643 .result ≡ a .r .t + a .r .d + a .r .kept .ready =
+    rw (old .wide642 .ensures .0, c .wide643 .ensures .0) in (
+      take-some (a .p .now) (a .held) (a .r) (place .block-place .result) (a .r .t + old .wide642 .result + c .wide643 .result) (new .left-of .result)
+          (s .pre .0)
+          (not-false _ (if1 .if1 .left))
+          (place .block-place .ensures ∙ rw (place .before .wide2 .ensures .0, place .before .before .wide .ensures .0, place .before .before .before .byte-at .ensures))
+          t
+          (new .left-of .ensures ∙ rw (new .before .wide64 .ensures .0)),
+      take-grown (a .r) _ (omega (arith, old .wide642 .ensures)) (omega (arith, c .wide643 .ensures)) t refl refl,
+    )
+
+pub take-edge-spec : {M : Type 1} → statement M
+take-edge-spec =
+    tie.close
+    (tie.spec
+    returns
+    byte-at-requires
+    wide-requires
+    wide-requires-2
+    add-block-place
+    block-place-requires
+    wide64-requires
+    left-of-requires
+    wide64-requires-2
+    add-q
+    wide64-requires-3
+    add-q-2
+    returns-2)

@@ -1,0 +1,59 @@
+-- `node::work_statement` meets its contract. Assumes nothing.
+use mathlib.Core.Path.{refl}
+use native.Mathlib.Omega.{arith}
+use Rattle.node.proofs.Held.{still, sleep-grown}
+use Rattle.node.proofs.Steps.{slept, idle}
+use borrow.Author.Needs.{needs}
+use Rattle.node.proofs.work_statement.Statement.{statement}
+use Rattle.node.proofs.work_statement.Tie as tie
+
+shared-slice-read-op : tie.Need-shared-slice-read-op
+shared-slice-read-op c = search needs
+
+add-q : tie.Need-add-q
+add-q c = search needs
+
+returns : tie.Need-returns
+returns c =
+    let s = c .before .before .before .before in
+    let a = s .args in
+    (slept (a .h .now) (a .held) (a .r) (s .pre .0) (c .before .if1 .taken), sleep-grown (a .r) _ refl refl refl)
+
+update-statement-requires : tie.Need-update-statement-requires
+update-statement-requires c κs = search needs
+
+returns-2 : tie.Need-returns-2
+returns-2 c = search needs
+
+returns-3 : tie.Need-returns-3
+returns-3 c =
+    let s = c .before .before .before .before .before in
+    let a = s .args in
+    (idle (a .h .now) (a .held) (a .r) (s .pre .0) (omega arith) (omega arith), still (a .r) (a .r) refl refl refl)
+
+clock-statement-requires : tie.Need-clock-statement-requires
+clock-statement-requires c κs = search needs
+
+returns-4 : tie.Need-returns-4
+returns-4 c = search needs
+
+enter-statement-requires : tie.Need-enter-statement-requires
+enter-statement-requires c κs = search needs
+
+returns-5 : tie.Need-returns-5
+returns-5 c = search needs
+
+pub work-statement-spec : {M : Type 1} → statement M
+work-statement-spec =
+    tie.close
+    (tie.spec
+    shared-slice-read-op
+    add-q
+    returns
+    update-statement-requires
+    returns-2
+    returns-3
+    clock-statement-requires
+    returns-4
+    enter-statement-requires
+    returns-5)

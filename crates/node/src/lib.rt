@@ -1,0 +1,337 @@
+// One node: its registers, and what the statement at its program counter does to them (document 01, 'The program', last paragraph).
+// Any bytes may be the node's part.
+mod candidate;
+
+ghost use mathlib.Core.Path.{_≡_};
+ghost use mathlib.Core.Bool.{true};
+ghost use mathlib.Core.Option.{none};
+ghost use Prim.Native.Nat.{_+_, _-_, _*_, _≤_, _<_};
+ghost use lib.IntN.{_+ℤ_};
+ghost use lib.ListN.{length, take, drop};
+ghost use Rattle.model.specs.Reader.{byte, word};
+ghost use Rattle.model.specs.Window.{clockAt, valueAt, inRange, paired};
+ghost use Rattle.model.specs.Machine.{blockPlace, statementLength};
+ghost use Rattle.node.specs.Views.{nodeOf, Held, Within, opIn, Addable, Executed, Tried, Grown};
+
+// How many clocks and variables the node has.
+pub struct Counts {
+    pub clocks: u8,
+    pub variables: u8,
+}
+
+// A trial: its ready delay, its end once it was lowered, and whether no bound failed.
+pub struct Trial {
+    pub ready: u16,
+    pub ended: bool,
+    pub end: u16,
+    pub good: bool,
+}
+
+// The edge kept, if any.
+pub struct Kept {
+    pub some: bool,
+    pub edge: u8,
+    pub ready: u16,
+    pub end: u16,
+}
+
+// The registers. pc is the place of the next statement in the node's part; goes is the location paired with the message taken, if one was.
+pub struct Node {
+    pub pc: usize,
+    pub location: u8,
+    pub clocks: [u64; 4],
+    pub values: [i16; 4],
+    pub t: u64,
+    pub n: u16,
+    pub d: u16,
+    pub edge: u8,
+    pub taken: bool,
+    pub goes: u8,
+    pub tried: Trial,
+    pub kept: Kept,
+    pub sleeps: u64,
+}
+
+fn wide(x: u8) -> usize
+    ensures { λ r. ⌜ (r ≡ x) × (r < 256) ⌝ }
+{
+    x as usize
+}
+
+fn wide16(x: u8) -> u16
+    ensures { λ r. ⌜ (r ≡ x) × (r < 256) ⌝ }
+{
+    x as u16
+}
+
+fn wide64(x: u16) -> u64
+    ensures { λ r. ⌜ (r ≡ x) × (r < 65536) ⌝ }
+{
+    x as u64
+}
+
+fn wide32(x: i16) -> i32
+    ensures { λ r. ⌜ r ≡ x ⌝ }
+{
+    x as i32
+}
+
+// The byte at a place, 0 past the end.
+pub fn byte_at(p: &[u8], i: usize) -> u8
+    ensures { λ r. ⌜ r ≡ byte (now (p .entry)) i ⌝ }
+{
+    if i < p.len() { p[i] } else { 0 }
+}
+
+fn number_at(p: &[u8], i: usize) -> u16
+    requires { ⌜ i ≤ 65535 ⌝ }
+    ensures { λ r. ⌜ r ≡ word (now (p .entry)) i ⌝ }
+{
+    wide16(byte_at(p, i)) * 256 + wide16(byte_at(p, i + 1))
+}
+
+// The op of the statement at a place, 255 where there is none.
+pub fn op_at(p: &[u8], at: usize) -> u8
+    ensures { λ r. ⌜ r ≡ opIn (drop at (now (p .entry))) ⌝ }
+{
+    if p.len() < 4 {
+        return 255;
+    }
+    if p.len() - 4 < at {
+        return 255;
+    }
+    let op = p[at];
+    if op == 6 {
+        return 255;
+    }
+    if op < 18 { op } else { 255 }
+}
+
+// Where block i starts.
+pub fn block_place(p: &[u8], i: usize) -> usize
+    requires { ⌜ i ≤ 512 ⌝ }
+    ensures { λ r. ⌜ r ≡ blockPlace (now (p .entry)) i ⌝ }
+{
+    let head = 6 + (wide(byte_at(p, 2)) + wide(byte_at(p, 3))) * 2;
+    head + (number_at(p, 6 + i * 2) as usize) * 4
+}
+
+// A clock, 0 for one that the node does not have.
+fn clock_at(clocks: [u64; 4], n: u8, i: u8) -> u64
+    requires { ⌜ n ≤ 4 ⌝ }
+    ensures { λ r. ⌜ r ≡ clockAt (take n clocks) i ⌝ }
+{
+    if i < n { clocks[wide(i)] } else { 0 }
+}
+
+pub fn value_at(values: [i16; 4], n: u8, i: u8) -> i16
+    requires { ⌜ n ≤ 4 ⌝ }
+    ensures { λ r. ⌜ r ≡ valueAt (take n values) i ⌝ }
+{
+    if i < n { values[wide(i)] } else { 0 }
+}
+
+// The trial after a bound, by its op: low (0B), high (0C), the two data bounds (0D, 0E), or a new trial.
+fn tried(h: &[u8], held: Counts, r: Node) -> Trial
+    requires { ⌜ (4 ≤ length (now h)) × (10 ≤ byte (now h) 0) × (byte (now h) 0 ≤ 14) × Held held ⌝ }
+    ensures { λ x. ⌜ Tried (now (h .entry)) held r x ⌝ }
+{
+    let op = h[0];
+    let a = h[1];
+    let k = parts::word_at(h, 2);
+    let x = r.tried;
+    let clocks = r.clocks;
+    let values = r.values;
+    if op == 10 {
+        return candidate::no_trial();
+    }
+    if op == 11 {
+        return candidate::raised(x, k, clock_at(clocks, held.clocks, a));
+    }
+    if op == 12 {
+        return candidate::lowered(x, k, clock_at(clocks, held.clocks, a));
+    }
+    let bound = decoder::signed_at(h, 2);
+    let value = value_at(values, held.variables, a);
+    if op == 13 {
+        return candidate::met(x, bound <= value);
+    }
+    candidate::met(x, value <= bound)
+}
+
+// A statement of a trial (0A to 0F).
+fn try_statement(h: &[u8], held: Counts, r: Node) -> Node
+    requires { ⌜ (4 ≤ length (now h)) × (10 ≤ byte (now h) 0) × (byte (now h) 0 ≤ 15) × Held held ⌝ }
+    ensures { λ q. ⌜ Executed (now (h .entry)) held r q × Grown r q ⌝ }
+{
+    let mut q = r;
+    if h[0] == 15 {
+        let k = candidate::keeps(r.tried, h[3], r.kept);
+        q.kept = k;
+    } else {
+        let x = tried(h, held, r);
+        q.tried = x;
+    }
+    q
+}
+
+// A sum that stays in range.
+fn sum(x: i16, z: i16) -> i16
+    requires { ⌜ inRange (x +ℤ z) ≡ true ⌝ }
+    ensures { λ r. ⌜ r ≡ x +ℤ z ⌝ }
+{
+    (wide32(x) + wide32(z)) as i16
+}
+
+// Set (01) and add (02).
+fn update_statement(h: &[u8], held: Counts, r: Node) -> Node
+    requires { ⌜ (4 ≤ length (now h)) × (1 ≤ byte (now h) 0) × (byte (now h) 0 ≤ 2) × Held held × Addable (now h) held r ⌝ }
+    ensures { λ q. ⌜ Executed (now (h .entry)) held r q × Grown r q ⌝ }
+{
+    let a = h[1];
+    if held.variables <= a {
+        return r;
+    }
+    let z = decoder::signed_at(h, 2);
+    let mut values = r.values;
+    if h[0] == 1 {
+        values[wide(a)] = z;
+    } else {
+        values[wide(a)] = sum(values[wide(a)], z);
+    }
+    let mut q = r;
+    q.values = values;
+    q
+}
+
+// Age (07) and zero (08).
+fn clock_statement(h: &[u8], held: Counts, r: Node) -> Node
+    requires { ⌜ (4 ≤ length (now h)) × (7 ≤ byte (now h) 0) × (byte (now h) 0 ≤ 8) × Held held × Within 4000000000000000000 r ⌝ }
+    ensures { λ q. ⌜ Executed (now (h .entry)) held r q × Grown r q ⌝ }
+{
+    let a = h[1];
+    if held.clocks <= a {
+        return r;
+    }
+    let mut clocks = r.clocks;
+    if h[0] == 8 {
+        clocks[wide(a)] = 0;
+    } else {
+        clocks[wide(a)] = clocks[wide(a)] + (wide64(r.n) + wide64(r.d));
+    }
+    let mut q = r;
+    q.clocks = clocks;
+    q
+}
+
+// Enter (09): the location, after a message the paired one.
+fn enter_statement(h: &[u8], held: Counts, r: Node) -> Node
+    requires { ⌜ (4 ≤ length (now h)) × (byte (now h) 0 ≡ 9) ⌝ }
+    ensures { λ q. ⌜ Executed (now (h .entry)) held r q × Grown r q ⌝ }
+{
+    let to = h[3];
+    let mut q = r;
+    if r.taken {
+        q.location = r.goes;
+    } else {
+        q.location = to;
+    }
+    q.taken = false;
+    q
+}
+
+// A statement of work or after it (00 to 09). Done, send and listen change no register.
+fn work_statement(h: &[u8], held: Counts, r: Node) -> Node
+    requires { ⌜ (4 ≤ length (now h)) × (byte (now h) 0 ≤ 9) × Held held × Within 4000000000000000000 r × Addable (now h) held r ⌝ }
+    ensures { λ q. ⌜ Executed (now (h .entry)) held r q × Grown r q ⌝ }
+{
+    let op = h[0];
+    if op == 0 {
+        let mut q = r;
+        q.sleeps = r.sleeps + 1;
+        return q;
+    }
+    if op < 3 {
+        return update_statement(h, held, r);
+    }
+    if op < 7 {
+        return r;
+    }
+    if op < 9 {
+        return clock_statement(h, held, r);
+    }
+    enter_statement(h, held, r)
+}
+
+// How many bytes the statement at the front has, a listen's pairs included.
+fn statement_length(h: &[u8]) -> usize
+    requires { ⌜ 4 ≤ length (now h) ⌝ }
+    ensures { λ r. ⌜ (r ≡ statementLength (now (h .entry))) × (r ≤ 1024) ⌝ }
+{
+    if h[0] == 5 {
+        return 4 + wide(h[1]) * 4;
+    }
+    4
+}
+
+// Take (10): t moves by the old d, then by the new ready delay; with nothing kept there is no next statement.
+fn take_edge(p: &[u8], held: Counts, r: Node) -> Node
+    requires { ⌜ (opIn (drop (r .pc) (now p)) ≡ 16) × Within 4000000000000000000 r ⌝ }
+    ensures { λ q. ⌜ (nodeOf (now (p .entry)) held q ≡ Rattle.model.specs.Machine.finish (now (p .entry)) (nodeOf (now (p .entry)) held r) (nodeOf (now (p .entry)) held r .rest)) × Grown r q ⌝ }
+{
+    let k = r.kept;
+    let mut q = r;
+    if !k.some {
+        q.pc = p.len();
+        return q;
+    }
+    q.pc = block_place(p, wide(byte_at(p, 2)) + wide(k.edge));
+    let d = candidate::left_of(k.end, wide64(k.ready));
+    q.t = r.t + wide64(r.d) + wide64(k.ready);
+    q.n = k.ready;
+    q.d = d;
+    q.edge = k.edge;
+    let nothing = Kept {
+        some: false,
+        edge: 0,
+        ready: 0,
+        end: 0,
+    };
+    q.kept = nothing;
+    q
+}
+
+// Choose (11) goes to the present location's block.
+fn choose_block(p: &[u8], held: Counts, r: Node) -> Node
+    requires { ⌜ opIn (drop (r .pc) (now p)) ≡ 17 ⌝ }
+    ensures { λ q. ⌜ (nodeOf (now (p .entry)) held q ≡ Rattle.model.specs.Machine.finish (now (p .entry)) (nodeOf (now (p .entry)) held r) (nodeOf (now (p .entry)) held r .rest)) × Grown r q ⌝ }
+{
+    let mut q = r;
+    q.pc = block_place(p, wide(r.location));
+    q
+}
+
+// The registers after the statement at the program counter.
+pub fn finish(p: &[u8], held: Counts, r: Node) -> Node
+    requires { ⌜ (length (now p) ≤ 65535) × Held held × Within 4000000000000000000 r × Addable (drop (r .pc) (now p)) held r ⌝ }
+    ensures { λ q. ⌜ (nodeOf (now (p .entry)) held q ≡ Rattle.model.specs.Machine.finish (now (p .entry)) (nodeOf (now (p .entry)) held r) (nodeOf (now (p .entry)) held r .rest)) × Grown r q ⌝ }
+{
+    let op = op_at(p, r.pc);
+    if op == 255 {
+        return r;
+    }
+    if op == 16 {
+        return take_edge(p, held, r);
+    }
+    if op == 17 {
+        return choose_block(p, held, r);
+    }
+    let at = r.pc;
+    let h = &p[at..];
+    let mut q = r;
+    q.pc = at + statement_length(h);
+    if op < 10 {
+        return work_statement(h, held, q);
+    }
+    try_statement(h, held, q)
+}

@@ -1,0 +1,204 @@
+// The registers of eight nodes as numbers in two lent slices, 32 words and four variables a node, so that a choice touches one node and
+// copies no other.
+ghost use mathlib.Core.Path.{_≡_};
+ghost use Prim.Native.Nat.{_+_, _*_, _%_, _≤_, _<_};
+ghost use lib.ListN.{length, set};
+ghost use lib.Seq.{sets};
+ghost use Rattle.registers.specs.Words.{flagOf, wordIn, clocksIn, valuesIn, trialIn, keptIn, nodeIn, heldIn, timeWords, placeWords, trialWords, keptWords, fourOf};
+ghost use Rattle.registers.specs.Words.{Eight, Stored};
+use node::Counts;
+use node::Kept;
+use node::Node;
+use node::Trial;
+
+fn small(x: u64) -> u8
+    ensures { λ r. ⌜ r ≡ x % 256 ⌝ }
+{
+    (x % 256) as u8
+}
+
+fn half(x: u64) -> u16
+    ensures { λ r. ⌜ r ≡ x % 65536 ⌝ }
+{
+    (x % 65536) as u16
+}
+
+// 1 for true.
+fn flag(b: bool) -> u64
+    ensures { λ r. ⌜ r ≡ flagOf b ⌝ }
+{
+    if b { 1 } else { 0 }
+}
+
+// Word k of node c.
+pub fn word(l: &[u64], c: usize, k: usize) -> u64
+    requires { ⌜ (256 ≤ length (now l)) × (c < 8) × (k < 32) ⌝ }
+    ensures { λ r. ⌜ r ≡ wordIn (now (l .entry)) c k ⌝ }
+{
+    l[c * 32 + k]
+}
+
+pub fn put_word(l: &mut [u64], c: usize, k: usize, x: u64)
+    requires { ⌜ (256 ≤ length (now l)) × (c < 8) × (k < 32) ⌝ }
+    ensures { λ _. ⌜ now (l .exit) ≡ set (now (l .entry)) (c * 32 + k) x ⌝ }
+{
+    l[c * 32 + k] = x;
+}
+
+// How many clocks and variables node c has.
+pub fn counts(l: &[u64], c: usize) -> Counts
+    requires { ⌜ (256 ≤ length (now l)) × (c < 8) ⌝ }
+    ensures { λ r. ⌜ r ≡ heldIn (now (l .entry)) c ⌝ }
+{
+    Counts {
+        clocks: small(word(l, c, 23)),
+        variables: small(word(l, c, 24)),
+    }
+}
+
+fn load_trial(l: &[u64], c: usize) -> Trial
+    requires { ⌜ (256 ≤ length (now l)) × (c < 8) ⌝ }
+    ensures { λ r. ⌜ r ≡ trialIn (now (l .entry)) c ⌝ }
+{
+    Trial {
+        ready: half(word(l, c, 12)),
+        ended: word(l, c, 13) == 1,
+        end: half(word(l, c, 14)),
+        good: word(l, c, 15) == 1,
+    }
+}
+
+fn load_kept(l: &[u64], c: usize) -> Kept
+    requires { ⌜ (256 ≤ length (now l)) × (c < 8) ⌝ }
+    ensures { λ r. ⌜ r ≡ keptIn (now (l .entry)) c ⌝ }
+{
+    Kept {
+        some: word(l, c, 16) == 1,
+        edge: small(word(l, c, 17)),
+        ready: half(word(l, c, 18)),
+        end: half(word(l, c, 19)),
+    }
+}
+
+fn load_clocks(l: &[u64], c: usize) -> [u64; 4]
+    requires { ⌜ (256 ≤ length (now l)) × (c < 8) ⌝ }
+    ensures { λ r. ⌜ r ≡ clocksIn (now (l .entry)) c ⌝ }
+{
+    [word(l, c, 2), word(l, c, 3), word(l, c, 4), word(l, c, 5)]
+}
+
+fn load_values(v: &[i16], c: usize) -> [i16; 4]
+    requires { ⌜ (32 ≤ length (now v)) × (c < 8) ⌝ }
+    ensures { λ r. ⌜ r ≡ valuesIn (now (v .entry)) c ⌝ }
+{
+    let at = c * 4;
+    [v[at], v[at + 1], v[at + 2], v[at + 3]]
+}
+
+// The registers of node c.
+pub fn load(l: &[u64], v: &[i16], c: usize) -> Node
+    requires { ⌜ Eight (now l) (now v) × (c < 8) ⌝ }
+    ensures { λ r. ⌜ r ≡ nodeIn (now (l .entry)) (now (v .entry)) c ⌝ }
+{
+    Node {
+        pc: word(l, c, 0) as usize,
+        location: small(word(l, c, 8)),
+        clocks: load_clocks(l, c),
+        values: load_values(v, c),
+        t: word(l, c, 1),
+        n: half(word(l, c, 6)),
+        d: half(word(l, c, 7)),
+        edge: small(word(l, c, 9)),
+        taken: word(l, c, 10) == 1,
+        goes: small(word(l, c, 11)),
+        tried: load_trial(l, c),
+        kept: load_kept(l, c),
+        sleeps: word(l, c, 20),
+    }
+}
+
+// Words 0 to 5, from place at on.
+fn store_times(l: &mut [u64], at: usize, pc: usize, t: u64, clocks: [u64; 4])
+    requires { ⌜ at + 6 ≤ length (now l) ⌝ }
+    ensures { λ _. ⌜ now (l .exit) ≡ sets (now (l .entry)) at (timeWords pc t clocks) ⌝ }
+{
+    l[at] = pc as u64;
+    l[at + 1] = t;
+    l[at + 2] = clocks[0];
+    l[at + 3] = clocks[1];
+    l[at + 4] = clocks[2];
+    l[at + 5] = clocks[3];
+}
+
+// Words 6 to 11, from place at on.
+fn store_place(
+    l: &mut [u64],
+    at: usize,
+    n: u16,
+    d: u16,
+    location: u8,
+    edge: u8,
+    taken: bool,
+    goes: u8,
+)
+    requires { ⌜ at + 6 ≤ length (now l) ⌝ }
+    ensures { λ _. ⌜ now (l .exit) ≡ sets (now (l .entry)) at (placeWords n d location edge taken goes) ⌝ }
+{
+    l[at] = n as u64;
+    l[at + 1] = d as u64;
+    l[at + 2] = location as u64;
+    l[at + 3] = edge as u64;
+    l[at + 4] = flag(taken);
+    l[at + 5] = goes as u64;
+}
+
+// Words 12 to 15, from place at on.
+fn store_trial(l: &mut [u64], at: usize, x: Trial)
+    requires { ⌜ at + 4 ≤ length (now l) ⌝ }
+    ensures { λ _. ⌜ now (l .exit) ≡ sets (now (l .entry)) at (trialWords x) ⌝ }
+{
+    l[at] = x.ready as u64;
+    l[at + 1] = flag(x.ended);
+    l[at + 2] = x.end as u64;
+    l[at + 3] = flag(x.good);
+}
+
+// Words 16 to 19, from place at on.
+fn store_kept(l: &mut [u64], at: usize, k: Kept)
+    requires { ⌜ at + 4 ≤ length (now l) ⌝ }
+    ensures { λ _. ⌜ now (l .exit) ≡ sets (now (l .entry)) at (keptWords k) ⌝ }
+{
+    l[at] = flag(k.some);
+    l[at + 1] = k.edge as u64;
+    l[at + 2] = k.ready as u64;
+    l[at + 3] = k.end as u64;
+}
+
+// The variables.
+fn store_values(v: &mut [i16], at: usize, values: [i16; 4])
+    requires { ⌜ at + 4 ≤ length (now v) ⌝ }
+    ensures { λ _. ⌜ now (v .exit) ≡ sets (now (v .entry)) at (fourOf values) ⌝ }
+{
+    v[at] = values[0];
+    v[at + 1] = values[1];
+    v[at + 2] = values[2];
+    v[at + 3] = values[3];
+}
+
+// Puts the registers of node c back.
+pub fn store(l: &mut [u64], v: &mut [i16], c: usize, r: Node)
+    requires { ⌜ Eight (now l) (now v) × (c < 8) ⌝ }
+    ensures { λ _. ⌜ Stored (now (l .entry)) (now (v .entry)) c r (now (l .exit)) (now (v .exit)) ⌝ }
+{
+    let at = c * 32;
+    let clocks = r.clocks;
+    let tried = r.tried;
+    let kept = r.kept;
+    let values = r.values;
+    store_times(l, at, r.pc, r.t, clocks);
+    store_place(l, at + 6, r.n, r.d, r.location, r.edge, r.taken, r.goes);
+    store_trial(l, at + 12, tried);
+    store_kept(l, at + 16, kept);
+    l[at + 20] = r.sleeps;
+    store_values(v, c * 4, values);
+}

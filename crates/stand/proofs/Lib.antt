@@ -1,0 +1,5 @@
+pub mod ByOp
+pub mod Pairs
+pub mod Sums
+pub mod Start
+pub mod Message
