@@ -1,0 +1,13 @@
+pub mod Numbered
+pub mod Frames
+pub mod Placing
+pub mod RowsOwn
+pub mod Ops
+pub mod Sleeps
+pub mod NodeMoves
+pub mod Choices
+pub mod Hearing
+pub mod Moves
+pub mod Alone
+pub mod Sending
+pub mod Loads

@@ -1,0 +1,88 @@
+-- The run's state after a node has moved, and the slices that hold it. Assumes nothing.
+use mathlib.Core.Path.{_≡_, refl, sym, ap, ap₂, subst, _∙_}
+use mathlib.Core.Bool.{Bool, true, false}
+use mathlib.Core.List.{List, map}
+use Prim.Native.Nat.{ℕ, suc, _+_, _*_, _≤_, _<_}
+use native.Mathlib.Omega.{arith}
+use borrow.Author.Tests.{eqb-true, eqb-false}
+use lib.Dec.{eqb}
+use lib.IntN.{ℤ}
+use lib.ListN.{length, set}
+use lib.Seq.{sets}
+use Rattle.model.specs.Lists.{below, each}
+use Rattle.model.specs.Schedule.{own}
+use Rattle.model.specs.Network.{Observation, Work}
+use Rattle.model.specs.Machine.{Node, finish}
+use Rattle.model.specs.Run.{Counts, Setting, readyOfNth, Run, on, moved, finished, choose1, observationBytes}
+use Rattle.rows.specs.Rows.{rowsOf}
+use Rattle.registers.specs.Words.{wordIn, partIn}
+use Rattle.machine.specs.declared.Moved.{Moved}
+use Rattle.machine.specs.Running.{countsAt, settingIn, viewIn, NodeStands, Running}
+use Rattle.machine.specs.Chosen.{NodeMoved, After}
+use Rattle.machine.proofs.Numbered.{same-below, set-below}
+use Rattle.machine.proofs.Frames.{same-view, same-stands, stands-wider}
+use Rattle.machine.proofs.Hearing.{node-at}
+
+module _ {program rows : List ℕ} {n : ℕ} {l : List ℕ} {v : List ℤ} {c : ℕ} {q : Node} {l′ : List ℕ} {v′ : List ℤ} (mv : NodeMoved program rows n l v c q l′ v′) (count : ℕ) where
+  -- the nodes, one of them as it is now
+  pub nodes-moved : {ns : List Node} → ns ≡ map (viewIn program l v) (below count) → set ns c q ≡ map (viewIn program l′ v′) (below count)
+  nodes-moved {ns} e =
+      ap₂ (λ (xs : List Node) (x : Node). set xs c x) e (sym (mv .view))
+      ∙ set-below (viewIn program l v) (viewIn program l′ v′) count c (λ i h m. same-view (mv .others i m) program)
+
+  held-same : (i k : ℕ) → 21 ≤ k → k < 25 → wordIn l′ i k ≡ wordIn l i k
+  held-same i k a b = go (eqb i c) refl
+    where
+      go : (t : Bool) → eqb i c ≡ t → wordIn l′ i k ≡ wordIn l i k
+      go true e = rw (eqb-true i c e) (mv .fixed k a b)
+      go false e = mv .others i (eqb-false i c e) .words k (omega arith)
+
+  -- what the run goes by
+  pub setting-moved : (H : ℕ) → settingIn program H rows n l′ count ≡ settingIn program H rows n l count
+  setting-moved H =
+      ap (λ (ks : List Counts). record { program = program; horizon = H; counts = ks; ready = λ j k. readyOfNth (own j (rowsOf rows n)) k })
+      (same-below (countsAt l′) (countsAt l) count (λ i h. rw (held-same i 23 (omega arith) (omega arith), held-same i 24 (omega arith) (omega arith))))
+
+  -- each stands, within bounds of its own
+  pub stands-moved : (i m : ℕ) → NodeStands program rows n l v i m → NodeStands program rows n l′ v′ i (m + 131070)
+  stands-moved i m a = go (eqb i c) refl
+    where
+      go : (t : Bool) → eqb i c ≡ t → NodeStands program rows n l′ v′ i (m + 131070)
+      go true e =
+          let p = eqb-true i c e in
+          subst (λ (j : ℕ). NodeStands program rows n l′ v′ j (m + 131070)) (sym p) (mv .stands m (subst (λ (j : ℕ). NodeStands program rows n l v j m) p a))
+      go false e = stands-wider m (m + 131070) (omega arith) (same-stands (mv .others i (eqb-false i c e)) a)
+
+-- node c has finished its statement, and nothing else has happened to any node
+module _ {program rows : List ℕ} {n : ℕ} (H count : ℕ) {c : ℕ} {l : List ℕ} {v : List ℤ} {l′ : List ℕ} {v′ : List ℤ}
+    (mv : NodeMoved program rows n l v c (finish (partIn program l c) (viewIn program l v c) (viewIn program l v c .rest)) l′ v′) (h : c < count) where
+  abbrev g : Setting
+  g = settingIn program H rows n l count
+
+  pub finished-is : {s : Run} → Running program rows n l v count s → finished g s c ≡ finish (partIn program l c) (viewIn program l v c) (viewIn program l v c .rest)
+  finished-is {s} r =
+      ap₂ (λ (p : List ℕ) (x : Node). finish p x (x .rest)) (sym (r .each c h .part)) (node-at program l v count s (r .nodes) c h)
+
+  pub after-alone : (s : Run) → Running program rows n l v count s → (os : List Observation) (ws : List Work) (out out′ : List ℕ) (written : ℕ) (m : Moved)
+      → choose1 g s c ≡ on (moved s c (finished g s c) os ws) → m .written ≡ written + length os → out′ ≡ sets out (written * 32) (each observationBytes os)
+      → After program rows n H count c l s out written m l′ v′ out′
+  after-alone s r os ws out out′ written m e w b =
+      record {
+        next = moved s c (finished g s c) os ws;
+        goes = e;
+        running =
+            record {
+              most = r .most;
+              listed = r .listed;
+              eight = mv .eight;
+              nodes = ap (set (s .nodes) c) (finished-is r) ∙ nodes-moved mv count (r .nodes);
+              each = λ i k. stands-wider (s .used * 131070 + 131070) (suc (s .used) * 131070) (omega arith) (stands-moved mv count i (s .used * 131070) (r .each i k));
+            };
+        same = setting-moved mv count H;
+        tick = refl;
+        used = refl;
+        seen = os;
+        observed = refl;
+        counted = w;
+        bytes = b;
+      }

@@ -1,0 +1,272 @@
+-- What stands in the slices after a node's registers were put back, and after it has finished its statement or taken a message. Assumes nothing.
+use mathlib.Core.Path.{_≡_, refl, sym, ap, ap₂, subst, _∙_}
+use mathlib.Core.Logic.{_⊎_, ⊎-elim}
+use mathlib.Core.List.{List}
+use Prim.Native.Nat.{ℕ, suc, _+_, _-_, _*_, _≤_, _<_}
+use native.Mathlib.Omega.{arith}
+use lib.IntN.{ℤ}
+use lib.ListN.{length, take, drop, set, length-set, length-take}
+use Rattle.model.specs.Machine.{finish}
+use Rattle.model.specs.Run.{standOf, takesMessage}
+use Rattle.model.proofs.Own.{all-then}
+use Rattle.rows.specs.Rows.{rowsOf}
+use Rattle.node.specs.declared.Counts.{Counts}
+use Rattle.node.specs.declared.Node.{Node}
+use Rattle.node.specs.Views.{nodeOf, Held, Within, Grown, opIn, Addable}
+use Rattle.stand.specs.Stands.{dueTick, lastTick}
+use Rattle.registers.specs.Words.{wordIn, nodeIn, partIn, heldIn, Eight, Stored}
+use Rattle.machine.specs.Running.{RowIs, readyAt, viewIn, NodeStands}
+use Rattle.machine.specs.Chosen.{opOf, Inside, NodePut, RowPassed, NodeMoved}
+use Rattle.machine.proofs.Placing.{put-here, put-beside, put-others, same-registers, same-part, same-held, same-then}
+use Rattle.machine.proofs.Sleeps.{sleep-finished, work-finished, message-taken}
+
+-- ## A node's part as the code lends it
+
+abbrev pub lent : List ℕ → ℕ → ℕ → List ℕ
+lent program base size = take (base + size - base) (drop base program)
+
+pub lent-is : (program l : List ℕ) (c base size : ℕ) → base ≡ wordIn l c 21 → size ≡ wordIn l c 22 → lent program base size ≡ partIn program l c
+lent-is program l c base size b s =
+    let e : base + size - base ≡ wordIn l c 22 = omega arith in
+    rw (e, b)
+
+pub lent-short : (program : List ℕ) (base size : ℕ) → size ≤ 65535 → length (lent program base size) ≤ 65535
+lent-short program base size h = simp length-take (omega arith)
+
+-- ## Put back
+
+pub still-inside : (program l : List ℕ) (v : List ℤ) (c : ℕ) (q : Node) (l′ : List ℕ) (v′ : List ℤ) → Stored l v c q l′ v′ → Inside program l c → Inside program l′ c
+still-inside program l v c q l′ v′ s i =
+    let base = s .beside 21 (omega arith) (omega arith) in
+    let size = s .beside 22 (omega arith) (omega arith) in
+    record { inside = rw (base, size) (i .inside); short = rw size (i .short) }
+
+module _ (program rows : List ℕ) (n : ℕ) (l : List ℕ) (v : List ℤ) (c : ℕ) (q : Node) (l₁ : List ℕ) (v₁ : List ℤ) (due last : ℕ)
+    (e : Eight l v) (h : c < 8) (s : Stored l v c q l₁ v₁) where
+  long₁ : 256 ≤ length l₁
+  long₁ = omega (arith, e .words, s .length-l)
+
+  -- when the node is due, and when it is late, put beside its registers
+  abbrev l₂ : List ℕ
+  l₂ = set l₁ (c * 32 + 26) due
+
+  abbrev l₃ : List ℕ
+  l₃ = set l₂ (c * 32 + 27) last
+
+  kept : (k : ℕ) → k < 26 → wordIn l₃ c k ≡ wordIn l₁ c k
+  kept k b = put-beside l₂ c 27 last k (λ z. omega arith) ∙ put-beside l₁ c 26 due k (λ z. omega arith)
+
+  node : nodeIn l₃ v₁ c ≡ q
+  node = same-registers l₁ v₁ l₃ v₁ c (λ k b. kept k (omega arith)) (λ k b. refl) ∙ s .node
+
+  view : viewIn program l₃ v₁ c ≡ nodeOf (partIn program l₁ c) (heldIn l₁ c) q
+  view =
+      ap₂ (λ (p : List ℕ) (held : Counts). nodeOf p held (nodeIn l₃ v₁ c))
+      (same-part program l₁ l₃ c (kept 21 (omega arith)) (kept 22 (omega arith)))
+      (same-held l₁ l₃ c (kept 23 (omega arith)) (kept 24 (omega arith)))
+      ∙ ap (nodeOf (partIn program l₁ c) (heldIn l₁ c)) node
+
+  put-all : (p : List ℕ) (held : Counts) (next : ℕ) → p ≡ partIn program l₁ c → held ≡ heldIn l₁ c → next ≡ readyAt (rowsOf rows n) (wordIn l₁ c 25)
+      → due ≡ dueTick (nodeOf p held q) (standOf (nodeOf p held q)) → last ≡ lastTick (nodeOf p held q) next (standOf (nodeOf p held q))
+      → NodePut program rows n l v c q l₃ v₁
+  put-all p held next ep eh en ed el =
+      let same : nodeOf p held q ≡ viewIn program l₃ v₁ c = ap₂ (λ (x : List ℕ) (y : Counts). nodeOf x y q) ep eh ∙ sym view in
+      let ready : next ≡ readyAt (rowsOf rows n) (wordIn l₃ c 25) = en ∙ ap (readyAt (rowsOf rows n)) (sym (kept 25 (omega arith))) in
+      let long₂ : 256 ≤ length l₂ = omega (arith, long₁, length-set l₁ (c * 32 + 26) due) in
+      record {
+        node = node;
+        beside = λ k a b. kept k b ∙ s .beside k a (omega arith);
+        due =
+            put-beside l₂ c 27 last 26 (λ z. omega arith) ∙ put-here l₁ c 26 due long₁ h (omega arith) ∙ ed
+            ∙ ap (λ (x : Rattle.model.specs.Machine.Node). dueTick x (standOf x)) same;
+        last =
+            put-here l₂ c 27 last long₂ h (omega arith) ∙ el
+            ∙ ap₂ (λ (x : Rattle.model.specs.Machine.Node) (m : ℕ). lastTick x m (standOf x)) same ready;
+        others = λ i d.
+            same-then (s .others i d)
+            (record {
+              words = λ k b. put-others l₂ c 27 last i k (omega arith) d b ∙ put-others l₁ c 26 due i k (omega arith) d b;
+              values = λ k b. refl;
+            });
+        eight =
+            record {
+              words = omega (arith, long₂, length-set l₂ (c * 32 + 27) last);
+              values = omega (arith, e .values, s .length-v);
+            };
+      }
+
+  pub node-put : (l₄ l₅ : List ℕ) → l₄ ≡ l₂ → l₅ ≡ set l₄ (c * 32 + 27) last
+      → (p : List ℕ) (held : Counts) (next : ℕ) → p ≡ partIn program l₁ c → held ≡ heldIn l₁ c → next ≡ readyAt (rowsOf rows n) (wordIn l₁ c 25)
+      → due ≡ dueTick (nodeOf p held q) (standOf (nodeOf p held q)) → last ≡ lastTick (nodeOf p held q) next (standOf (nodeOf p held q))
+      → NodePut program rows n l v c q l₅ v₁
+  node-put l₄ l₅ a b p held next ep eh en ed el =
+      subst (λ (x : List ℕ). NodePut program rows n l v c q x v₁) (sym (b ∙ ap (λ (x : List ℕ). set x (c * 32 + 27) last) a))
+      (put-all p held next ep eh en ed el)
+
+-- ## Moved
+
+-- l₁ is l, but the row of node c is that of its passage number k₁, if it was that of number k
+pub record RowSet (rows : List ℕ) (n : ℕ) (l : List ℕ) (c k k₁ : ℕ) (l₁ : List ℕ) : Type 0 where
+  pub row : RowIs (rowsOf rows n) c k (wordIn l c 25) → RowIs (rowsOf rows n) c k₁ (wordIn l₁ c 25)
+  pub beside : (j : ℕ) → j < 32 → (j ≡ 25 → ⊥) → wordIn l₁ c j ≡ wordIn l c j
+  pub others : (i j : ℕ) → (i ≡ c → ⊥) → j < 32 → wordIn l₁ i j ≡ wordIn l i j
+
+set-passed : (rows : List ℕ) (n : ℕ) (l : List ℕ) (c k k₁ : ℕ) (l₁ : List ℕ) → k₁ ≡ suc k → RowPassed rows n l c l₁ → RowSet rows n l c k k₁ l₁
+set-passed rows n l c k k₁ l₁ e p =
+    record { row = λ r. subst (λ (x : ℕ). RowIs (rowsOf rows n) c x (wordIn l₁ c 25)) (sym e) (p .row k r); beside = p .beside; others = p .others }
+
+set-same : (rows : List ℕ) (n : ℕ) (l : List ℕ) (c k k₁ : ℕ) → k₁ ≡ k → RowSet rows n l c k k₁ l
+set-same rows n l c k k₁ e =
+    record {
+      row = λ r. subst (λ (x : ℕ). RowIs (rowsOf rows n) c x (wordIn l c 25)) (sym e) r;
+      beside = λ j b d. refl;
+      others = λ i j d b. refl;
+    }
+
+module _ (program rows : List ℕ) (n : ℕ) (l : List ℕ) (v : List ℤ) (c : ℕ) (l₁ : List ℕ) (q : Node) (l′ : List ℕ) (v′ : List ℤ)
+    (g : Grown (nodeIn l v c) q) (w : RowSet rows n l c (nodeIn l v c .sleeps) (q .sleeps) l₁) (p : NodePut program rows n l₁ v c q l′ v′) where
+  fixed : (k : ℕ) → 21 ≤ k → k < 25 → wordIn l′ c k ≡ wordIn l c k
+  fixed k a b = p .beside k a (omega arith) ∙ w .beside k (omega arith) (λ z. omega arith)
+
+  held-same : heldIn l′ c ≡ heldIn l c
+  held-same = same-held l l′ c (fixed 23 (omega arith) (omega arith)) (fixed 24 (omega arith) (omega arith))
+
+  part-same : partIn program l′ c ≡ partIn program l c
+  part-same = same-part program l l′ c (fixed 21 (omega arith) (omega arith)) (fixed 22 (omega arith) (omega arith))
+
+  row-now : RowIs (rowsOf rows n) c (nodeIn l v c .sleeps) (wordIn l c 25) → RowIs (rowsOf rows n) c (nodeIn l′ v′ c .sleeps) (wordIn l′ c 25)
+  row-now r =
+      subst (λ (k : ℕ). RowIs (rowsOf rows n) c k (wordIn l′ c 25)) (sym (ap (λ (x : Node). x .sleeps) (p .node)))
+      (subst (λ (k : ℕ). RowIs (rowsOf rows n) c (q .sleeps) k) (sym (p .beside 25 (omega arith) (omega arith))) (w .row r))
+
+  stands-now : (m : ℕ) → NodeStands program rows n l v c m → NodeStands program rows n l′ v′ c (m + 131070)
+  stands-now m s =
+      let base = fixed 21 (omega arith) (omega arith) in
+      let size = fixed 22 (omega arith) (omega arith) in
+      record {
+        inside = rw (base, size) (s .inside);
+        short = rw size (s .short);
+        part = part-same ∙ s .part;
+        held = subst Held (sym held-same) (s .held);
+        within = subst (Within (m + 131070)) (sym (p .node)) (g m (s .within));
+        row = row-now (s .row);
+        due = p .due;
+        last = p .last;
+      }
+
+  pub node-moved : (x : Rattle.model.specs.Machine.Node) → nodeOf (partIn program l c) (heldIn l c) q ≡ x → NodeMoved program rows n l v c x l′ v′
+  node-moved x e =
+      record {
+        view =
+            ap₂ (λ (b : List ℕ) (held : Counts). nodeOf b held (nodeIn l′ v′ c)) part-same held-same
+            ∙ ap (nodeOf (partIn program l c) (heldIn l c)) (p .node) ∙ e;
+        stands = stands-now;
+        fixed = fixed;
+        others = λ i d. same-then (record { words = λ k b. w .others i k d b; values = λ k b. refl }) (p .others i d);
+        eight = p .eight;
+      }
+
+-- ## What is asked before
+
+within-more : (m k : ℕ) (r : Node) → m ≤ k → Within m r → Within k r
+within-more m k r h w =
+    record { t = omega (arith, w .t); clocks = all-then (λ x b. omega arith) (w .clocks); sleeps = omega (arith, w .sleeps) }
+
+-- what a move of node c asks of its part as lent, its counts and its registers
+pub record Asked (program l : List ℕ) (v : List ℤ) (c base size : ℕ) (counts : Counts) (r : Node) : Type 0 where
+  pub inside : Inside program l c
+  pub short : length (lent program base size) ≤ 65535
+  pub held : Held counts
+  pub within : Within 4000000000000000000 r
+  pub addable : Addable (drop (r .pc) (partIn program l c)) (heldIn l c) r → Addable (drop (r .pc) (lent program base size)) counts r
+  pub op : opOf program l v c ≡ 5 → opIn (drop (r .pc) (lent program base size)) ≡ 5
+  -- the registers after it have not grown too far
+  pub put : (q : Node) → Grown r q → Within 4000000000000000000 q
+
+pub asks : (program rows : List ℕ) (n : ℕ) (l : List ℕ) (v : List ℤ) (c base size : ℕ) (held : Counts) (r : Node) → base ≡ wordIn l c 21 → size ≡ wordIn l c 22
+    → held ≡ heldIn l c → r ≡ nodeIn l v c → NodeStands program rows n l v c 3000000000000000000 → Asked program l v c base size held r
+asks program rows n l v c base size held r b z k e s =
+    let part = lent-is program l c base size b z in
+    record {
+      inside = record { inside = s .inside; short = s .short };
+      short = lent-short program base size (omega (arith, s .short));
+      held = subst Held (sym k) (s .held);
+      within =
+          subst (Within 4000000000000000000) (sym e)
+          (within-more 3000000000000000000 4000000000000000000 (nodeIn l v c) (omega arith) (s .within));
+      addable = λ a.
+          subst (λ (x : List ℕ). Addable (drop (r .pc) x) held r) (sym part)
+          (subst (λ (x : Counts). Addable (drop (r .pc) (partIn program l c)) x r) (sym k) a);
+      op = λ o. ap₂ (λ (x : Node) (y : List ℕ). opIn (drop (x .pc) y)) e part ∙ o;
+      put = λ q g.
+          within-more 3000000000000131070 4000000000000000000 q (omega arith)
+          (g 3000000000000000000 (subst (Within 3000000000000000000) (sym e) (s .within)));
+    }
+
+-- ## By its own statement, and by a message
+
+-- the row was passed where the op is a sleep, and only there
+abbrev pub Passing : List ℕ → ℕ → List ℕ → ℕ → ℕ → List ℕ → Type 0
+Passing rows n l c op l₁ = ((op ≡ 0) × RowPassed rows n l c l₁) ⊎ ((op ≡ 0 → ⊥) × (l₁ ≡ l))
+
+pub passing-length : (rows : List ℕ) (n : ℕ) (l : List ℕ) (c op : ℕ) (l₁ : List ℕ) → Passing rows n l c op l₁ → length l₁ ≡ length l
+passing-length rows n l c op l₁ = ⊎-elim (λ s. s .1 .same) (λ s. ap length (s .1))
+
+pub passing-eight : (rows : List ℕ) (n : ℕ) (l : List ℕ) (v : List ℤ) (c op : ℕ) (l₁ : List ℕ) → Passing rows n l c op l₁ → Eight l v → Eight l₁ v
+passing-eight rows n l v c op l₁ way e =
+    record { words = omega (arith, passing-length rows n l c op l₁ way, e .words); values = e .values }
+
+pub passing-inside : (program rows : List ℕ) (n : ℕ) (l : List ℕ) (c op : ℕ) (l₁ : List ℕ) → Passing rows n l c op l₁ → Inside program l c → Inside program l₁ c
+passing-inside program rows n l c op l₁ way i =
+    ⊎-elim
+    (λ s.
+    let base = s .1 .beside 21 (omega arith) (λ z. omega arith) in
+    let size = s .1 .beside 22 (omega arith) (λ z. omega arith) in
+    record { inside = rw (base, size) (i .inside); short = rw size (i .short) })
+    (λ s. subst (λ (x : List ℕ). Inside program x c) (sym (s .1)) i)
+    way
+
+module _ (program rows : List ℕ) (n : ℕ) (l : List ℕ) (v : List ℤ) (c base size : ℕ) (held : Counts) (q : Node) (l′ : List ℕ) (v′ : List ℤ)
+    (b : base ≡ wordIn l c 21) (z : size ≡ wordIn l c 22) (k : held ≡ heldIn l c) where
+  -- what is told of the part as it is lent holds of the node's part
+  pub told : (F : List ℕ → Counts → Type 0) → F (lent program base size) held → F (partIn program l c) (heldIn l c)
+  told F f = subst (λ (x : Counts). F (partIn program l c) x) k (subst (λ (x : List ℕ). F x held) (lent-is program l c base size b z) f)
+
+  pub finish-moved : (r : Node) (op : ℕ) (l₁ : List ℕ) → r ≡ nodeIn l v c → op ≡ opIn (drop (r .pc) (lent program base size))
+      → nodeOf (lent program base size) held q ≡ finish (lent program base size) (nodeOf (lent program base size) held r) (nodeOf (lent program base size) held r .rest)
+      → Grown r q → Passing rows n l c op l₁ → NodePut program rows n l₁ v c q l′ v′
+      → NodeMoved program rows n l v c (finish (partIn program l c) (viewIn program l v c) (viewIn program l v c .rest)) l′ v′
+  finish-moved r op l₁ er eo ef g way p =
+      let part = partIn program l c in
+      let r₀ = nodeIn l v c in
+      let g₀ : Grown r₀ q = subst (λ (x : Node). Grown x q) er g in
+      let o₀ : op ≡ opIn (drop (r₀ .pc) part) =
+      told (λ x _. op ≡ opIn (drop (r₀ .pc) x)) (subst (λ (x : Node). op ≡ opIn (drop (x .pc) (lent program base size))) er eo) in
+      let f₀ : nodeOf part (heldIn l c) q ≡ finish part (nodeOf part (heldIn l c) r₀) (nodeOf part (heldIn l c) r₀ .rest) =
+      told (λ x y. nodeOf x y q ≡ finish x (nodeOf x y r₀) (nodeOf x y r₀ .rest))
+      (subst (λ (x : Node). nodeOf (lent program base size) held q ≡ finish (lent program base size) (nodeOf (lent program base size) held x) (nodeOf (lent program base size) held x .rest)) er ef) in
+      let w : RowSet rows n l c (r₀ .sleeps) (q .sleeps) l₁ =
+      ⊎-elim
+      (λ s. set-passed rows n l c (r₀ .sleeps) (q .sleeps) l₁ (sleep-finished part (heldIn l c) r₀ q f₀ (sym o₀ ∙ s .0)) (s .1))
+      (λ s.
+      subst (RowSet rows n l c (r₀ .sleeps) (q .sleeps)) (sym (s .1))
+      (set-same rows n l c (r₀ .sleeps) (q .sleeps) (work-finished part (heldIn l c) r₀ q f₀ (λ e. s .0 (o₀ ∙ e)))))
+      way in
+      node-moved program rows n l v c l₁ q l′ v′ g₀ w p _ f₀
+
+  pub message-moved : (r : Node) (i : ℕ) → r ≡ nodeIn l v c → opOf program l v c ≡ 5
+      → nodeOf (lent program base size) held q ≡ takesMessage (lent program base size) i (nodeOf (lent program base size) held r)
+      → Grown r q → NodePut program rows n l v c q l′ v′
+      → NodeMoved program rows n l v c (takesMessage (partIn program l c) i (viewIn program l v c)) l′ v′
+  message-moved r i er o e g p =
+      let part = partIn program l c in
+      let r₀ = nodeIn l v c in
+      let g₀ : Grown r₀ q = subst (λ (x : Node). Grown x q) er g in
+      let f₀ : nodeOf part (heldIn l c) q ≡ takesMessage part i (nodeOf part (heldIn l c) r₀) =
+      told (λ x y. nodeOf x y q ≡ takesMessage x i (nodeOf x y r₀))
+      (subst (λ (x : Node). nodeOf (lent program base size) held q ≡ takesMessage (lent program base size) i (nodeOf (lent program base size) held x)) er e) in
+      node-moved program rows n l v c l q l′ v′ g₀
+      (set-same rows n l c (r₀ .sleeps) (q .sleeps) (message-taken part (heldIn l c) r₀ q i f₀ o))
+      p
+      _
+      f₀

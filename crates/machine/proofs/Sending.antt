@@ -1,0 +1,114 @@
+-- A send: refused, or finished with its listener. Assumes nothing.
+use mathlib.Core.Path.{_≡_, refl, sym, ap, ap₂, _∙_}
+use mathlib.Core.Bool.{Bool, true, false}
+use mathlib.Core.List.{List, [], append-nil}
+use Prim.Native.Nat.{ℕ, suc, _+_, _*_, _≤_, _<_}
+use native.Mathlib.Omega.{arith}
+use borrow.Author.Tests.{eqb-true, eqb-false}
+use lib.Dec.{eqb}
+use lib.IntN.{ℤ}
+use lib.ListN.{length, drop, set}
+use Rattle.model.specs.Lists.{each}
+use Rattle.model.specs.Reader.{byte}
+use Rattle.model.specs.Machine.{Node, partBytes, finish}
+use Rattle.model.specs.Run.{Setting, Run, on, nodeOf, standOf, listeners, takesMessage, messaged, finished, sent, finishes, choose1}
+use Rattle.model.proofs.Bools.{clash}
+use Rattle.registers.specs.Words.{wordIn, partIn}
+use Rattle.machine.specs.Running.{settingIn, viewIn, NodeStands, Running}
+use Rattle.machine.specs.Chosen.{opOf, NodeMoved, After, Chosen}
+use Rattle.machine.proofs.Numbered.{first-none, first-some}
+use Rattle.registers.proofs.Frames.{same-trans, same-part}
+use Rattle.machine.proofs.Frames.{same-view, same-stands, stands-wider}
+use Rattle.machine.proofs.Ops.{stands-sending}
+use Rattle.machine.proofs.Choices.{chosen-node}
+use Rattle.machine.proofs.Hearing.{node-at, all-nodes, Found}
+use Rattle.machine.proofs.Moves.{nodes-moved, setting-moved, stands-moved, finished-is}
+use Rattle.machine.proofs.Alone.{kept-all}
+
+-- two nodes moved, one after the other
+module _ {program rows : List ℕ} {n : ℕ} (H count k : ℕ) {c i : ℕ} {l : List ℕ} {v : List ℤ} {l′ : List ℕ} {v′ : List ℤ} {l″ : List ℕ} {v″ : List ℤ}
+    (mv : NodeMoved program rows n l v c (finish (partIn program l c) (viewIn program l v c) (viewIn program l v c .rest)) l′ v′)
+    (hv : NodeMoved program rows n l′ v′ i (takesMessage (partIn program l′ i) k (viewIn program l′ v′ i)) l″ v″)
+    (h : c < count) (m : i < count) (other : i ≡ c → ⊥) where
+  abbrev g : Setting
+  g = settingIn program H rows n l count
+
+  message-is : {s : Run} → Running program rows n l v count s → takesMessage (partBytes program i) k (nodeOf s i) ≡ takesMessage (partIn program l′ i) k (viewIn program l′ v′ i)
+  message-is {s} r =
+      ap₂ (λ (p : List ℕ) (x : Node). takesMessage p k x) (sym (same-part (mv .others i other) program ∙ r .each i m .part))
+      (node-at program l v count s (r .nodes) i m ∙ sym (same-view (mv .others i other) program))
+
+  each-stands : (u j : ℕ) → NodeStands program rows n l v j u → NodeStands program rows n l″ v″ j (u + 131070)
+  each-stands u j a = go (eqb j c) refl
+    where
+      go : (t : Bool) → eqb j c ≡ t → NodeStands program rows n l″ v″ j (u + 131070)
+      go true e = let q = eqb-true j c e in same-stands (hv .others j (λ z. other (sym z ∙ q))) (stands-moved mv count j u a)
+      go false e = stands-moved hv count j u (same-stands (mv .others j (eqb-false j c e)) a)
+
+  after-message : (s : Run) → Running program rows n l v count s → (out : List ℕ) (written : ℕ)
+      → choose1 g s c ≡ on (messaged s c (finished g s c) i (takesMessage (partBytes program i) k (nodeOf s i)) k)
+      → After program rows n H count c l s out written (record { allowed = true; written = written }) l″ v″ out
+  unfolding each
+  after-message s r out written e =
+      record {
+        next = messaged s c (finished g s c) i (takesMessage (partBytes program i) k (nodeOf s i)) k;
+        goes = e;
+        running =
+            record {
+              most = r .most;
+              listed = r .listed;
+              eight = hv .eight;
+              nodes =
+                  ap₂ (λ (x y : Node). set (set (s .nodes) c x) i y) (finished-is H count mv h r) (message-is r)
+                  ∙ nodes-moved hv count (nodes-moved mv count (r .nodes));
+              each = λ j a. stands-wider (s .used * 131070 + 131070) (suc (s .used) * 131070) (omega arith) (each-stands (s .used * 131070) j (r .each j a));
+            };
+        same = setting-moved hv count H ∙ setting-moved mv count H;
+        tick = refl;
+        used = refl;
+        seen = [];
+        observed = sym (append-nil (s .observations));
+        counted = omega arith;
+        bytes = refl;
+      }
+
+module _ (program rows : List ℕ) (n H count tick c : ℕ) (l : List ℕ) (v : List ℤ) (out : List ℕ) (written : ℕ) (most : count ≤ 8) (h : c < count)
+    (o : opOf program l v c ≡ 4) (k : ℕ) (on-channel : k ≡ byte (drop (wordIn l c 0) (partIn program l c)) 1) where
+  sends-by : (s : Run) → Running program rows n l v count s → choose1 (settingIn program H rows n l count) s c ≡ sent (settingIn program H rows n l count) s c k (listeners s c k)
+  sends-by s r =
+      chosen-node (settingIn program H rows n l count) s c (omega arith) (omega (arith, all-nodes program l v count s (r .nodes)))
+      ∙ (ap (λ (x : Node). finishes (settingIn program H rows n l count) s c (standOf x)) (node-at program l v count s (r .nodes) c h)
+      ∙ (ap (finishes (settingIn program H rows n l count) s c) (stands-sending (partIn program l c) (wordIn l c 0) o)
+      ∙ ap (λ (a : ℕ). sent (settingIn program H rows n l count) s c a (listeners s c a)) (sym on-channel)))
+
+  -- no node hears it
+  pub unheard : (i : ℕ) → 8 ≤ i → Found program l k count c i → Chosen program rows n H count tick c l v out written (record { allowed = false; written = written }) l v out
+  unheard i b f =
+      kept-all program rows n H count tick c l v out written
+      (λ s r t. sends-by s r ∙ ap (sent (settingIn program H rows n l count) s c k) (nobody s r))
+    where
+      nobody : (s : Run) → Running program rows n l v count s → listeners s c k ≡ []
+      nobody s r = first-none _ (length (s .nodes)) i (omega (arith, all-nodes program l v count s (r .nodes))) b (f .0 v s (r .nodes))
+
+  -- node i hears it
+  pub taken : (i : ℕ) → i < 8 → Found program l k count c i → {l′ : List ℕ} {v′ : List ℤ} {l″ : List ℕ} {v″ : List ℤ}
+      → NodeMoved program rows n l v c (finish (partIn program l c) (viewIn program l v c) (viewIn program l v c .rest)) l′ v′
+      → NodeMoved program rows n l′ v′ i (takesMessage (partIn program l′ i) k (viewIn program l′ v′ i)) l″ v″
+      → Chosen program rows n H count tick c l v out written (record { allowed = true; written = written }) l″ v″ out
+  taken i b f mv hv =
+      let w = f .1 b in
+      record {
+        refuses = λ e. clash (sym e);
+        keeps = λ e. clash (sym e);
+        allows = λ e s r t. after-message H count k mv hv h (w .0) (w .1) s r out written (goes s r);
+        finished = λ e. same-view (hv .others c (λ z. w .1 (sym z))) program ∙ mv .view;
+        alone = λ p. absurd (p o);
+        two = (i, λ j a d. same-trans (mv .others j a) (hv .others j d));
+      }
+    where
+      goes : (s : Run) → Running program rows n l v count s
+          → choose1 (settingIn program H rows n l count) s c
+          ≡ on (messaged s c (finished (settingIn program H rows n l count) s c) i (takesMessage (partBytes program i) k (nodeOf s i)) k)
+      goes s r =
+          let x = first-some (listeners s c k) i b (f .0 v s (r .nodes)) in
+          sends-by s r ∙ ap (sent (settingIn program H rows n l count) s c k) (x .1)

@@ -1,0 +1,115 @@
+-- `machine::hear` meets its contract. Assumes nothing.
+use borrow.Author.Needs.{needs}
+use Rattle.machine.proofs.NodeMoves.{asks, message-moved}
+use Rattle.machine.proofs.hear.Statement.{statement}
+use Rattle.machine.proofs.hear.Tie as tie
+
+word-requires : tie.Need-word-requires
+word-requires c κs = search needs
+
+word-requires-2 : tie.Need-word-requires-2
+word-requires-2 c κs = search needs
+
+add-end : tie.Need-add-end
+add-end c = search needs
+
+counts-requires : tie.Need-counts-requires
+counts-requires c κs = search needs
+
+load-requires : tie.Need-load-requires
+load-requires c κs = search needs
+
+sub-take-message : tie.Need-sub-take-message
+sub-take-message c = search needs
+
+part-take-message-start : tie.Need-part-take-message-start
+part-take-message-start c = search needs
+
+part-take-message-end : tie.Need-part-take-message-end
+part-take-message-end c = search needs
+
+take-message-requires : tie.Need-take-message-requires
+take-message-requires c κs =
+    let start = c .before .before .before .before .before .before .before .before .before .before .before .before .before in
+    let a = start .args in
+    let pre = start .pre in
+    let base = c .before .before .before .before .before .before .before .before .word in
+    let size = c .before .before .before .before .before .before .word2 in
+    let held = c .before .before .before .before .counts in
+    let r = c .before .load in
+    let asked =
+    asks (a .program .now) (a .rows .now) (a .n) (a .l .now) (a .v .now) (a .i) (base .result) (size .result) (held .result) (r .result)
+    (base .ensures)
+    (size .ensures)
+    (held .ensures)
+    (r .ensures)
+    (pre .3) in
+    (asked .short, asked .held, asked .within, asked .op (pre .4))
+
+put-node-requires : tie.Need-put-node-requires
+put-node-requires c κs =
+    let start = c .before .before .before .before .before .before .before .before .before .before .before .before .before .before .before .before in
+    let a = start .args in
+    let pre = start .pre in
+    let base = c .before .before .before .before .before .before .before .before .before .before .before .word in
+    let size = c .before .before .before .before .before .before .before .before .before .word2 in
+    let held = c .before .before .before .before .before .before .before .counts in
+    let r = c .before .before .before .before .load in
+    let q = c .before .before .take-message in
+    let asked =
+    asks (a .program .now) (a .rows .now) (a .n) (a .l .now) (a .v .now) (a .i) (base .result) (size .result) (held .result) (r .result)
+    (base .ensures)
+    (size .ensures)
+    (held .ensures)
+    (r .ensures)
+    (pre .3) in
+    (pre .0, pre .1, pre .2, asked .inside, asked .put (q .result) (q .ensures .1))
+
+same-length : tie.Need-same-length
+same-length c = search needs
+
+same-length-2 : tie.Need-same-length-2
+same-length-2 c = search needs
+
+returns : tie.Need-returns
+returns c =
+    let start = c .before .before .before .before .before .before .before .before .before .before .before .before .before .before .before .before .before .before .before .before in
+    let a = start .args in
+    let pre = start .pre in
+    let base = c .before .before .before .before .before .before .before .before .before .before .before .before .before .before .before .word in
+    let size = c .before .before .before .before .before .before .before .before .before .before .before .before .before .word2 in
+    let held = c .before .before .before .before .before .before .before .before .before .before .before .counts in
+    let r = c .before .before .before .before .before .before .before .before .load in
+    let q = c .before .before .before .before .before .before .take-message in
+    let put = c .before .before .before .put-node in
+    message-moved (a .program .now) (a .rows .now) (a .n) (a .l .now) (a .v .now) (a .i) (base .result) (size .result) (held .result) (q .result)
+    (put .last .1 .1 .1 .0)
+    (put .last .1 .1 .1 .1 .0)
+    (base .ensures)
+    (size .ensures)
+    (held .ensures)
+    (r .result)
+    (a .k)
+    (r .ensures)
+    (pre .4)
+    (q .ensures .0)
+    (q .ensures .1)
+    (put .ensures)
+
+pub hear-spec : {M : Type 1} → statement M
+hear-spec =
+    tie.close
+    (tie.spec
+    word-requires
+    word-requires-2
+    add-end
+    counts-requires
+    load-requires
+    sub-take-message
+    part-take-message-start
+    part-take-message-end
+    take-message-requires
+    put-node-requires
+    same-length
+    same-length-2
+    returns)

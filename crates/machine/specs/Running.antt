@@ -1,0 +1,79 @@
+-- The run's state as the code keeps it, in the words of the definitions (model's specs/Run.antt).
+use mathlib.Core.Path.{_≡_}
+use mathlib.Core.Bool.{cond}
+use mathlib.Core.List.{List, map}
+use Prim.Native.Nat.{ℕ, suc, _+_, _*_, _≤_, _<_}
+use lib.Dec.{ltb}
+use lib.IntN.{ℤ}
+use lib.ListN.{length, drop}
+use Rattle.model.specs.Lists.{below}
+use Rattle.model.specs.Schedule.{Visit, own}
+use Rattle.model.specs.Checks.{visitAt}
+use Rattle.model.specs.Machine.{Node, partBytes}
+use Rattle.model.specs.Run.{Counts, Setting, readyOfNth, Run, standOf}
+use Rattle.rows.specs.Rows.{rowsOf}
+use Rattle.node.specs.Views.{nodeOf, Held, Within}
+use Rattle.stand.specs.Stands.{never, dueTick, lastTick}
+use Rattle.registers.specs.Words.{wordIn, nodeIn, partIn, heldIn, Eight}
+
+-- ## Rows of the schedule
+
+-- n rows stand there
+pub record RowsStand (rows : List ℕ) (n : ℕ) : Type 0 where
+  pub few : n ≤ 1024
+  pub fits : n * 9 ≤ length rows
+
+-- row is the row of component c's passage number k, or the number of rows where it has none
+pub record RowIs (S : List Visit) (c k row : ℕ) : Type 0 where
+  pub among : row ≤ length S
+  pub rest : own c (drop row S) ≡ drop k (own c S)
+  pub there : row < length S → visitAt S row .component ≡ c
+
+-- the ready of that passage
+abbrev pub readyAt : List Visit → ℕ → ℕ
+readyAt S row = cond (ltb row (length S)) (visitAt S row .ready) never
+
+-- ## The nodes
+
+abbrev pub countsAt : List ℕ → ℕ → Counts
+countsAt l c = record { clocks = heldIn l c .clocks; variables = heldIn l c .variables }
+
+-- what the run goes by
+abbrev pub settingIn : List ℕ → ℕ → List ℕ → ℕ → List ℕ → ℕ → Setting
+settingIn program H rows n l count =
+    record {
+      program = program;
+      horizon = H;
+      counts = map (countsAt l) (below count);
+      ready = λ c k. readyOfNth (own c (rowsOf rows n)) k;
+    }
+
+-- node c
+abbrev pub viewIn : List ℕ → List ℕ → List ℤ → ℕ → Node
+viewIn program l v c = nodeOf (partIn program l c) (heldIn l c) (nodeIn l v c)
+
+-- the words beside node c's registers are right, and the registers have not grown beyond m
+pub record NodeStands (program rows : List ℕ) (n : ℕ) (l : List ℕ) (v : List ℤ) (c m : ℕ) : Type 0 where
+  pub inside : wordIn l c 21 + wordIn l c 22 ≤ length program
+  pub short : wordIn l c 22 ≤ 65535
+  pub part : partIn program l c ≡ partBytes program c
+  pub held : Held (heldIn l c)
+  pub within : Within m (nodeIn l v c)
+  pub row : RowIs (rowsOf rows n) c (nodeIn l v c .sleeps) (wordIn l c 25)
+  pub due : wordIn l c 26 ≡ dueTick (viewIn program l v c) (standOf (viewIn program l v c))
+  pub last : wordIn l c 27 ≡ lastTick (viewIn program l v c) (readyAt (rowsOf rows n) (wordIn l c 25)) (standOf (viewIn program l v c))
+
+-- the slices hold so many nodes
+pub record Standing (program rows : List ℕ) (n : ℕ) (l : List ℕ) (v : List ℤ) (count : ℕ) : Type 0 where
+  pub most : count ≤ 8
+  pub listed : RowsStand rows n
+  pub eight : Eight l v
+  pub each : (c : ℕ) → c < count → NodeStands program rows n l v c 2000000000000000000
+
+-- the slices are the nodes of s
+pub record Running (program rows : List ℕ) (n : ℕ) (l : List ℕ) (v : List ℤ) (count : ℕ) (s : Run) : Type 0 where
+  pub most : count ≤ 8
+  pub listed : RowsStand rows n
+  pub eight : Eight l v
+  pub nodes : s .nodes ≡ map (viewIn program l v) (below count)
+  pub each : (c : ℕ) → c < count → NodeStands program rows n l v c (s .used * 131070)
