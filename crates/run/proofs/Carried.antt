@@ -1,0 +1,119 @@
+-- Choices carried out one after the other: how far the list has come, and what the next choice makes of it. Assumes nothing.
+use mathlib.Core.Path.{_≡_, refl, sym, ap, subst, _∙_}
+use mathlib.Core.List.{List, [], _∷_, _++_, append-nil}
+use Prim.Native.Nat.{ℕ, suc, _+_, _*_, _≤_, _<_}
+use native.Mathlib.Omega.{arith}
+use native.Mathlib.Numerals.{add-one}
+use lib.ListN.{length, getD, take, drop, length-append, length-drop, drop-of-length-le, take-append-drop}
+use lib.Seq.{take-suc, drop-cons, append-snoc, sets, sets-eq, take-at, drop-drop, drop-append-add}
+use Rattle.model.specs.Lists.{each}
+use Rattle.model.specs.Network.{Observation}
+use Rattle.model.specs.Run.{Setting, Run, startRun, Outcome, forbidden, on, over, choose1, Result, ends, continue, runFrom, run, observationBytes}
+use Rattle.model.proofs.ObservationSize.{observations-long}
+use Rattle.model.proofs.ProgramSize.{each-join}
+use Rattle.run.specs.declared.Ended.{Ended}
+use Rattle.run.specs.Ends.{Roomy, EndsAs}
+
+-- ## How far the list has come
+
+-- after so many choices the run stands in s
+abbrev pub Reaches : Setting → List ℕ → ℕ → Run → Type 0
+Reaches g cs used s = (ys : List ℕ) → runFrom g (take used cs ++ ys) (startRun g) ≡ runFrom g ys s
+
+module _ (g : Setting) (cs : List ℕ) where
+  pub reaches-first : Reaches g cs 0 (startRun g)
+  reaches-first ys = refl
+
+  module _ (used : ℕ) (s : Run) (at : Reaches g cs used s) where
+    -- the next choice, and those behind it
+    next-first : used < length cs → (ys : List ℕ) → runFrom g (take (suc used) cs ++ ys) (startRun g) ≡ continue s (choose1 g s (getD cs used 0)) (λ t. runFrom g ys t)
+    unfolding runFrom
+    next-first h ys =
+        ap (λ (xs : List ℕ). runFrom g (xs ++ ys) (startRun g)) (take-suc cs used 0 h)
+        ∙ ap (λ (xs : List ℕ). runFrom g xs (startRun g)) (append-snoc (take used cs) (getD cs used 0) ys)
+        ∙ at (getD cs used 0 ∷ ys)
+
+    -- it goes on
+    pub reaches-next : {t : Run} → used < length cs → choose1 g s (getD cs used 0) ≡ on t → Reaches g cs (used + 1) t
+    reaches-next {t} h e ys =
+        ap (λ (k : ℕ). runFrom g (take k cs ++ ys) (startRun g)) (add-one used)
+        ∙ next-first h ys
+        ∙ ap (λ (o : Outcome). continue s o (λ u. runFrom g ys u)) e
+
+    -- the whole list, from here
+    whole : run g cs ≡ runFrom g (drop used cs) s
+    unfolding run
+    whole = ap (λ (xs : List ℕ). runFrom g xs (startRun g)) (sym (take-append-drop used cs)) ∙ at (drop used cs)
+
+    whole-next : used < length cs → run g cs ≡ continue s (choose1 g s (getD cs used 0)) (λ t. runFrom g (drop (suc used) cs) t)
+    unfolding runFrom
+    whole-next h = whole ∙ ap (λ (xs : List ℕ). runFrom g xs s) (drop-cons cs used 0 h)
+
+    -- it is not allowed
+    pub ends-forbidden : used < length cs → choose1 g s (getD cs used 0) ≡ forbidden → run g cs ≡ ends s 3 255
+    ends-forbidden h e = whole-next h ∙ ap (λ (o : Outcome). continue s o (λ u. runFrom g (drop (suc used) cs) u)) e
+
+    -- it is the last
+    pub ends-over : {t : Run} {k c : ℕ} → used < length cs → choose1 g s (getD cs used 0) ≡ over t k c → run g cs ≡ ends t k c
+    ends-over h e = whole-next h ∙ ap (λ (o : Outcome). continue s o (λ u. runFrom g (drop (suc used) cs) u)) e
+
+    -- there is none
+    pub ends-used : length cs ≤ used → run g cs ≡ ends s 1 255
+    unfolding runFrom
+    ends-used h = whole ∙ ap (λ (xs : List ℕ). runFrom g xs s) (drop-of-length-le cs h)
+
+    -- the observations so far have room
+    pub roomy-at : (room : ℕ) → Roomy g cs room → length (s .observations) * 32 ≤ room
+    unfolding runFrom run
+    roomy-at room R =
+        let e : run g (take used cs) ≡ ends s 1 255 = ap (λ (xs : List ℕ). runFrom g xs (startRun g)) (sym (append-nil (take used cs))) ∙ at [] in
+        subst (λ (r : Result). length (r .state .observations) * 32 ≤ room) e (R used)
+
+-- ## The bytes of the observations
+
+-- the observations' bytes over the front of what was lent
+abbrev pub Over : List Observation → List ℕ → List ℕ → Type 0
+Over os out₀ out = out ≡ each observationBytes os ++ drop (length os * 32) out₀
+
+pub over-none : (out : List ℕ) → Over [] out out
+unfolding each
+over-none out = refl
+
+pub over-length : (os : List Observation) (out₀ out : List ℕ) → Over os out₀ out → length os * 32 ≤ length out₀ → length out ≡ length out₀
+over-length os out₀ out e h =
+    ap length e ∙ omega (arith, length-append (each observationBytes os) (drop (length os * 32) out₀), observations-long os, length-drop (length os * 32) out₀)
+
+-- some more
+pub over-more : (os seen : List Observation) (out₀ out : List ℕ) → Over os out₀ out → length (os ++ seen) * 32 ≤ length out₀ → Over (os ++ seen) out₀ (sets out (length os * 32) (each observationBytes seen))
+over-more os seen out₀ out e h =
+    let n = length os * 32 in
+    let a = each observationBytes os in
+    let b = each observationBytes seen in
+    let la : length a ≡ n = observations-long os in
+    let lb : length b ≡ length seen * 32 = observations-long seen in
+    let ls : length (os ++ seen) ≡ length os + length seen = length-append os seen in
+    let lo : length out ≡ length out₀ = over-length os out₀ out e (omega arith) in
+    let back : drop (n + length b) out ≡ drop (length (os ++ seen) * 32) out₀ =
+    ap (drop (n + length b)) e
+    ∙ ap (λ (k : ℕ). drop (k + length b) (a ++ drop n out₀)) (sym la)
+    ∙ drop-append-add a (drop n out₀) (length b)
+    ∙ drop-drop (length b) n out₀
+    ∙ (let q : n + length b ≡ length (os ++ seen) * 32 = omega arith in ap (λ (k : ℕ). drop k out₀) q) in
+    sets-eq b out n (omega arith)
+    ∙ ap (λ (x : List ℕ). x ++ b ++ drop (n + length b) out) (ap (take n) e ∙ take-at a (drop n out₀) n la)
+    ∙ ap (λ (x : List ℕ). a ++ b ++ x) back
+    ∙ ap (λ (x : List ℕ). x ++ drop (length (os ++ seen) * 32) out₀) (sym (each-join observationBytes os seen))
+
+-- ## The end
+
+pub ends-as : (g : Setting) (cs out : List ℕ) (e : Ended) (out′ : List ℕ) (s : Run) (k c : ℕ) → run g cs ≡ ends s k c → e .end ≡ k → e .node ≡ c → e .tick ≡ s .tick → e .used ≡ s .used
+    → e .written ≡ length (s .observations) → Over (s .observations) out out′ → EndsAs g cs out e out′
+ends-as g cs out e out′ s k c r end node tick used written bytes =
+    record {
+      end = rw r end;
+      node = rw r node;
+      tick = rw r tick;
+      used = rw r used;
+      written = rw r written;
+      bytes = rw r bytes;
+    }

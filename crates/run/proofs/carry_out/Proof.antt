@@ -1,0 +1,216 @@
+-- `run::carry_out` meets its contract. Assumes nothing.
+use mathlib.Core.Path.{_≡_, refl, sym, _∙_}
+use Prim.Native.Nat.{_-_, _≤_, _<_}
+use native.Mathlib.Omega.{arith}
+use borrow.Author.Needs.{needs}
+use borrow.Author.Tests.{not-true, not-false}
+use lib.ListN.{length, getD}
+use Rattle.run.proofs.Stages.{Stage, first-stage, used-up, standing, tick-forbidden, tick-late, tick-horizon, tick-stage, room, node-forbidden, node-stage}
+use Rattle.run.proofs.carry_out.Statement.{statement}
+use Rattle.run.proofs.carry_out.Tie as tie
+
+abbrev Inv-loop : tie.InvT-loop
+Inv-loop program rows n count horizon choices l₀ v₀ out₀ tick₀ used₀ written₀ l v out tick used written =
+    Stage program horizon rows n count l₀ choices out₀ l v out tick used written × (used ≤ length choices) × (length l ≡ length l₀) × (length v ≡ length v₀) × (length out ≡ length out₀)
+
+abbrev μ-loop : tie.MeasureT-loop
+μ-loop program rows n count horizon choices l₀ v₀ out₀ tick₀ used₀ written₀ l v out tick used written =
+    length choices - used
+
+loop-holds : tie.Need-loop-holds Inv-loop μ-loop
+loop-holds c =
+    let e = c .before .before .before .before .before in
+    let a = e .args in
+    (first-stage (a .program .now) (a .horizon) (a .rows .now) (a .n) (a .count) (a .l .now) (a .choices .now) (a .out .now) (a .v .now) (e .pre .0), omega arith, refl, refl, refl)
+
+shared-slice-read-b : tie.Need-shared-slice-read-b Inv-loop μ-loop
+shared-slice-read-b c = search needs
+
+some-due-requires : tie.Need-some-due-requires Inv-loop μ-loop
+some-due-requires c κs = search needs
+
+end-of-requires : tie.Need-end-of-requires Inv-loop μ-loop
+end-of-requires c κs = search needs
+
+same-length : tie.Need-same-length Inv-loop μ-loop
+same-length c = search needs
+
+same-length-2 : tie.Need-same-length-2 Inv-loop μ-loop
+same-length-2 c = search needs
+
+same-length-3 : tie.Need-same-length-3 Inv-loop μ-loop
+same-length-3 c = search needs
+
+returns : tie.Need-returns Inv-loop μ-loop
+returns c =
+    let t = c .before .before .before .before .before .before in
+    let e = t .before .before .before .before .before .before .before in
+    let i = t .before .loop in
+    tick-forbidden (i .inv .0) (t .loop-test .taken) (e .pre .1) (c .before .before .before .before .if1 .taken) (sym (c .before .before .some-due .ensures) ∙ c .before .if2 .taken) (c .end-of .ensures)
+
+add-tick : tie.Need-add-tick Inv-loop μ-loop
+add-tick c = search needs
+
+add-used : tie.Need-add-used Inv-loop μ-loop
+add-used c = search needs
+
+first-late-requires : tie.Need-first-late-requires Inv-loop μ-loop
+first-late-requires c κs = search needs
+
+cast-end-of : tie.Need-cast-end-of Inv-loop μ-loop
+cast-end-of c = search needs
+
+end-of-requires-2 : tie.Need-end-of-requires-2 Inv-loop μ-loop
+end-of-requires-2 c κs = search needs
+
+same-length-4 : tie.Need-same-length-4 Inv-loop μ-loop
+same-length-4 c = search needs
+
+same-length-5 : tie.Need-same-length-5 Inv-loop μ-loop
+same-length-5 c = search needs
+
+same-length-6 : tie.Need-same-length-6 Inv-loop μ-loop
+same-length-6 c = search needs
+
+returns-2 : tie.Need-returns-2 Inv-loop μ-loop
+returns-2 c =
+    let t = c .before .before .before .before .before .before .before .before .before in
+    let e = t .before .before .before .before .before .before .before in
+    let i = t .before .loop in
+    let d = c .before .before .before .before in
+    tick-late (i .inv .0) (t .loop-test .taken) (e .pre .1) (d .before .before .before .if1 .taken) (sym (d .before .some-due .ensures) ∙ d .if2 .left) (c .before .before .first-late .ensures) (c .before .if3 .taken) (c .end-of2 .ensures)
+
+end-of-requires-3 : tie.Need-end-of-requires-3 Inv-loop μ-loop
+end-of-requires-3 c κs = search needs
+
+same-length-7 : tie.Need-same-length-7 Inv-loop μ-loop
+same-length-7 c = search needs
+
+same-length-8 : tie.Need-same-length-8 Inv-loop μ-loop
+same-length-8 c = search needs
+
+same-length-9 : tie.Need-same-length-9 Inv-loop μ-loop
+same-length-9 c = search needs
+
+returns-3 : tie.Need-returns-3 Inv-loop μ-loop
+returns-3 c =
+    let t = c .before .before .before .before .before .before .before .before .before .before in
+    let e = t .before .before .before .before .before .before .before in
+    let i = t .before .loop in
+    let d = c .before .before .before .before .before in
+    tick-horizon (i .inv .0) (t .loop-test .taken) (e .pre .1) (d .before .before .before .if1 .taken) (sym (d .before .some-due .ensures) ∙ d .if2 .left) (c .before .before .before .first-late .ensures) (c .before .before .if3 .left) (c .before .if4 .taken)
+    (c .end-of3 .ensures)
+
+loop-less : tie.Need-loop-less Inv-loop μ-loop
+loop-less c = search needs
+
+loop-again : tie.Need-loop-again Inv-loop μ-loop
+loop-again c =
+    let t = c .before .before .before .before .before .before .before .before .before in
+    let e = t .before .before .before .before .before .before .before in
+    let i = t .before .loop in
+    let d = c .before .before .before .before in
+    (tick-stage (i .inv .0) (t .loop-test .taken) (e .pre .1) (d .before .before .before .if1 .taken) (sym (d .before .some-due .ensures) ∙ d .if2 .left) (c .before .before .first-late .ensures) (c .before .if3 .left) (c .if4 .left), search needs, i .inv .2, i .inv .3, i .inv .4)
+
+choose-node-requires : tie.Need-choose-node-requires Inv-loop μ-loop
+choose-node-requires c κs =
+    let t = c .before .before .before .before .before in
+    let e = t .before .before .before .before .before .before .before in
+    let i = t .before .loop in
+    let other = c .before .before .before .if1 .left in
+    let small : getD (e .args .choices .now) (i .used) 0 < 255 = omega (arith, c .before .before .before .before .shared-slice-known4 .given (i .used)) in
+    (standing (i .inv .0) (search needs), small, room (i .inv .0) (t .loop-test .taken) (e .pre .1) (e .pre .2) other, omega (arith, i .inv .0 .few, i .inv .1, e .pre .1))
+
+end-of-requires-4 : tie.Need-end-of-requires-4 Inv-loop μ-loop
+end-of-requires-4 c κs = search needs
+
+same-length-10 : tie.Need-same-length-10 Inv-loop μ-loop
+same-length-10 c = search needs
+
+same-length-11 : tie.Need-same-length-11 Inv-loop μ-loop
+same-length-11 c = search needs
+
+same-length-12 : tie.Need-same-length-12 Inv-loop μ-loop
+same-length-12 c = search needs
+
+returns-4 : tie.Need-returns-4 Inv-loop μ-loop
+returns-4 c =
+    let t = c .before .before .before .before .before .before .before .before .before .before .before .before .before .before in
+    let e = t .before .before .before .before .before .before .before in
+    let i = t .before .loop in
+    let m = c .before .before .before .before .before .before .before .before .choose-node in
+    node-forbidden (i .inv .0) (t .loop-test .taken) (e .pre .1) (m .ensures (e .args .horizon)) (not-true _ (c .before .if5 .taken)) (c .end-of4 .ensures)
+
+add-used-2 : tie.Need-add-used-2 Inv-loop μ-loop
+add-used-2 c = search needs
+
+loop-less-2 : tie.Need-loop-less-2 Inv-loop μ-loop
+loop-less-2 c = search needs
+
+loop-again-2 : tie.Need-loop-again-2 Inv-loop μ-loop
+loop-again-2 c =
+    let t = c .before .before .before .before .before .before .before .before .before .before .before .before .before in
+    let e = t .before .before .before .before .before .before .before in
+    let i = t .before .loop in
+    let m = c .before .before .before .before .before .before .before .choose-node in
+    (node-stage (i .inv .0) (t .loop-test .taken) (e .pre .1) (m .ensures (e .args .horizon)) (not-false _ (c .if5 .left)) (e .pre .2), search needs, search needs, search needs, search needs)
+
+end-of-requires-5 : tie.Need-end-of-requires-5 Inv-loop μ-loop
+end-of-requires-5 c κs = search needs
+
+same-length-13 : tie.Need-same-length-13 Inv-loop μ-loop
+same-length-13 c = search needs
+
+same-length-14 : tie.Need-same-length-14 Inv-loop μ-loop
+same-length-14 c = search needs
+
+same-length-15 : tie.Need-same-length-15 Inv-loop μ-loop
+same-length-15 c = search needs
+
+returns-5 : tie.Need-returns-5 Inv-loop μ-loop
+returns-5 c = used-up (c .before .before .loop .inv .0) (c .before .loop-test .left) (c .end-of5 .ensures)
+
+pub carry-out-spec : {M : Type 1} → statement M
+carry-out-spec =
+    tie.close
+    (tie.spec
+    Inv-loop
+    μ-loop
+    loop-holds
+    shared-slice-read-b
+    some-due-requires
+    end-of-requires
+    same-length
+    same-length-2
+    same-length-3
+    returns
+    add-tick
+    add-used
+    first-late-requires
+    cast-end-of
+    end-of-requires-2
+    same-length-4
+    same-length-5
+    same-length-6
+    returns-2
+    end-of-requires-3
+    same-length-7
+    same-length-8
+    same-length-9
+    returns-3
+    loop-less
+    loop-again
+    choose-node-requires
+    end-of-requires-4
+    same-length-10
+    same-length-11
+    same-length-12
+    returns-4
+    add-used-2
+    loop-less-2
+    loop-again-2
+    end-of-requires-5
+    same-length-13
+    same-length-14
+    same-length-15
+    returns-5)

@@ -1,0 +1,73 @@
+-- What is known when a run begins, and what holds when it has ended.
+use mathlib.Core.Path.{_≡_}
+use mathlib.Core.List.{List, _++_, map}
+use Prim.Native.Nat.{ℕ, _*_, _≤_, _<_}
+use lib.IntN.{ℤ}
+use lib.ListN.{length, take, drop}
+use Rattle.model.specs.Lists.{each, below, accepted}
+use Rattle.model.specs.Table.{Component}
+use Rattle.model.specs.Reader.{byte}
+use Rattle.model.specs.Places.{readOf}
+use Rattle.model.specs.Schedule.{Visit, light}
+use Rattle.model.specs.Checks.{planOf}
+use Rattle.model.specs.Machine.{startNode, partBytes}
+use Rattle.model.specs.Run.{Counts, Setting, startRun, run, observationBytes}
+use Rattle.rows.specs.Rows.{rowsOf}
+use Rattle.registers.specs.Words.{wordIn, Eight, SameNode}
+use Rattle.machine.specs.Running.{RowsStand, countsAt, settingIn, viewIn, NodeStands, Running}
+use Rattle.run.specs.declared.Ended.{Ended}
+
+-- however far the list is carried out, its observations have room
+abbrev pub Roomy : Setting → List ℕ → ℕ → Type 0
+Roomy g choices room = (k : ℕ) → length (run g (take k choices) .state .observations) * 32 ≤ room
+
+-- the numbers of the end, and the bytes of the observations over the front of what was lent
+pub record EndsAs (g : Setting) (choices out : List ℕ) (e : Ended) (out′ : List ℕ) : Type 0 where
+  pub end : e .end ≡ run g choices .end
+  pub node : e .node ≡ run g choices .node
+  pub tick : e .tick ≡ run g choices .state .tick
+  pub used : e .used ≡ run g choices .state .used
+  pub written : e .written ≡ length (run g choices .state .observations)
+  pub bytes : out′ ≡ each observationBytes (run g choices .state .observations) ++ drop (length (run g choices .state .observations) * 32) out
+
+-- the first late node, the number of nodes where none is
+pub record FirstLate (l : List ℕ) (count tick r : ℕ) : Type 0 where
+  pub among : r ≤ count
+  pub before : (i : ℕ) → i < r → tick ≤ wordIn l i 27
+  pub there : r < count → wordIn l r 27 < tick
+
+-- ## The start
+
+-- words 21 to 25 of node c are these numbers; the words of any other node are as they were
+pub record WordsPut (l : List ℕ) (c start long clocks variables row : ℕ) (l′ : List ℕ) : Type 0 where
+  pub begins : wordIn l′ c 21 ≡ start
+  pub lasts : wordIn l′ c 22 ≡ long
+  pub ages : wordIn l′ c 23 ≡ clocks
+  pub holds : wordIn l′ c 24 ≡ variables
+  pub passes : wordIn l′ c 25 ≡ row
+  pub others : (i k : ℕ) → (i ≡ c → ⊥) → k < 32 → wordIn l′ i k ≡ wordIn l i k
+  pub same : length l′ ≡ length l
+
+-- node c stands at its program's start, with so many clocks and variables; all of any other node is as it was
+pub record NodeStarted (program rows : List ℕ) (n clocks variables : ℕ) (l : List ℕ) (v : List ℤ) (c : ℕ) (l′ : List ℕ) (v′ : List ℤ) : Type 0 where
+  pub stands : NodeStands program rows n l′ v′ c 0
+  pub view : viewIn program l′ v′ c ≡ startNode (partBytes program c) clocks variables
+  pub counts : countsAt l′ c ≡ record { clocks = clocks; variables = variables }
+  pub others : (i : ℕ) → (i ≡ c → ⊥) → SameNode l v l′ v′ i
+  pub eight : Eight l′ v′
+
+abbrev pub countsOf : Component → Counts
+countsOf C = record { clocks = C .clocks; variables = C .variables }
+
+-- the slices hold the nodes of the table at their programs' start
+pub record Started (table program rows : List ℕ) (n : ℕ) (l : List ℕ) (v : List ℤ) : Type 0 where
+  pub counts : map (countsAt l) (below (byte table 3)) ≡ map countsOf (readOf table .table .components)
+  pub running : (H : ℕ) → Running program rows n l v (byte table 3) (startRun (settingIn program H rows n l (byte table 3)))
+
+-- the rows are the schedule of an accepted table
+pub record Planned (table rows : List ℕ) (n : ℕ) : Type 0 where
+  pub passages : List Visit
+  pub plan : planOf (readOf table) ≡ accepted passages
+  pub count : n ≡ length passages
+  pub listed : rowsOf rows n ≡ map light passages
+  pub stand : RowsStand rows n

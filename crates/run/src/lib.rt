@@ -1,0 +1,225 @@
+// The whole list of choices (document 01, 'The run'): the nodes at their programs' start, the choices one after the other, the end.
+ghost use mathlib.Core.Path.{_≡_};
+ghost use mathlib.Core.List.{List};
+ghost use Prim.Native.Nat.{_+_, _*_, _≤_, _<_};
+ghost use lib.Dec.{eqb};
+ghost use lib.ListN.{length};
+ghost use Rattle.model.specs.Lists.{any, below, accepted};
+ghost use Rattle.model.specs.Reader.{byte};
+ghost use Rattle.model.specs.Places.{Valid, readOf};
+ghost use Rattle.model.specs.Schedule.{Visit};
+ghost use Rattle.model.specs.Checks.{planOf};
+ghost use Rattle.model.specs.Program.{programBytes};
+ghost use Rattle.model.specs.Run.{settingOf, startRun};
+ghost use Rattle.table.specs.Directory.{startsOf};
+ghost use Rattle.registers.specs.Words.{wordIn, Eight};
+ghost use Rattle.machine.specs.Running.{RowsStand, settingIn, Running};
+ghost use Rattle.run.specs.Ends.{Roomy, EndsAs, FirstLate, WordsPut, NodeStarted, Started, Planned};
+
+// How a run ended: document 01's number of the end, the node, the tick, the choices used, the observations written.
+pub struct Ended {
+    pub end: u8,
+    pub node: u8,
+    pub tick: u64,
+    pub used: usize,
+    pub written: usize,
+}
+
+// Whether a sleep or a listen is due.
+fn some_due(l: &[u64], count: usize, tick: u64) -> bool
+    requires { ⌜ (256 ≤ length (now l)) × (count ≤ 8) ⌝ }
+    ensures { λ r. ⌜ r ≡ any (λ c. eqb (wordIn (now (l .entry)) c 26) tick) (below count) ⌝ }
+{
+    let mut c: usize = 0;
+    while c < count {
+        if registers::word(l, c, 26) == tick {
+            return true;
+        }
+        c += 1;
+    }
+    false
+}
+
+// The lowest node that is late at that tick, the number of nodes where none is.
+fn first_late(l: &[u64], count: usize, tick: u64) -> usize
+    requires { ⌜ (256 ≤ length (now l)) × (count ≤ 8) ⌝ }
+    ensures { λ r. ⌜ FirstLate (now (l .entry)) count tick r ⌝ }
+{
+    let mut c: usize = 0;
+    while c < count {
+        if registers::word(l, c, 27) < tick {
+            return c;
+        }
+        c += 1;
+    }
+    count
+}
+
+fn end_of(end: u8, node: u8, tick: u64, used: usize, written: usize) -> Ended
+    ensures { λ r. ⌜ (r .end ≡ end) × (r .node ≡ node) × (r .tick ≡ tick) × (r .used ≡ used) × (r .written ≡ written) ⌝ }
+{
+    Ended {
+        end,
+        node,
+        tick,
+        used,
+        written,
+    }
+}
+
+// Carries out the list of choices.
+fn carry_out(
+    program: &[u8],
+    rows: &[u32],
+    n: usize,
+    count: usize,
+    horizon: u64,
+    choices: &[u8],
+    l: &mut [u64],
+    v: &mut [i16],
+    out: &mut [u8],
+) -> Ended
+    requires { ⌜ Running (now program) (now rows) n (now l) (now v) count (startRun (settingIn (now program) horizon (now rows) n (now l) count)) × (length (now choices) ≤ 1000000) × Roomy (settingIn (now program) horizon (now rows) n (now l) count) (now choices) (length (now out)) ⌝ }
+    ensures { λ e. ⌜ EndsAs (settingIn (now (program .entry)) horizon (now (rows .entry)) n (now (l .entry)) count) (now (choices .entry)) (now (out .entry)) e (now (out .exit)) ⌝ }
+{
+    let mut tick: u64 = 0;
+    let mut used: usize = 0;
+    let mut written: usize = 0;
+    while used < choices.len() {
+        let b = choices[used];
+        if b == 255 {
+            if some_due(l, count, tick) {
+                return end_of(3, 255, tick, used, written);
+            }
+            tick += 1;
+            used += 1;
+            let c = first_late(l, count, tick);
+            if c < count {
+                return end_of(2, c as u8, tick, used, written);
+            }
+            if tick == horizon {
+                return end_of(0, 255, tick, used, written);
+            }
+        } else {
+            let m = machine::choose_node(program, rows, n, count, l, v, tick, b, out, written);
+            if !m.allowed {
+                return end_of(3, 255, tick, used, written);
+            }
+            written = m.written;
+            used += 1;
+        }
+    }
+    end_of(1, 255, tick, used, written)
+}
+
+// Words 21 to 25 of node c: its part, its counts, its row.
+fn put_fixed(
+    l: &mut [u64],
+    c: usize,
+    start: usize,
+    long: usize,
+    clocks: u8,
+    variables: u8,
+    row: usize,
+)
+    requires { ⌜ (256 ≤ length (now l)) × (c < 8) ⌝ }
+    ensures { λ _. ⌜ WordsPut (now (l .entry)) c start long clocks variables row (now (l .exit)) ⌝ }
+{
+    registers::put_word(l, c, 21, start as u64);
+    registers::put_word(l, c, 22, long as u64);
+    registers::put_word(l, c, 23, clocks as u64);
+    registers::put_word(l, c, 24, variables as u64);
+    registers::put_word(l, c, 25, row as u64);
+}
+
+// Node c at its program's start; its component stands at that place of the table.
+fn start_node(
+    table: &[u8],
+    at: usize,
+    program: &[u8],
+    rows: &[u32],
+    n: usize,
+    l: &mut [u64],
+    v: &mut [i16],
+    c: usize,
+)
+    requires { ⌜ Eight (now l) (now v) × RowsStand (now rows) n × (c < 8) × (at + 6 ≤ length (now table)) × (byte (now table) (at + 4) ≤ 4) × (byte (now table) (at + 5) ≤ 4) ⌝ }
+    ensures { λ _. ⌜ NodeStarted (now (program .entry)) (now (rows .entry)) n (byte (now (table .entry)) (at + 4)) (byte (now (table .entry)) (at + 5)) (now (l .entry)) (now (v .entry)) c (now (l .exit)) (now (v .exit)) ⌝ }
+{
+    let span = program::span_of(program, c as u8);
+    let start = span.start;
+    let long = span.long;
+    let row = machine::next_row(rows, n, c, 0);
+    put_fixed(l, c, start, long, table[at + 4], table[at + 5], row);
+    let q = stand::start_node(&program[start..start + long]);
+    machine::put_node(program, rows, n, l, v, c, q);
+}
+
+// All nodes at their programs' start.
+fn start(
+    table: &[u8],
+    starts: [u16; 8],
+    program: &[u8],
+    rows: &[u32],
+    n: usize,
+    l: &mut [u64],
+    v: &mut [i16],
+)
+    requires { ⌜ Valid (now table) × (starts ≡ startsOf (now table) (byte (now table) 3)) × Eight (now l) (now v) × RowsStand (now rows) n ⌝ }
+    ensures { λ _. ⌜ Started (now (table .entry)) (now (program .entry)) (now (rows .entry)) n (now (l .exit)) (now (v .exit)) ⌝ }
+{
+    let count = table[3] as usize;
+    let mut c: usize = 0;
+    while c < count {
+        start_node(table, starts[c] as usize, program, rows, n, l, v, c);
+        c += 1;
+    }
+}
+
+// The run of the table whose program this is.
+fn run_program(
+    table: &[u8],
+    starts: [u16; 8],
+    program: &[u8],
+    rows: &[u32],
+    n: usize,
+    choices: &[u8],
+    out: &mut [u8],
+) -> Ended
+    requires { ⌜ Valid (now table) × (starts ≡ startsOf (now table) (byte (now table) 3)) × (now program ≡ programBytes (readOf (now table))) × Planned (now table) (now rows) n × (n * 32 ≤ length (now out)) × (length (now choices) ≤ 1000000) ⌝ }
+    ensures { λ e. ⌜ ((S : List Visit) → planOf (readOf (now (table .entry))) ≡ accepted S → EndsAs (settingOf (readOf (now (table .entry))) S) (now (choices .entry)) (now (out .entry)) e (now (out .exit))) ⌝ }
+{
+    let mut l = [0u64; 256];
+    let mut v = [0i16; 32];
+    start(table, starts, program, rows, n, &mut l, &mut v);
+    let count = table[3] as usize;
+    let horizon = parts::word_at(table, 5) as u64;
+    carry_out(
+        program,
+        rows,
+        n,
+        count,
+        horizon,
+        choices,
+        &mut l,
+        &mut v,
+        out,
+    )
+}
+
+// Runs the programs of an accepted table whose schedule stands in the rows.
+pub fn run_table(
+    table: &[u8],
+    starts: [u16; 8],
+    rows: &[u32],
+    n: usize,
+    choices: &[u8],
+    out: &mut [u8],
+) -> Ended
+    requires { ⌜ Valid (now table) × (starts ≡ startsOf (now table) (byte (now table) 3)) × Planned (now table) (now rows) n × (n * 32 ≤ length (now out)) × (length (now choices) ≤ 1000000) ⌝ }
+    ensures { λ e. ⌜ ((S : List Visit) → planOf (readOf (now (table .entry))) ≡ accepted S → EndsAs (settingOf (readOf (now (table .entry))) S) (now (choices .entry)) (now (out .entry)) e (now (out .exit))) ⌝ }
+{
+    let mut program = [0u8; 24576];
+    let long = translator::write_program(table, starts, &mut program);
+    run_program(table, starts, &program[..long], rows, n, choices, out)
+}
