@@ -21,6 +21,7 @@ use Rattle.table.proofs.Answered.{verdict-refused, verdict-accepted}
 use Rattle.rows.specs.Rows.{rowsOf}
 use Rattle.schedule.specs.declared.Scheduled.{Scheduled}
 use Rattle.schedule.specs.Filled as filled
+use Rattle.run.specs.Ends.{Planned}
 use Rattle.schedule.proofs.Fields.{fields-light, laid-fits, laid-short}
 
 -- ## What was planned
@@ -59,6 +60,17 @@ module _ (bs : List ℕ) (v : Valid bs) (r : Scheduled) (rows : List ℕ) (F : f
 
     pub room : r .count * 9 ≤ length rows
     room = rw count-is (F .placed passages plan-is .fits)
+
+    -- the rows are the schedule
+    pub is-planned : Planned bs rows (r .count)
+    is-planned =
+        record {
+          passages = passages;
+          plan = plan-is;
+          count = count-is;
+          listed = ap (λ (k : ℕ). rowsOf rows k) count-is ∙ F .rows passages plan-is;
+          stand = record { few = few; fits = room };
+        }
 
     call-is : (lent : List ℕ) → scheduleCall bs lent ≡ laid (length passages) (each sevenOf passages) lent
     unfolding scheduleCall

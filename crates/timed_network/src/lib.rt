@@ -1,13 +1,16 @@
 // The exported calls. Each contract equates the answer, and each lent number afterwards, with the call's
 // definition in model's specs/Calls.antt, for all inputs.
 ghost use mathlib.Core.Path.{_≡_};
-ghost use Prim.Native.Nat.{_≤_};
+ghost use mathlib.Core.List.{List};
+ghost use Prim.Native.Nat.{ℕ, _*_, _≤_};
 ghost use Rattle.model.specs.declared.Verdict.the-variants.{Refused};
 ghost use Rattle.model.specs.Reader.{byte};
 ghost use Rattle.model.specs.Places.{Valid};
 ghost use Rattle.model.specs.Program.{partOf, within};
-ghost use Rattle.model.specs.Calls.{checkCall, scheduleCall, translateCall, numberOf, concernedOf};
+ghost use Rattle.model.specs.Calls.{notRun, checkCall, scheduleCall, translateCall, runCall, numberOf, concernedOf, Demand3Of};
 ghost use Rattle.table.specs.Directory.{startsOf};
+ghost use Rattle.run.specs.Ends.{Planned};
+ghost use Rattle.timed_network.specs.Ran.{Answers, NumbersOf};
 use model::Verdict;
 
 // A verdict as two numbers: 0 for accepted, else the number of the refusal; and the component concerned, 255 for none.
@@ -30,6 +33,29 @@ pub struct CallNumbers {
 pub struct PartNumbers {
     pub start: usize,
     pub length: usize,
+}
+
+// The answer of a run as numbers.
+#[repr(C)]
+pub struct RunNumbers {
+    pub number: u8,
+    pub component: u8,
+    pub end: u8,
+    pub node: u8,
+    pub tick: u32,
+    pub used: u32,
+    pub size: u32,
+}
+
+// The answer of a run: document 01's number of the end, the node (255 unless late), the tick, the choices used and the observations
+// written; after a refusal 0, 255, 0, 0 and 0.
+pub struct Ran {
+    pub verdict: Verdict,
+    pub end: u8,
+    pub node: u8,
+    pub tick: u32,
+    pub used: u32,
+    pub size: usize,
 }
 
 // The answer of a call that writes.
@@ -176,6 +202,79 @@ pub fn part<'a>(program: &'a [u8], node: u8) -> &'a [u8]
     program::part(program, node)
 }
 
+fn not_run(number: u8, component: u8) -> Ran
+    ensures { λ r. ⌜ ((lent : List ℕ) → Answers (notRun number component lent) r lent) ⌝ }
+{
+    Ran {
+        verdict: Verdict::Refused(number, component),
+        end: 0,
+        node: 255,
+        tick: 0,
+        used: 0,
+        size: 0,
+    }
+}
+
+// Runs the programs of a table whose schedule stands in the rows: 13 before 14.
+fn run_planned(
+    table: &[u8],
+    starts: [u16; 8],
+    rows: &[u32],
+    n: usize,
+    choices: &[u8],
+    observations: &mut [u8],
+) -> Ran
+    requires { ⌜ Valid (now table) × (starts ≡ startsOf (now table) (byte (now table) 3)) × Planned (now table) (now rows) n ⌝ }
+    ensures { λ r. ⌜ Answers (runCall (now (table .entry)) (now (choices .entry)) (now (observations .entry))) r (now (observations .exit)) ⌝ }
+{
+    if observations.len() < n * 32 {
+        return not_run(13, 255);
+    }
+    if 1000000 < choices.len() {
+        return not_run(14, 255);
+    }
+    let e = run::run_table(table, starts, rows, n, choices, observations);
+    Ran {
+        verdict: Verdict::Accepted,
+        end: e.end,
+        node: e.node,
+        tick: e.tick as u32,
+        used: e.used as u32,
+        size: e.written,
+    }
+}
+
+// The same of a table that was read.
+fn run_read(table: &[u8], starts: [u16; 8], choices: &[u8], observations: &mut [u8]) -> Ran
+    requires { ⌜ Valid (now table) × (starts ≡ startsOf (now table) (byte (now table) 3)) ⌝ }
+    ensures { λ r. ⌜ Answers (runCall (now (table .entry)) (now (choices .entry)) (now (observations .entry))) r (now (observations .exit)) ⌝ }
+{
+    let mut rows = [0u32; 9216];
+    let r = schedule::plan_rows(table, starts, &mut rows);
+    let v = r.verdict;
+    let n = r.count;
+    match v {
+        Verdict::Refused(number, component) => not_run(number, component),
+        Verdict::Accepted => run_planned(table, starts, &rows, n, choices, observations),
+    }
+}
+
+// Runs an accepted table's programs under a list of choices; 32 bytes an observation. Every number and every lent byte is the definition's,
+// and demand 3 holds of the run.
+pub fn run(table: &[u8], choices: &[u8], observations: &mut [u8]) -> Ran
+    ensures { λ r. ⌜ Answers (runCall (now (table .entry)) (now (choices .entry)) (now (observations .entry))) r (now (observations .exit)) × Demand3Of (now (table .entry)) (now (choices .entry)) ⌝ }
+{
+    let r = table::read(table);
+    let v = r.verdict;
+    match v {
+        Verdict::Refused(number, component) => not_run(number, component),
+        Verdict::Accepted => {
+            let starts = r.starts;
+            run_read(table, starts, choices, observations)
+        }
+    }
+}
+
 // The calls for C.
 #[no_mangle]
 pub extern "C" fn timed_network_check(table: &[u8]) -> VerdictNumbers
@@ -215,5 +314,37 @@ pub extern "C" fn timed_network_part(program: &[u8], node: u8) -> PartNumbers
     PartNumbers {
         start: span.start,
         length: span.long,
+    }
+}
+
+#[no_mangle]
+pub extern "C" fn timed_network_run(
+    table: &[u8],
+    choices: &[u8],
+    observations: &mut [u8],
+) -> RunNumbers
+    ensures { λ r. ⌜ NumbersOf (runCall (now (table .entry)) (now (choices .entry)) (now (observations .entry))) r (now (observations .exit)) × Demand3Of (now (table .entry)) (now (choices .entry)) ⌝ }
+{
+    let r = run(table, choices, observations);
+    let v = r.verdict;
+    match v {
+        Verdict::Accepted => RunNumbers {
+            number: 0,
+            component: 255,
+            end: r.end,
+            node: r.node,
+            tick: r.tick,
+            used: r.used,
+            size: r.size as u32,
+        },
+        Verdict::Refused(number, component) => RunNumbers {
+            number,
+            component,
+            end: r.end,
+            node: r.node,
+            tick: r.tick,
+            used: r.used,
+            size: r.size as u32,
+        },
     }
 }
