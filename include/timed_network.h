@@ -64,13 +64,14 @@ typedef struct VerdictNumbers {
 VerdictNumbers timed_network_check(const uint8_t *table, size_t length);
 
 /*
- * The answer of a call that writes into a lent list, as three numbers.
+ * The answer of a call that writes into lent memory, as three numbers.
  *
  * number, component: as in a verdict, with one number more:
  *
- *  13  the lent list does not hold the result; component 255
+ *  13  the lent memory does not hold the result; component 255
  *
- * size: how many passages were written; 0 after a refusal.
+ * size: how many passages, or bytes of a program, were written; 0 after a
+ * refusal.
  */
 typedef struct CallNumbers {
     uint8_t number;
@@ -98,6 +99,114 @@ typedef struct CallNumbers {
  */
 CallNumbers timed_network_schedule(const uint8_t *table, size_t length,
                                    uint32_t *list, size_t list_length);
+
+/*
+ * Writes the program bytes of a table: the programs of all its nodes, laid
+ * out as document 01 says under "The program".
+ *
+ * table, length:  as for timed_network_check.
+ * program:        the first of `program_length` bytes that can be written.
+ * program_length: how many bytes there are. 65,535 are always enough. It may
+ *                 be 0; then the pointer is not used.
+ *
+ * The size of the answer is the length of the program in bytes. It stands at
+ * the front of what was lent. The bytes past it stay as they were; after a
+ * refusal all of them do.
+ *
+ * Refused with 1 to 12 as timed_network_check refuses, then with 13 where
+ * program_length is below the length of the program.
+ *
+ * The program must not overlap the table.
+ */
+CallNumbers timed_network_translate(const uint8_t *table, size_t length,
+                                    uint8_t *program, size_t program_length);
+
+/*
+ * Where the part of one node stands in program bytes.
+ *
+ * start:  its first byte, counted from the first byte of the program.
+ * length: how many bytes it has. Both are 0 where there is no such part.
+ */
+typedef struct PartNumbers {
+    size_t start;
+    size_t length;
+} PartNumbers;
+
+/*
+ * Finds the part of the program bytes that belongs to one node.
+ *
+ * program, program_length: any bytes, as a rule those that
+ *                          timed_network_translate wrote. With length 0 the
+ *                          pointer is not read.
+ * node:                    the number of the node, counted from 0.
+ *
+ * There is no part for a number without a node, and none where the header, a
+ * length on the way or the part itself runs out of the bytes. Otherwise
+ * start + length is at most program_length. Nothing else of the bytes is
+ * tried, and nothing is written.
+ */
+PartNumbers timed_network_part(const uint8_t *program, size_t program_length,
+                               uint8_t node);
+
+/*
+ * The answer of a run.
+ *
+ * number, component: as in a verdict, with two numbers more, tried in this
+ * order after 1 to 12:
+ *
+ *  13  fewer bytes are lent than 32 for each passage of the schedule;
+ *      component 255
+ *  14  there are more than 1,000,000 choices; component 255
+ *
+ * end: how the run ended.
+ *
+ *   0  at the horizon; the choices behind that are ignored
+ *   1  the choices are used up
+ *   2  a tick has made a node late
+ *   3  a choice is not allowed; it did nothing and is not counted
+ *
+ * node: the lowest node that is late; 255 with every other end.
+ * tick: how many ticks have passed, a late one included.
+ * used: how many choices were carried out, the ticks included.
+ * size: how many observations were written.
+ *
+ * After a refusal end, tick, used and size are 0, and node is 255.
+ */
+typedef struct RunNumbers {
+    uint8_t number;
+    uint8_t component;
+    uint8_t end;
+    uint8_t node;
+    uint32_t tick;
+    uint32_t used;
+    uint32_t size;
+} RunNumbers;
+
+/*
+ * Runs the programs of a table's nodes together under a list of choices.
+ *
+ * table, length:       as for timed_network_check.
+ * choices:             the first of `choices_length` bytes that can be read:
+ *                      0 to 7 let that node finish its statement, 255 lets a
+ *                      tick pass, no other is allowed.
+ * choices_length:      how many choices there are. It may be 0; then the
+ *                      pointer is not read.
+ * observations:        the first of `observations_length` bytes that can be
+ *                      written.
+ * observations_length: how many bytes there are. 32 x 1,024 are always
+ *                      enough. It may be 0; then the pointer is not used.
+ *
+ * Each observation takes 32 bytes: component, edge, location, 0, tick (4
+ * bytes), four clocks (4 bytes each), four variables (2 bytes each), absent
+ * ones 0; the first byte of a number is its highest. They stand in the order
+ * in which they were made from the front on. The bytes past them stay as they
+ * were, even where there is room for more; after a refusal all of them do.
+ *
+ * The observations must overlap neither the table nor the choices.
+ */
+RunNumbers timed_network_run(const uint8_t *table, size_t length,
+                             const uint8_t *choices, size_t choices_length,
+                             uint8_t *observations, size_t observations_length);
 
 #ifdef __cplusplus
 }

@@ -12,13 +12,41 @@ pub(crate) struct VerdictNumbers {
 }
 
 /// The answer of a call that writes: a verdict's two numbers, and how many
-/// passages were written, 0 after a refusal.
+/// passages or bytes were written, 0 after a refusal.
 #[repr(C)]
 #[derive(Clone, Copy, Debug, PartialEq, Eq)]
 pub(crate) struct CallNumbers {
     pub(crate) number: u8,
     pub(crate) component: u8,
     pub(crate) size: u32,
+}
+
+/// Where a part stands: its first byte and its length, both 0 for none.
+#[repr(C)]
+#[derive(Clone, Copy, Debug, PartialEq, Eq)]
+pub(crate) struct PartNumbers {
+    pub(crate) start: usize,
+    pub(crate) length: usize,
+}
+
+/// The answer of a run as the library gives it.
+#[repr(C)]
+#[derive(Clone, Copy, Debug, PartialEq, Eq)]
+pub struct RunNumbers {
+    /// 0 if the run took place, else the number of the refusal.
+    pub number: u8,
+    /// The component that a refusal concerns, 255 for none.
+    pub component: u8,
+    /// How the run ended, 0 to 3; 0 after a refusal.
+    pub end: u8,
+    /// The lowest late node; 255 with every other end and after a refusal.
+    pub node: u8,
+    /// The ticks that have passed; 0 after a refusal.
+    pub tick: u32,
+    /// The choices carried out; 0 after a refusal.
+    pub used: u32,
+    /// The observations written; 0 after a refusal.
+    pub size: u32,
 }
 
 extern "C" {
@@ -29,6 +57,21 @@ extern "C" {
         list: *mut u32,
         list_length: usize,
     ) -> CallNumbers;
+    fn timed_network_translate(
+        table: *const u8,
+        length: usize,
+        program: *mut u8,
+        program_length: usize,
+    ) -> CallNumbers;
+    fn timed_network_part(program: *const u8, program_length: usize, node: u8) -> PartNumbers;
+    fn timed_network_run(
+        table: *const u8,
+        length: usize,
+        choices: *const u8,
+        choices_length: usize,
+        observations: *mut u8,
+        observations_length: usize,
+    ) -> RunNumbers;
 }
 
 /// Tries a table.
@@ -46,6 +89,43 @@ pub(crate) fn schedule(table: &[u8], list: &mut [u32]) -> CallNumbers {
     // not overlap the table. The call reads inside the one, writes inside the
     // other and keeps no pointer; with length 0 it does not use the pointer.
     unsafe { timed_network_schedule(table.as_ptr(), table.len(), list.as_mut_ptr(), list.len()) }
+}
+
+/// Writes the program bytes of a table.
+pub(crate) fn translate(table: &[u8], program: &mut [u8]) -> CallNumbers {
+    // As for the schedule: the program, borrowed to be changed, does not
+    // overlap the table.
+    unsafe {
+        timed_network_translate(
+            table.as_ptr(),
+            table.len(),
+            program.as_mut_ptr(),
+            program.len(),
+        )
+    }
+}
+
+/// Finds the part of one node.
+pub(crate) fn part(program: &[u8], node: u8) -> PartNumbers {
+    // As for the check: the call reads inside the slice, writes nothing and
+    // keeps no pointer.
+    unsafe { timed_network_part(program.as_ptr(), program.len(), node) }
+}
+
+/// Runs a table under choices.
+pub(crate) fn run(table: &[u8], choices: &[u8], observations: &mut [u8]) -> RunNumbers {
+    // As for the schedule: the call reads inside the first two slices and
+    // writes inside the third, which, borrowed to be changed, overlaps neither.
+    unsafe {
+        timed_network_run(
+            table.as_ptr(),
+            table.len(),
+            choices.as_ptr(),
+            choices.len(),
+            observations.as_mut_ptr(),
+            observations.len(),
+        )
+    }
 }
 
 #[cfg(test)]
@@ -85,5 +165,68 @@ mod tests {
         };
         assert_eq!(schedule(&SMALLEST, &mut list), answer);
         assert_eq!(list, [9; 6]);
+    }
+
+    /// The program of the smallest table, 52 bytes.
+    const PROGRAM: [u8; 52] = [
+        1, 0, 52, 1, 0, 1, // header
+        0, 46, 1, 1, 0, 0, // the node's head
+        0, 0, 0, 4, // the starts of its two blocks
+        10, 0, 0, 0, 12, 0, 0, 1, 15, 0, 0, 0, 16, 0, 0, 0, // trial, high, keep, take
+        0, 0, 0, 0, 3, 0, 0, 0, 7, 0, 0, 0, // sleep, done, age
+        9, 0, 0, 0, 17, 0, 0, 0, // enter, choose
+    ];
+
+    #[test]
+    fn the_program_and_its_only_part() {
+        let mut program = [9; 53];
+        let answer = CallNumbers {
+            number: 0,
+            component: 255,
+            size: 52,
+        };
+        assert_eq!(translate(&SMALLEST, &mut program), answer);
+        assert_eq!(program[..52], PROGRAM);
+        assert_eq!(program[52], 9);
+        let (start, length) = (6, 46);
+        assert_eq!(part(&PROGRAM, 0), PartNumbers { start, length });
+        let (start, length) = (0, 0);
+        for node in [1, 8, 255] {
+            assert_eq!(part(&PROGRAM, node), PartNumbers { start, length });
+        }
+        assert_eq!(part(&PROGRAM[..51], 0), PartNumbers { start, length });
+    }
+
+    #[test]
+    fn a_run_to_the_horizon() {
+        let mut bytes = [9; 33];
+        let answer = RunNumbers {
+            number: 0,
+            component: 255,
+            end: 0,
+            node: 255,
+            tick: 1,
+            used: 6,
+            size: 1,
+        };
+        assert_eq!(run(&SMALLEST, &[0, 0, 0, 0, 0, 255, 7], &mut bytes), answer);
+        assert_eq!(bytes[..32], [0; 32]);
+        assert_eq!(bytes[32], 9);
+    }
+
+    #[test]
+    fn a_refused_run_gives_node_255_and_zeros() {
+        let mut bytes = [9; 31];
+        let answer = RunNumbers {
+            number: 13,
+            component: 255,
+            end: 0,
+            node: 255,
+            tick: 0,
+            used: 0,
+            size: 0,
+        };
+        assert_eq!(run(&SMALLEST, &[0], &mut bytes), answer);
+        assert_eq!(bytes, [9; 31]);
     }
 }

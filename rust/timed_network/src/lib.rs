@@ -2,12 +2,23 @@
 //!
 //! [`check`] answers checks 1 to 12 of document 01, [`schedule`] writes the
 //! schedule of an accepted table into a lent list, [`passages`] gives it as a
-//! list of its own. The declarations of the library stand in one private
-//! module; each call gets its safe form here.
+//! list of its own. [`translate`] writes the program of an accepted table,
+//! [`program`] gives it as bytes of its own, [`part`] finds one node's part in
+//! it, [`run`] carries out choices. The declarations of the library stand in
+//! one private module; each call gets its safe form here.
 #![deny(unsafe_code)]
 #![warn(missing_docs)]
 
+#[cfg(feature = "double")]
+mod double;
 mod exported;
+mod running;
+
+pub use exported::RunNumbers;
+pub use running::{
+    part, program, run, run_numbers, translate, End, Run, MAX_CHOICES, MAX_PROGRAM, NO_NODE,
+    OBSERVATION, TICK,
+};
 
 use std::fmt;
 
@@ -52,12 +63,13 @@ impl fmt::Display for Verdict {
     }
 }
 
-/// The answer of a call that writes into a lent list.
+/// The answer of a call that writes a schedule or a program.
 #[derive(Clone, Copy, Debug, PartialEq, Eq)]
 pub struct Call {
-    /// Checks 1 to 12, then 13 for a list that is too short.
+    /// Checks 1 to 12, then 13 where too little is lent.
     pub verdict: Verdict,
-    /// How many passages were written; 0 after a refusal.
+    /// How many passages, or bytes of a program, were written; 0 after a
+    /// refusal.
     pub size: usize,
 }
 

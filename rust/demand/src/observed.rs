@@ -1,0 +1,79 @@
+//! The observations written, read from their bytes and compared with those on
+//! the path.
+
+use crate::path::{Observation, Path};
+use crate::OBSERVATION;
+
+/// "32 bytes: component, edge, location, 0, tick (4 bytes), four clocks grown
+/// by n (4 each), four variables (2 each); absent ones 0."
+pub fn read(bytes: &[u8]) -> Result<Vec<Observation>, String> {
+    let places = bytes.chunks_exact(OBSERVATION);
+    if !places.remainder().is_empty() {
+        return Err(format!("{} bytes are not whole observations", bytes.len()));
+    }
+    places.map(one).collect()
+}
+
+fn one(bytes: &[u8]) -> Result<Observation, String> {
+    if bytes[3] != 0 {
+        return Err(format!("the fourth byte is {}", bytes[3]));
+    }
+    Ok(Observation {
+        component: bytes[0],
+        edge: bytes[1],
+        location: bytes[2],
+        tick: number(&bytes[4..8]),
+        clocks: [8, 12, 16, 20].map(|at| number(&bytes[at..at + 4])),
+        variables: [24, 26, 28, 30].map(|at| number(&bytes[at..at + 2]) as u16 as i16),
+    })
+}
+
+/// A number, its highest byte first.
+fn number(bytes: &[u8]) -> u32 {
+    bytes
+        .iter()
+        .fold(0, |sum, byte| sum << 8 | u32::from(*byte))
+}
+
+/// "Finished sleep writes an observation"; "They stand in finishing order."
+pub fn in_order(written: &[Observation], sleeps: &[u8]) -> Result<(), String> {
+    let nodes: Vec<u8> = written.iter().map(|o| o.component).collect();
+    if nodes == sleeps {
+        return Ok(());
+    }
+    Err(format!(
+        "observations stand there of the nodes {nodes:?}, sleeps were finished by {sleeps:?}"
+    ))
+}
+
+/// The observations of one node are the first ones on the path. Of those that
+/// are due before the tick the last may be missing if the node is late, and
+/// none otherwise.
+pub fn compare(
+    written: &[Observation],
+    path: &Path,
+    component: usize,
+    tick: u32,
+    may_miss: bool,
+) -> Result<(), String> {
+    let mut on_path = path.observations(component);
+    let mut count = 0;
+    for own in written
+        .iter()
+        .filter(|o| usize::from(o.component) == component)
+    {
+        count += 1;
+        let expected = on_path.next();
+        if expected.as_ref() != Some(own) {
+            return Err(format!("{own:?} was written, on the path is {expected:?}"));
+        }
+    }
+    let passages = path.own(component).iter();
+    let due = passages.filter(|passage| passage.ready < tick).count();
+    if due <= count + usize::from(may_miss) {
+        return Ok(());
+    }
+    Err(format!(
+        "node {component} has {count} observations, {due} are due before tick {tick}"
+    ))
+}

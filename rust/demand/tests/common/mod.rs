@@ -1,0 +1,141 @@
+//! What several tests use: the stored runs, and runs of the second
+//! implementation.
+#![allow(dead_code)]
+
+use demand::{Claim, Demand, Facts, TICK};
+use reference::program::program;
+use reference::run::{run, Machine};
+use reference::schedule::Passage;
+use reference::table::Table;
+use std::path::Path;
+
+/// A run's answer: end, node, tick, choices used, then the observations.
+#[derive(Clone, Debug, PartialEq, Eq)]
+pub struct Answer {
+    pub numbers: [u32; 4],
+    pub observations: Vec<u8>,
+}
+
+impl Answer {
+    pub fn claim(&self) -> Claim<'_> {
+        let [end, node, tick, used] = self.numbers;
+        Claim {
+            end: end as u8,
+            node: node as u8,
+            tick,
+            used,
+            observations: &self.observations,
+        }
+    }
+}
+
+/// A `run` request of the vectors that is not refused.
+pub struct Stored {
+    pub name: String,
+    pub table: Vec<u8>,
+    pub choices: Vec<u8>,
+    pub answer: Answer,
+}
+
+/// The runs of all vectors.
+pub fn stored() -> Vec<Stored> {
+    let folder = Path::new(env!("CARGO_MANIFEST_DIR")).join("../../vectors");
+    let mut runs = Vec::new();
+    for file in ["named.tsv", "random.tsv"] {
+        let path = folder.join(file);
+        let text = std::fs::read_to_string(&path)
+            .unwrap_or_else(|error| panic!("{}: {error}", path.display()));
+        runs.extend(text.lines().filter_map(one));
+    }
+    runs
+}
+
+fn one(line: &str) -> Option<Stored> {
+    let fields: Vec<&str> = line.split('\t').collect();
+    let words: Vec<&str> = fields[1].split(' ').collect();
+    let ("run", false) = (words[0], fields[2].starts_with("refused")) else {
+        return None;
+    };
+    let mut parts = fields[2].split('|');
+    let first = parts.next().unwrap().split(' ');
+    let numbers: Vec<u32> = first.map(|word| word.parse().unwrap()).collect();
+    Some(Stored {
+        name: fields[0].to_string(),
+        table: unhex(words[1]),
+        choices: unhex(words[2]),
+        answer: Answer {
+            numbers: numbers.try_into().unwrap(),
+            observations: parts.flat_map(unhex).collect(),
+        },
+    })
+}
+
+pub fn unhex(text: &str) -> Vec<u8> {
+    if text == "-" {
+        return Vec::new();
+    }
+    let byte = |at| u8::from_str_radix(&text[at..at + 2], 16).unwrap();
+    (0..text.len()).step_by(2).map(byte).collect()
+}
+
+/// What the second implementation answers, also for a table that fails checks
+/// 10 to 12.
+pub fn answer(table: &Table, passages: &[Passage], choices: &[u8]) -> Answer {
+    let run = run(table, passages, &program(table), choices).unwrap();
+    let outcome = run.outcome;
+    Answer {
+        numbers: [
+            outcome.end as u32,
+            outcome.node.into(),
+            outcome.tick,
+            outcome.used,
+        ],
+        observations: run.observations.concat(),
+    }
+}
+
+/// Holds the second implementation's run to the demand.
+pub fn held(table: &Table, passages: &[Passage], choices: &[u8]) -> Result<Facts, String> {
+    let answer = answer(table, passages, choices);
+    Demand::new(table, passages).hold(choices, &answer.claim())
+}
+
+/// A small generator of numbers.
+pub struct Numbers(pub u64);
+
+impl Numbers {
+    /// A number below `limit`.
+    pub fn below(&mut self, limit: usize) -> usize {
+        self.0 ^= self.0 << 13;
+        self.0 ^= self.0 >> 7;
+        self.0 ^= self.0 << 17;
+        (self.0 % limit as u64) as usize
+    }
+}
+
+/// Choices that are allowed but for the last one, in any order; a tick once in
+/// `lazy` times.
+pub fn any_choices(numbers: &mut Numbers, table: &Table, passages: &[Passage]) -> Vec<u8> {
+    let bytes = program(table);
+    let mut machine = Machine::new(table, passages, &bytes).unwrap();
+    let lazy = 2 + numbers.below(20);
+    let mut choices = Vec::new();
+    for _ in 0..2000 {
+        let choice = match numbers.below(lazy) {
+            0 => TICK,
+            _ => numbers.below(table.components.len()) as u8,
+        };
+        match machine.choose(choice) {
+            Some(_) => choices.push(choice),
+            None if numbers.below(200) == 0 => {
+                choices.push(choice);
+                return choices;
+            }
+            None => {}
+        }
+        if machine.tick() > u32::from(table.horizon) {
+            return choices;
+        }
+    }
+    choices
+}

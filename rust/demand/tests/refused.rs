@@ -1,0 +1,143 @@
+//! Runs of tables that fail one of the checks 10 to 12 break the demand, each
+//! in the sentence that the check is there for.
+
+mod common;
+
+use common::*;
+use reference::checks::check_messages;
+use reference::schedule::schedule;
+use reference::table::*;
+
+/// A location with the invariant x0 ≤ bound.
+fn location(bound: u16) -> Location {
+    Location { clock: 0, bound }
+}
+
+/// An edge from a location to the next with the bound x0 ≥ low.
+fn edge(source: u8, low: u16, action: Action) -> Edge {
+    let bound = ClockBound {
+        clock: 0,
+        low,
+        high: None,
+    };
+    Edge {
+        source,
+        destination: source + 1,
+        clock_bounds: [bound].into_iter().collect(),
+        action,
+        ..Edge::default()
+    }
+}
+
+/// A component with these windows and works, one after the other, and a wait.
+fn component(windows: &[(u16, u16, Action)]) -> Component {
+    let numbered = || (0..).zip(windows);
+    let last = windows.len() as u8;
+    let mut locations: Vec<Location> = windows.iter().map(|w| location(w.1)).collect();
+    locations.push(location(60));
+    let mut edges: Vec<Edge> = numbered().map(|(l, w)| edge(l, w.0, w.2)).collect();
+    edges.push(Edge {
+        destination: last,
+        ..edge(last, 50, Action::default())
+    });
+    Component {
+        initial: 0,
+        clocks: 1,
+        variables: 0,
+        locations,
+        edges,
+    }
+}
+
+fn sender(windows: &[(u16, u16)]) -> Component {
+    let all: Vec<_> = windows
+        .iter()
+        .map(|w| (w.0, w.1, Action::Send(0)))
+        .collect();
+    component(&all)
+}
+
+/// A listener to channel 0; a message leads where a timeout leads.
+fn hub(windows: &[(u16, u16)]) -> Component {
+    let listen = |location: u8| {
+        let pair = Pair {
+            channel: 0,
+            location,
+        };
+        Action::Receive([pair].into_iter().collect())
+    };
+    let numbered = (1..).zip(windows);
+    let all: Vec<_> = numbered.map(|(next, w)| (w.0, w.1, listen(next))).collect();
+    component(&all)
+}
+
+/// The number of the refusal, and what is wrong with those of many runs that
+/// break the demand.
+fn broken(components: Vec<Component>) -> (u8, Vec<String>) {
+    let table = Table {
+        channels: 1,
+        horizon: 40,
+        components,
+    };
+    let passages = schedule(&table).unwrap();
+    let number = check_messages(&table, &passages).map_or_else(|refusal| refusal.number, |()| 0);
+    let mut numbers = Numbers(88_172_645_463_325_252);
+    let mut run = |_| {
+        let choices = any_choices(&mut numbers, &table, &passages);
+        held(&table, &passages, &choices).err()
+    };
+    (number, (0..400).filter_map(&mut run).collect())
+}
+
+#[test]
+fn an_accepted_table_breaks_nothing() {
+    let accepted = broken(vec![sender(&[(3, 5), (8, 9)]), hub(&[(2, 6), (7, 10)])]);
+    assert_eq!(accepted, (0, Vec::new()));
+}
+
+/// Whether one of the problems has these words in it.
+fn told(problems: &[String], words: &str) -> bool {
+    problems.iter().any(|problem| problem.contains(words))
+}
+
+#[test]
+fn a_listener_that_starts_with_its_sender() {
+    let (number, problems) = broken(vec![sender(&[(3, 5)]), hub(&[(3, 6)])]);
+    assert_eq!(number, 11);
+    assert!(told(
+        &problems,
+        "node 0, yet to send, has not exactly one listener"
+    ));
+}
+
+#[test]
+fn a_listener_that_ends_with_its_sender() {
+    let (number, problems) = broken(vec![sender(&[(3, 5)]), hub(&[(2, 5)])]);
+    assert_eq!(number, 11);
+    assert!(told(
+        &problems,
+        "node 0, yet to send, has not exactly one listener"
+    ));
+    assert!(told(&problems, "not with (0, None) as the schedule says"));
+}
+
+#[test]
+fn two_listeners() {
+    let (number, problems) = broken(vec![sender(&[(3, 5)]), hub(&[(2, 6)]), hub(&[(1, 7)])]);
+    assert_eq!(number, 11);
+    assert!(told(
+        &problems,
+        "node 0, yet to send, has not exactly one listener"
+    ));
+}
+
+#[test]
+fn two_senders_for_one_listener() {
+    let one_after_the_other = vec![sender(&[(3, 5)]), sender(&[(7, 9)]), hub(&[(2, 10)])];
+    let (number, problems) = broken(one_after_the_other);
+    assert_eq!(number, 12);
+    assert!(told(
+        &problems,
+        "node 1, yet to send, has not exactly one listener"
+    ));
+}
