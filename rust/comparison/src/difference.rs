@@ -52,7 +52,7 @@ impl fmt::Display for Expected {
 pub struct Difference {
     /// The name of the class.
     pub class: &'static str,
-    /// The table handed in.
+    /// The table handed in, or the program.
     pub input: Vec<u8>,
     /// The call made.
     pub call: String,

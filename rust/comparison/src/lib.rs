@@ -1,19 +1,25 @@
 //! Holds the exported library against the second implementation.
 //!
-//! Both get the same tables, class after class, and are lent lists of the same
-//! lengths for the schedules; the first difference ends the comparison.
+//! Both get the same tables, class after class, and are lent lists and bytes
+//! of the same lengths for schedules, programs and observations; the first
+//! difference ends the comparison. Each run is also held to demand 3.
 //! [`tables`] makes well-formed tables, [`layout`] and [`bytes`] serve to
-//! damage them, [`classes`] lists what is tried, [`trial`] tries it.
+//! damage them, [`runs`] draws choices, [`classes`] lists what is tried,
+//! [`trial`] tries it.
 #![forbid(unsafe_code)]
 #![warn(missing_docs)]
 
+pub mod buffers;
 pub mod bytes;
 pub mod classes;
 pub mod difference;
 pub mod layout;
 pub mod lists;
+pub mod programs;
 pub mod random;
 pub mod readers;
+pub mod requests;
+pub mod runs;
 pub mod stored;
 pub mod tables;
 pub mod tally;
@@ -60,11 +66,23 @@ fn numbers(seed: u64, class: u64) -> Random {
     Random::new(Random::new(seed).number().wrapping_add(class))
 }
 
+/// How much the comparison has to try.
+#[derive(Clone, Copy, Debug, PartialEq, Eq)]
+pub struct Least {
+    /// Tables.
+    pub cases: u64,
+    /// Runs.
+    pub runs: u64,
+    /// Runs of each kind.
+    pub of_each_kind: u64,
+}
+
 /// What the comparison should have tried and did not: a class without cases,
-/// an answer that never came, lists that never came back in one of the ways,
-/// fewer cases in all than demanded.
-pub fn gaps(tallies: &[Tally], least: u64) -> Vec<String> {
-    let empty = tallies.iter().filter(|tally| tally.cases() == 0);
+/// an answer that never came, lists or bytes that never came back in one of
+/// the ways, parts never found or never missed, a kind of run that is too
+/// rare, fewer cases or runs in all than demanded.
+pub fn gaps(tallies: &[Tally], least: &Least) -> Vec<String> {
+    let empty = tallies.iter().filter(|tally| tally.is_empty());
     let mut gaps: Vec<String> = empty
         .map(|tally| format!("nothing was tried in the class: {}", tally.class))
         .collect();
@@ -75,25 +93,34 @@ pub fn gaps(tallies: &[Tally], least: u64) -> Vec<String> {
         _ => format!("no table was refused with {number}"),
     }));
     gaps.extend(list_gaps(&sum));
-    let cases = sum.cases();
-    if cases < least {
-        gaps.push(format!("{cases} cases are fewer than {least}"));
+    gaps.extend(sum.runs.gaps(least.of_each_kind));
+    let (cases, runs) = (sum.cases(), sum.runs.ran());
+    for (count, least, what) in [(cases, least.cases, "cases"), (runs, least.runs, "runs")] {
+        if count < least {
+            gaps.push(format!("{count} {what} are fewer than {least}"));
+        }
     }
     gaps
 }
 
-/// The ways in which no list came back.
+/// The ways in which no list, no bytes or no part came back.
 fn list_gaps(sum: &Tally) -> impl Iterator<Item = String> {
     let ways = [
         (sum.lists.written, "no list was written"),
         (sum.lists.short, "no list was too short"),
         (sum.lists.kept, "no list was lent for a refused table"),
+        (sum.programs.written, "no program was written"),
+        (sum.programs.short, "no program was too long"),
+        (sum.programs.kept, "no refused table was translated"),
+        (sum.parts[0], "no part was found"),
+        (sum.parts[1], "no part was empty"),
     ];
     let never = ways.into_iter().filter(|(count, _)| *count == 0);
     never.map(|(_, gap)| gap.to_string())
 }
 
-/// The cases of all classes.
-pub fn cases(tallies: &[Tally]) -> u64 {
-    Tally::sum(tallies).cases()
+/// The cases and the runs of all classes.
+pub fn cases(tallies: &[Tally]) -> [u64; 2] {
+    let sum = Tally::sum(tallies);
+    [sum.cases(), sum.runs.all()]
 }

@@ -9,12 +9,16 @@ use comparison::difference::Stop;
 use comparison::random::Random;
 use comparison::readers::Readers;
 use comparison::tally::Tally;
-use comparison::{cases, compare, gaps};
+use comparison::{cases, compare, gaps, Least};
 use std::env;
 use std::process::ExitCode;
 
-/// The comparison has to try at least so many cases.
-const LEAST_CASES: u64 = 100_000;
+/// The comparison has to try at least so much.
+const LEAST: Least = Least {
+    cases: 100_000,
+    runs: 50_000,
+    of_each_kind: 1000,
+};
 
 fn main() -> ExitCode {
     let words: Vec<String> = env::args().skip(1).collect();
@@ -49,12 +53,13 @@ fn seed(words: &[String]) -> Option<u64> {
 /// The last lines, after all classes went through without a difference.
 fn conclude(tallies: &[Tally]) -> ExitCode {
     println!("{}", Tally::sum(tallies));
-    let gaps = gaps(tallies, LEAST_CASES);
+    let gaps = gaps(tallies, &LEAST);
     for gap in &gaps {
         println!("comparison: {gap}");
     }
     if gaps.is_empty() {
-        println!("comparison: {} cases, 0 differences", cases(tallies));
+        let [cases, runs] = cases(tallies);
+        println!("comparison: {cases} cases, {runs} runs, 0 differences");
         ExitCode::SUCCESS
     } else {
         ExitCode::from(1)

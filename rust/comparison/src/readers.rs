@@ -2,12 +2,14 @@
 
 use reference::calls;
 use reference::table::Refusal;
-use timed_network::{Call, Verdict, FIELDS, NO_MESSAGE};
+use timed_network::{Call, RunNumbers, Verdict, FIELDS, NO_MESSAGE, NO_NODE};
 
 /// The last check that `check` answers.
 pub const LAST_CHECK: u8 = 12;
-/// The refusal of a list that is too short.
-pub const SHORT_LIST: u8 = 13;
+/// The refusal of a list or of bytes that are too short.
+pub const TOO_SHORT: u8 = 13;
+/// The refusal of too many choices.
+pub const TOO_MANY: u8 = 14;
 
 /// The calls of an implementation.
 #[derive(Clone, Copy)]
@@ -16,6 +18,12 @@ pub struct Reader {
     pub check: fn(&[u8]) -> Verdict,
     /// What it writes as a table's schedule.
     pub schedule: fn(&[u8], &mut [u32]) -> Call,
+    /// What it writes as a table's program.
+    pub translate: fn(&[u8], &mut [u8]) -> Call,
+    /// What it finds as one node's part of a program.
+    pub part: for<'a> fn(&'a [u8], u8) -> &'a [u8],
+    /// What it says of a table's run under choices, and writes.
+    pub run: fn(&[u8], &[u8], &mut [u8]) -> RunNumbers,
 }
 
 /// The two implementations.
@@ -33,6 +41,9 @@ impl Readers {
         let library = Reader {
             check: timed_network::check,
             schedule: timed_network::schedule,
+            translate: timed_network::translate,
+            part: timed_network::part,
+            run: timed_network::run_numbers,
         };
         let second = Reader::second();
         Readers { library, second }
@@ -45,6 +56,9 @@ impl Reader {
         Reader {
             check: second_reader,
             schedule: second_schedule,
+            translate: second_translate,
+            part: second_part,
+            run: second_run,
         }
     }
 }
@@ -73,6 +87,49 @@ pub fn second_schedule(table: &[u8], list: &mut [u32]) -> Call {
         }
         Err(refusal) => Call {
             verdict: verdict(refusal),
+            size: 0,
+        },
+    }
+}
+
+/// The second implementation's program.
+pub fn second_translate(table: &[u8], program: &mut [u8]) -> Call {
+    match calls::translate(table, program) {
+        Ok(size) => Call {
+            verdict: Verdict::Accepted,
+            size,
+        },
+        Err(refusal) => Call {
+            verdict: verdict(refusal),
+            size: 0,
+        },
+    }
+}
+
+/// The second implementation's part.
+pub fn second_part(program: &[u8], node: u8) -> &[u8] {
+    calls::part(program, node.into())
+}
+
+/// The second implementation's run.
+pub fn second_run(table: &[u8], choices: &[u8], observations: &mut [u8]) -> RunNumbers {
+    match calls::run(table, choices, observations) {
+        Ok((outcome, size)) => RunNumbers {
+            number: 0,
+            component: 255,
+            end: outcome.end as u8,
+            node: outcome.node,
+            tick: outcome.tick,
+            used: outcome.used,
+            size: size as u32,
+        },
+        Err(refusal) => RunNumbers {
+            number: refusal.number,
+            component: refusal.component,
+            end: 0,
+            node: NO_NODE,
+            tick: 0,
+            used: 0,
             size: 0,
         },
     }

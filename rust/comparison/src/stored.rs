@@ -20,16 +20,22 @@ pub struct Stored {
 
 /// The `check` and `schedule` requests of all files of vectors.
 pub fn vectors() -> Result<Vec<Stored>, String> {
+    let stored = vector_lines(vector)?;
+    Ok(stored.into_iter().flatten().collect())
+}
+
+/// What a reader of lines gives for each line of all files of vectors.
+pub(crate) fn vector_lines<T>(read: fn(&str) -> Option<T>) -> Result<Vec<T>, String> {
     let folder = folder("vectors");
-    let mut stored = Vec::new();
+    let mut all = Vec::new();
     for file in files_of(&folder, "tsv")? {
         let text = fs::read_to_string(&file).map_err(|error| at(&file, &error.to_string()))?;
         for (index, line) in text.lines().enumerate() {
             let misread = || at(&file, &format!("line {} is not a vector", index + 1));
-            stored.extend(vector(line).ok_or_else(misread)?);
+            all.push(read(line).ok_or_else(misread)?);
         }
     }
-    Ok(stored)
+    Ok(all)
 }
 
 /// A line with name, request and answer between tabs, nothing if the request
@@ -65,7 +71,7 @@ fn read_schedule_answer(text: &str) -> Option<(Verdict, Option<Vec<Passage>>)> {
 }
 
 /// `accepted`, or `refused N C`.
-fn read_answer(text: &str) -> Option<Verdict> {
+pub(crate) fn read_answer(text: &str) -> Option<Verdict> {
     match text.split(' ').collect::<Vec<_>>()[..] {
         ["accepted"] => Some(Verdict::Accepted),
         ["refused", number, component] => Some(Verdict::Refused {

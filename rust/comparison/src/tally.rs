@@ -1,6 +1,7 @@
 //! What was counted.
 
-use crate::readers::{LAST_CHECK, SHORT_LIST};
+use crate::readers::{LAST_CHECK, TOO_SHORT};
+use crate::runs::Runs;
 use std::fmt;
 use timed_network::Verdict;
 
@@ -14,16 +15,22 @@ pub struct Tally {
     pub class: &'static str,
     /// The accepted ones first, then those refused with 1, 2 and so on.
     pub answers: [u64; ANSWERS],
-    /// The lists that were lent and compared.
+    /// The lists that were lent for schedules and compared.
     pub lists: Lists,
+    /// The bytes that were lent for programs and compared.
+    pub programs: Lists,
+    /// The parts that were found in programs, and those that were not.
+    pub parts: [u64; 2],
+    /// The runs.
+    pub runs: Runs,
 }
 
-/// How lent lists came back.
+/// How lent lists came back, or lent bytes.
 #[derive(Clone, Copy, Debug, Default, PartialEq, Eq)]
 pub struct Lists {
-    /// With a schedule.
+    /// With a schedule or a program.
     pub written: u64,
-    /// As they were, too short for the schedule.
+    /// As they were, too short for it.
     pub short: u64,
     /// As they were, the table being refused.
     pub kept: u64,
@@ -39,9 +46,29 @@ impl Lists {
     pub fn count(&mut self, verdict: Verdict) {
         match verdict {
             Verdict::Accepted => self.written += 1,
-            Verdict::Refused { number, .. } if number == SHORT_LIST => self.short += 1,
+            Verdict::Refused { number, .. } if number == TOO_SHORT => self.short += 1,
             Verdict::Refused { .. } => self.kept += 1,
         }
+    }
+
+    fn add(&mut self, other: &Lists) {
+        self.written += other.written;
+        self.short += other.short;
+        self.kept += other.kept;
+    }
+}
+
+impl fmt::Display for Lists {
+    fn fmt(&self, out: &mut fmt::Formatter<'_>) -> fmt::Result {
+        let Lists {
+            written,
+            short,
+            kept,
+        } = self;
+        write!(
+            out,
+            "written {written}, too short {short}, table refused {kept}"
+        )
     }
 }
 
@@ -52,12 +79,20 @@ impl Tally {
             class,
             answers: [0; ANSWERS],
             lists: Lists::default(),
+            programs: Lists::default(),
+            parts: [0; 2],
+            runs: Runs::default(),
         }
     }
 
-    /// The number of cases.
+    /// The number of cases: tables tried.
     pub fn cases(&self) -> u64 {
         self.answers.iter().sum()
+    }
+
+    /// Whether nothing was tried.
+    pub fn is_empty(&self) -> bool {
+        self.cases() + self.parts.iter().sum::<u64>() + self.runs.all() == 0
     }
 
     /// Counts an answer, which must be one that there is.
@@ -76,31 +111,44 @@ impl Tally {
             for (all, own) in sum.answers.iter_mut().zip(tally.answers) {
                 *all += own;
             }
-            sum.lists.written += tally.lists.written;
-            sum.lists.short += tally.lists.short;
-            sum.lists.kept += tally.lists.kept;
+            sum.lists.add(&tally.lists);
+            sum.programs.add(&tally.programs);
+            for (all, own) in sum.parts.iter_mut().zip(tally.parts) {
+                *all += own;
+            }
+            sum.runs.add(&tally.runs);
         }
         sum
     }
 }
 
-/// The answers that were given, each with how often, and the lists lent.
+/// What was tried: the answers that were given, each with how often, then
+/// lists, programs, parts and runs, if there are any.
 impl fmt::Display for Tally {
     fn fmt(&self, out: &mut fmt::Formatter<'_>) -> fmt::Result {
         let [accepted, refusals @ ..] = &self.answers;
-        write!(out, "{}: {} cases: ", self.class, self.cases())?;
-        write!(out, "accepted {accepted}")?;
+        write!(out, "{}: {} cases", self.class, self.cases())?;
+        if self.cases() > 0 {
+            write!(out, ": accepted {accepted}")?;
+        }
         for (number, count) in (1..).zip(refusals) {
             if *count > 0 {
                 write!(out, ", refused {number}: {count}")?;
             }
         }
-        write!(out, "; {} lists: ", self.lists.all())?;
-        let Lists { short, kept, .. } = self.lists;
-        let written = self.lists.written;
-        write!(
-            out,
-            "written {written}, too short {short}, table refused {kept}"
-        )
+        for (lists, name) in [(&self.lists, "lists"), (&self.programs, "programs")] {
+            if lists.all() > 0 {
+                write!(out, "; {} {name}: {lists}", lists.all())?;
+            }
+        }
+        let [found, empty] = self.parts;
+        let parts = found + empty;
+        if parts > 0 {
+            write!(out, "; {parts} parts: found {found}, empty {empty}")?;
+        }
+        if self.runs.all() > 0 {
+            write!(out, "; {}", self.runs)?;
+        }
+        Ok(())
     }
 }

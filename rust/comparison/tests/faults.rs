@@ -2,7 +2,7 @@
 
 mod plain;
 
-use comparison::classes::{Extent, CLASSES};
+use comparison::classes::{Class, Extent, CLASSES};
 use comparison::compare_class;
 use comparison::difference::{Outcome, Stop};
 use comparison::random::Random;
@@ -17,6 +17,7 @@ macro_rules! wrong {
             Reader {
                 check: |table| plain::check(table, Fault::$fault),
                 schedule: |table, list| plain::write(table, list, Fault::$fault),
+                ..Reader::second()
             },
         )),*]
     };
@@ -26,6 +27,12 @@ const EXTENT: Extent = Extent {
     rounds: 10,
     step: 41,
 };
+
+/// The classes that try tables: those before the stored programs and runs.
+fn classes() -> usize {
+    let stored = |class: &Class| class.name == "programs, parts and runs of the vectors";
+    CLASSES.iter().position(stored).unwrap()
+}
 
 /// Tries a class with an implementation in the library's place.
 fn tried(library: Reader, class: usize) -> Outcome {
@@ -39,14 +46,14 @@ fn tried(library: Reader, class: usize) -> Outcome {
 /// one first.
 fn finder(library: Reader) -> Option<&'static str> {
     let finds = |class: &usize| matches!(tried(library, *class), Err(Stop::Differs(_)));
-    let class = (2..CLASSES.len()).rev().find(finds)?;
+    let class = (2..classes()).rev().find(finds)?;
     Some(CLASSES[class].name)
 }
 
 #[test]
 fn the_plain_implementation_agrees_with_the_second() {
     let [(_, right)] = wrong![None];
-    for (number, class) in CLASSES.iter().enumerate() {
+    for (number, class) in CLASSES[..classes()].iter().enumerate() {
         assert_eq!(tried(right, number), Ok(()), "{}", class.name);
     }
 }

@@ -4,9 +4,17 @@ use comparison::classes::{Extent, CLASSES};
 use comparison::difference::{Expected, Stop};
 use comparison::random::Random;
 use comparison::readers::{refused, second_reader, second_schedule, Reader, Readers};
+use comparison::runs::Runs;
 use comparison::tally::{Lists, Tally};
-use comparison::{cases, compare, compare_class, gaps};
+use comparison::{cases, compare, compare_class, gaps, Least};
 use timed_network::{Call, Verdict};
+
+/// What a short comparison has to try.
+const LEAST: Least = Least {
+    cases: 1000,
+    runs: 500,
+    of_each_kind: 1,
+};
 
 fn short(readers: &Readers, seed: u64) -> Result<Vec<Tally>, Stop> {
     compare(readers, seed, &Extent::SHORT, |_| {})
@@ -16,7 +24,7 @@ fn short(readers: &Readers, seed: u64) -> Result<Vec<Tally>, Stop> {
 fn library_and_second_implementation_agree() {
     for seed in [Random::SEED, 1, 2, 3] {
         let tallies = short(&Readers::real(), seed).unwrap();
-        assert_eq!(gaps(&tallies, 1000), Vec::<String>::new());
+        assert_eq!(gaps(&tallies, &LEAST), Vec::<String>::new());
         assert_eq!(tallies.len(), CLASSES.len());
     }
 }
@@ -100,13 +108,17 @@ fn is_found_out(library: Reader) -> bool {
 }
 
 fn with_check(check: fn(&[u8]) -> Verdict) -> Reader {
-    let schedule = second_schedule;
-    Reader { check, schedule }
+    Reader {
+        check,
+        ..Reader::second()
+    }
 }
 
 fn with_schedule(schedule: fn(&[u8], &mut [u32]) -> Call) -> Reader {
-    let check = second_reader;
-    Reader { check, schedule }
+    Reader {
+        schedule,
+        ..Reader::second()
+    }
 }
 
 #[test]
@@ -191,7 +203,8 @@ fn what_is_known_before_is_demanded() {
     assert!(!Expected::Anything.allows(refused(0, 255)));
 }
 
-/// A class with these answers, and lists that came back in all ways.
+/// A class with these answers, and lists, programs, parts and runs of all
+/// kinds.
 fn tally(class: &'static str, answers: [u64; 13]) -> Tally {
     let lists = Lists {
         written: 3,
@@ -202,49 +215,99 @@ fn tally(class: &'static str, answers: [u64; 13]) -> Tally {
         class,
         answers,
         lists,
+        programs: lists,
+        parts: [5, 4],
+        runs: all_kinds(),
+    }
+}
+
+/// 7 runs of each end, and all that there is.
+fn all_kinds() -> Runs {
+    Runs {
+        ends: [7; 4],
+        late_at_work: 5,
+        late_for_sleep: 4,
+        several_late: 2,
+        reasons: [1, 1, 1, 2, 2],
+        short: 6,
+        many: 1,
+        kept: 3,
+        choices: 100,
+        observations: 30,
+        messages: 20,
+        timeouts: 10,
     }
 }
 
 const FULL: [u64; 13] = [1, 2, 3, 4, 5, 6, 7, 8, 9, 10, 11, 12, 13];
 
+/// At least so many cases and runs.
+fn least(cases: u64, runs: u64) -> Least {
+    Least {
+        cases,
+        runs,
+        of_each_kind: 1,
+    }
+}
+
 #[test]
 fn what_was_not_tried_is_told() {
     let full = tally("full", FULL);
-    let empty = tally("empty", [0; 13]);
+    let empty = Tally::new("empty");
     let some = tally("some", [0, 1, 1, 0, 1, 1, 1, 1, 1, 1, 1, 1, 0]);
-    assert_eq!(cases(&[full.clone(), some.clone()]), 101);
+    assert_eq!(cases(&[full.clone(), some.clone()]), [101, 76]);
     let one = std::slice::from_ref(&full);
-    assert_eq!(gaps(one, 91), Vec::<String>::new());
-    assert_eq!(gaps(one, 92), ["91 cases are fewer than 92"]);
+    assert_eq!(gaps(one, &least(91, 28)), Vec::<String>::new());
+    assert_eq!(gaps(one, &least(92, 28)), ["91 cases are fewer than 92"]);
+    assert_eq!(gaps(one, &least(91, 29)), ["28 runs are fewer than 29"]);
     let told = ["nothing was tried in the class: empty"];
-    assert_eq!(gaps(&[full.clone(), empty], 0), told);
+    assert_eq!(gaps(&[full.clone(), empty], &least(0, 0)), told);
     let told = [
         "no table was accepted",
         "no table was refused with 3",
         "no table was refused with 12",
     ];
-    assert_eq!(gaps(&[some], 0), told);
-    let no_lists = Tally {
-        lists: Lists::default(),
-        ..full
+    assert_eq!(gaps(&[some], &least(0, 0)), told);
+    let bare = Tally {
+        answers: FULL,
+        runs: all_kinds(),
+        ..Tally::new("bare")
     };
     let told = [
         "no list was written",
         "no list was too short",
         "no list was lent for a refused table",
+        "no program was written",
+        "no program was too long",
+        "no refused table was translated",
+        "no part was found",
+        "no part was empty",
     ];
-    assert_eq!(gaps(&[no_lists], 0), told);
+    assert_eq!(gaps(&[bare], &least(0, 0)), told);
+    let no_runs = Tally {
+        runs: Runs::default(),
+        ..full
+    };
+    assert_eq!(gaps(&[no_runs], &least(0, 0)).len(), 17);
 }
 
 #[test]
 fn a_line_tells_all_answers_that_were_given() {
     let some = tally("name", [1, 2, 0, 0, 0, 0, 0, 0, 3, 0, 0, 0, 4]);
     let line = "name: 10 cases: accepted 1, refused 1: 2, refused 8: 3, refused 12: 4; \
-                6 lists: written 3, too short 2, table refused 1";
+                6 lists: written 3, too short 2, table refused 1; \
+                6 programs: written 3, too short 2, table refused 1; \
+                9 parts: found 5, empty 4; 38 runs: 7 horizon, 7 used up, 7 late \
+                (5 at work, 4 for a sleep, 2 several nodes), 7 not allowed \
+                (1 no such node, 1 nothing kept, 1 early sleep, 2 early listen, \
+                2 tick while due), 6 too few bytes, 1 too many choices, 3 table refused; \
+                100 choices, 30 observations, 20 messages, 10 timeouts";
     assert_eq!(some.to_string(), line);
     let sum = Tally::sum(&[some.clone(), some]);
     assert!(sum
         .to_string()
         .starts_with("all classes: 20 cases: accepted 2, "));
     assert_eq!(sum.lists.all(), 12);
+    assert_eq!(sum.runs.all(), 76);
+    assert_eq!(Tally::new("none").to_string(), "none: 0 cases");
 }

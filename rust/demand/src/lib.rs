@@ -101,11 +101,16 @@ impl<'a> Demand<'a> {
         }
     }
 
+    /// The nodes at their start, to be walked.
+    pub fn walk(&self) -> Walk<'_> {
+        Walk::new(self.table, &self.own, &self.blocks)
+    }
+
     /// Holds a run under these choices to the demand: what it was found to
     /// have done, or what is wrong.
     pub fn hold(&self, choices: &[u8], claim: &Claim) -> Result<Facts, String> {
         let mut held = Held {
-            walk: Walk::new(self.table, &self.own, &self.blocks),
+            walk: self.walk(),
             path: Path::new(self.table, &self.own)?,
             sleeps: Vec::new(),
             facts: Facts::default(),

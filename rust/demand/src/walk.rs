@@ -296,35 +296,51 @@ impl<'a> Walk<'a> {
         })
     }
 
-    /// A tick, if it is allowed.
-    pub fn tick(&mut self) -> Ticked {
+    /// What a tick would do now.
+    pub fn look(&self) -> Ticked {
         let numbers = 0..self.nodes.len();
         if let Some(node) = numbers.clone().find(|node| self.is_due(*node)) {
             return Ticked::Due(node as u8);
         }
-        self.tick += 1;
+        let next = self.tick + 1;
         let (mut work, mut sleep) = (0, 0);
         for node in numbers {
             let bit = 1 << node;
             let Node { passage, stand, .. } = self.nodes[node];
-            let ready = |number| self.passage(node, number).map(|p| p.ready);
+            let is_over = |number| self.passage(node, number).is_some_and(|p| p.ready < next);
             match stand {
-                Stand::Working(_) if self.own[node][passage].end < self.tick => work |= bit,
-                Stand::Choosing(_) if ready(passage).is_some_and(|r| r < self.tick) => {
-                    sleep |= bit;
-                }
-                Stand::Leaving(_) if ready(passage + 1).is_some_and(|r| r < self.tick) => {
-                    sleep |= bit;
-                }
+                Stand::Working(_) if self.own[node][passage].end < next => work |= bit,
+                Stand::Choosing(_) if is_over(passage) => sleep |= bit,
+                Stand::Leaving(_) if is_over(passage + 1) => sleep |= bit,
                 _ => {}
             }
         }
         match work | sleep {
             0 => Ticked::Passed {
-                horizon: self.tick == u32::from(self.table.horizon),
+                horizon: next == u32::from(self.table.horizon),
             },
             _ => Ticked::Late { work, sleep },
         }
+    }
+
+    /// A tick passes if it is allowed.
+    pub fn tick(&mut self) -> Ticked {
+        let ticked = self.look();
+        if !matches!(ticked, Ticked::Due(_)) {
+            self.tick += 1;
+        }
+        ticked
+    }
+
+    /// Whether a node is past its sleep with its work unfinished.
+    pub fn is_working(&self, node: u8) -> bool {
+        let node = self.nodes.get(usize::from(node));
+        node.is_some_and(|node| matches!(node.stand, Stand::Working(_)))
+    }
+
+    /// The number of nodes.
+    pub fn nodes(&self) -> usize {
+        self.nodes.len()
     }
 
     /// Whether a node stands at a sleep or a listen that is due now.

@@ -6,41 +6,51 @@ use crate::difference::Outcome;
 use crate::random::Random;
 use crate::tables::planned::{table, Lane, Plan, Size, Step, Style, Target, Work};
 use crate::trial::Trial;
-use reference::table::write_table;
+use reference::table::{write_table, Table};
 
 /// Windows of up to four components within 20 ticks.
 pub(super) fn windows(trial: &mut Trial, random: &mut Random, extent: &Extent) -> Outcome {
     for _ in 0..50 * extent.rounds {
-        let channels = random.count(&(1..=3));
-        let lanes: Vec<Lane> = (0..random.within(2..=4))
-            .map(|_| lane(random, channels))
-            .collect();
-        let horizon = random.within(1..=20) as u16;
-        let style = match random.once_in(3) {
-            true => Style::sparse(random),
-            false => Style::PLAIN,
-        };
-        let table = table(random, &lanes, channels, horizon, &style);
+        let table = close_windows(random);
         trial.compare(&write_table(&table))?;
     }
     Ok(())
 }
 
+/// A table of such windows.
+pub(super) fn close_windows(random: &mut Random) -> Table {
+    let channels = random.count(&(1..=3));
+    let lanes: Vec<Lane> = (0..random.within(2..=4))
+        .map(|_| lane(random, channels))
+        .collect();
+    let horizon = random.within(1..=20) as u16;
+    let style = match random.once_in(3) {
+        true => Style::sparse(random),
+        false => Style::PLAIN,
+    };
+    table(random, &lanes, channels, horizon, &style)
+}
+
 /// Plans with some windows longer or shorter by a tick at either end.
 pub(super) fn moved_windows(trial: &mut Trial, random: &mut Random, extent: &Extent) -> Outcome {
     for _ in 0..10 * extent.rounds {
-        let size = Size::small(random);
-        let plan = Plan::draw(random, &size);
-        let mut lanes = plan.lanes(random);
-        let times = random.pick(&[2, 4, 9]);
-        lanes.iter_mut().for_each(|lane| moved(random, lane, times));
-        let rounds = random.within(1..=2) as u32;
-        let horizon = (plan.round * rounds) as u16;
-        let style = Style::sparse(random);
-        let table = table(random, &lanes, plan.channels, horizon, &style);
+        let table = moved_plan(random);
         trial.compare(&write_table(&table))?;
     }
     Ok(())
+}
+
+/// A table of such a plan.
+pub(super) fn moved_plan(random: &mut Random) -> Table {
+    let size = Size::small(random);
+    let plan = Plan::draw(random, &size);
+    let mut lanes = plan.lanes(random);
+    let times = random.pick(&[2, 4, 9]);
+    lanes.iter_mut().for_each(|lane| moved(random, lane, times));
+    let rounds = random.within(1..=2) as u32;
+    let horizon = (plan.round * rounds) as u16;
+    let style = Style::sparse(random);
+    table(random, &lanes, plan.channels, horizon, &style)
 }
 
 /// Moves some of a lane's windows, one in so many. They stay in their order,

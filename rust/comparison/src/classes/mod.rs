@@ -9,7 +9,9 @@ mod long;
 mod near_misses;
 mod one_byte;
 mod planned;
+mod programs;
 mod random_bytes;
+mod running;
 mod shifted;
 mod stored;
 mod ties;
@@ -56,7 +58,7 @@ const fn class(name: &'static str, run: fn(&mut Trial, &mut Random, &Extent) -> 
 }
 
 /// All classes, in the order in which they are tried.
-pub const CLASSES: [Class; 35] = [
+pub const CLASSES: [Class; 51] = [
     class("vectors", stored::vectors),
     class("corpus", stored::corpus),
     class("random bytes", random_bytes::anything),
@@ -92,4 +94,20 @@ pub const CLASSES: [Class; 35] = [
     class("windows close together", close::windows),
     class("sends that end together", ties::messages),
     class("windows that meet at an entry", ties::entries),
+    class("programs, parts and runs of the vectors", stored::requests),
+    class("parts of programs cut off", programs::cut),
+    class("parts of programs, one byte changed", programs::one_byte),
+    class("parts of random bytes", programs::anything),
+    class("runs of the vectors' tables", running::vectors),
+    class("runs of the corpus", running::corpus),
+    class("runs of a hub and its probes", running::regular),
+    class("runs of planned tables", running::sparse),
+    class("runs of planned tables, many edges", running::crowded),
+    class("runs of internal loops", running::workers),
+    class("runs of planned tables and internal loops", running::mixed),
+    class("runs of windows close together", running::close),
+    class("runs to dead ends", running::dead_ends),
+    class("runs to late ticks", running::far),
+    class("runs of up to 1,024 passages", running::long),
+    class("runs with too many choices", running::too_many),
 ];

@@ -24,18 +24,25 @@ fn accept(trial: &mut Trial, random: &mut Random, mut table: Table, horizons: us
 /// One hub and up to 7 probes, written as one would write them by hand.
 pub(super) fn regular(trial: &mut Trial, random: &mut Random, extent: &Extent) -> Outcome {
     for _ in 0..extent.rounds {
-        let probes = random.within(1..=7);
-        let most = usize::from(MAX_TICKS) / (3 * probes + 1);
-        let most = random.pick(&[1, 3, 20, most]).min(most);
-        let [slot, guard] = [0, 0].map(|_| random.within(1..=most) as u32);
-        let plan = Plan::regular(probes, slot, guard, random.below(2 * most) as u32);
-        let rounds = random.within(1..=4) as u32;
-        let lanes = plan.plain_lanes();
-        let horizon = horizon_of(plan.round * rounds);
-        let table = table(random, &lanes, plan.channels, horizon, &Style::PLAIN);
-        accept(trial, random, shortened(table, MAX_PASSAGES), 2)?;
+        let longest = random.pick(&[1, 3, 20, usize::MAX]);
+        let table = hub_and_probes(random, longest);
+        accept(trial, random, table, 2)?;
     }
     Ok(())
+}
+
+/// A hub and its probes with slots and guards of up to so many ticks, if
+/// there is room for them.
+pub(super) fn hub_and_probes(random: &mut Random, longest: usize) -> Table {
+    let probes = random.within(1..=7);
+    let most = longest.min(usize::from(MAX_TICKS) / (3 * probes + 1));
+    let [slot, guard] = [0, 0].map(|_| random.within(1..=most) as u32);
+    let plan = Plan::regular(probes, slot, guard, random.below(2 * most) as u32);
+    let rounds = random.within(1..=4) as u32;
+    let lanes = plan.plain_lanes();
+    let horizon = horizon_of(plan.round * rounds);
+    let table = table(random, &lanes, plan.channels, horizon, &Style::PLAIN);
+    shortened(table, MAX_PASSAGES)
 }
 
 /// The horizon at this tick, if one can be there.
@@ -81,17 +88,22 @@ pub(super) fn crowded(trial: &mut Trial, random: &mut Random, extent: &Extent) -
 /// is, so that its windows lie past any number of 16 bits.
 pub(super) fn far(trial: &mut Trial, random: &mut Random, extent: &Extent) -> Outcome {
     for _ in 0..extent.rounds {
-        let unit = u32::from(MAX_TICKS);
-        let size = Size::any(random).with_unit(unit);
-        let mut plan = Plan::draw(random, &size);
-        plan.round = random.within(plan.round.max(50_000) as usize..=59_999) as u32;
-        let lanes = plan.lanes(random);
-        let style = Style::sparse(random);
-        let horizon = MAX_TICKS - random.below(9) as u16;
-        let table = table(random, &lanes, plan.channels, horizon, &style);
+        let table = late_ticks(random);
         accept(trial, random, table, 1)?;
     }
     Ok(())
+}
+
+/// A plan whose second round begins late.
+pub(super) fn late_ticks(random: &mut Random) -> Table {
+    let unit = u32::from(MAX_TICKS);
+    let size = Size::any(random).with_unit(unit);
+    let mut plan = Plan::draw(random, &size);
+    plan.round = random.within(plan.round.max(50_000) as usize..=59_999) as u32;
+    let lanes = plan.lanes(random);
+    let style = Style::sparse(random);
+    let horizon = MAX_TICKS - random.below(9) as u16;
+    table(random, &lanes, plan.channels, horizon, &style)
 }
 
 /// A worker that fits into the bytes that a component has.

@@ -1,10 +1,14 @@
-//! The tables that the repository keeps, with their answers.
+//! The tables, programs and runs that the repository keeps, with their
+//! answers.
 
 use super::Extent;
 use crate::difference::{Outcome, Stop};
 use crate::random::Random;
+use crate::requests::{self, Request};
+use crate::runs;
 use crate::stored::{self, Stored};
 use crate::trial::Trial;
+use timed_network::{RunNumbers, OBSERVATION};
 
 pub(super) fn vectors(trial: &mut Trial, _: &mut Random, _: &Extent) -> Outcome {
     expect_all(trial, stored::vectors())
@@ -22,4 +26,46 @@ fn expect_all(trial: &mut Trial, tables: Result<Vec<Stored>, String>) -> Outcome
         }
     }
     Ok(())
+}
+
+/// The programs, parts and runs of the vectors.
+pub(super) fn requests(trial: &mut Trial, _: &mut Random, _: &Extent) -> Outcome {
+    for request in requests::requests().map_err(Stop::Unreadable)? {
+        match &request {
+            Request::Program { table, program } => trial.expect_program(table, program)?,
+            Request::Part {
+                program,
+                node,
+                part,
+            } => trial.expect_part(program, *node, part)?,
+            Request::Run {
+                table,
+                choices,
+                numbers,
+                observations,
+            } => {
+                let answer = runs::numbers(&ran(numbers, observations.len()));
+                trial.expect_run(table, choices, &answer, observations)?;
+            }
+            Request::Refused {
+                table,
+                choices,
+                answer,
+            } => trial.expect_refused(table, choices, *answer)?,
+        }
+    }
+    Ok(())
+}
+
+/// The whole answer of a run that took place.
+fn ran(&[end, node, tick, used]: &[u32; 4], bytes: usize) -> RunNumbers {
+    RunNumbers {
+        number: 0,
+        component: 255,
+        end: end as u8,
+        node: node as u8,
+        tick,
+        used,
+        size: (bytes / OBSERVATION) as u32,
+    }
 }

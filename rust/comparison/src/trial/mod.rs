@@ -1,13 +1,16 @@
 //! One class of cases: each case is handed to both implementations, their
 //! answers are compared and counted.
 
+mod running;
+
 use crate::difference::{Difference, Expected, Outcome, Stop};
 use crate::lists::{self, Lent, Unlike, AMPLE};
 use crate::readers::Readers;
 use crate::tally::Tally;
 use timed_network::{Verdict, FIELDS};
 
-/// Of the tables refused by a check up to 6, one in so many is lent a list.
+/// Of the tables refused by a check up to 6, one in so many is lent a list,
+/// is translated and is run.
 const SAMPLE_READ: u64 = 32;
 /// The same for those refused by a later check.
 const SAMPLE_SCHEDULED: u64 = 4;
@@ -92,7 +95,7 @@ impl<'a> Trial<'a> {
                 self.lend(input, length)?;
             }
         }
-        Ok(())
+        self.translate_accepted(input)
     }
 
     /// Lends a list for some of the refused tables.
@@ -104,6 +107,7 @@ impl<'a> Trial<'a> {
         let count = self.tally.answers[usize::from(number)] - 1;
         if count.is_multiple_of(every) {
             self.lend(input, lists::length_for_refused(count / every))?;
+            self.translate_and_run_refused(input, count / every)?;
         }
         Ok(())
     }

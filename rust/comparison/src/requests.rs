@@ -1,0 +1,149 @@
+//! The programs, parts and runs that the vectors keep, with their answers.
+
+use crate::bytes::unhex;
+use crate::stored::{read_answer, vector_lines};
+use timed_network::Verdict;
+
+/// A request and what has to be answered.
+#[derive(Clone, Debug, PartialEq, Eq)]
+pub enum Request {
+    /// The program of a table.
+    Program {
+        /// The table.
+        table: Vec<u8>,
+        /// Its program.
+        program: Vec<u8>,
+    },
+    /// The part of one node.
+    Part {
+        /// The program bytes.
+        program: Vec<u8>,
+        /// The number of the node.
+        node: u8,
+        /// Its part.
+        part: Vec<u8>,
+    },
+    /// A run of a table.
+    Run {
+        /// The table.
+        table: Vec<u8>,
+        /// The choices.
+        choices: Vec<u8>,
+        /// End, node, tick and choices used.
+        numbers: [u32; 4],
+        /// The observations, one after the other.
+        observations: Vec<u8>,
+    },
+    /// A program or a run of a table that is refused.
+    Refused {
+        /// The table.
+        table: Vec<u8>,
+        /// The choices, if it is a run.
+        choices: Vec<u8>,
+        /// The refusal.
+        answer: Verdict,
+    },
+}
+
+/// All such requests of the vectors.
+pub fn requests() -> Result<Vec<Request>, String> {
+    let requests = vector_lines(request)?;
+    Ok(requests.into_iter().flatten().collect())
+}
+
+/// A line with name, request and answer between tabs; the inner nothing for a
+/// request of another kind, the outer one if the line is not a vector.
+fn request(line: &str) -> Option<Option<Request>> {
+    let fields: Vec<&str> = line.split('\t').collect();
+    let [_, request, answer] = fields[..] else {
+        return None;
+    };
+    let words: Vec<&str> = request.split(' ').collect();
+    let refused = read_answer(answer);
+    Some(Some(match (&words[..], refused) {
+        (["program", table], Some(answer)) => Request::Refused {
+            table: unhex(table)?,
+            choices: Vec::new(),
+            answer,
+        },
+        (["run", table, choices], Some(answer)) => Request::Refused {
+            table: unhex(table)?,
+            choices: unhex(choices)?,
+            answer,
+        },
+        (["program", table], None) => Request::Program {
+            table: unhex(table)?,
+            program: unhex(answer)?,
+        },
+        (["part", program, node], _) => Request::Part {
+            program: unhex(program)?,
+            node: node.parse().ok()?,
+            part: unhex(answer)?,
+        },
+        (["run", table, choices], None) => run(unhex(table)?, unhex(choices)?, answer)?,
+        _ => return Some(None),
+    }))
+}
+
+/// `end node tick used`, then each observation, with `|` between them.
+fn run(table: Vec<u8>, choices: Vec<u8>, answer: &str) -> Option<Request> {
+    let mut parts = answer.split('|');
+    let words = parts.next()?.split(' ');
+    let numbers: Option<Vec<u32>> = words.map(|word| word.parse().ok()).collect();
+    let observations: Option<Vec<Vec<u8>>> = parts.map(unhex).collect();
+    Some(Request::Run {
+        table,
+        choices,
+        numbers: numbers?.try_into().ok()?,
+        observations: observations?.concat(),
+    })
+}
+
+#[cfg(test)]
+mod tests {
+    use super::*;
+    use crate::readers::refused;
+
+    #[test]
+    fn requests_are_read() {
+        let (table, choices) = (vec![1, 2], vec![0, 255]);
+        let read = request("a\tprogram 0102\t0304");
+        let program = vec![3, 4];
+        let expected = Request::Program {
+            table: table.clone(),
+            program,
+        };
+        assert_eq!(read, Some(Some(expected)));
+        let read = request("a\tpart 0102 255\t-");
+        let expected = Request::Part {
+            program: vec![1, 2],
+            node: 255,
+            part: Vec::new(),
+        };
+        assert_eq!(read, Some(Some(expected)));
+        let read = request("a\trun 0102 00ff\t1 255 1 2|05|06");
+        let expected = Request::Run {
+            table: table.clone(),
+            choices: choices.clone(),
+            numbers: [1, 255, 1, 2],
+            observations: vec![5, 6],
+        };
+        assert_eq!(read, Some(Some(expected)));
+        let read = request("a\trun 0102 00ff\trefused 2 255");
+        let answer = refused(2, 255);
+        let expected = Request::Refused {
+            table,
+            choices,
+            answer,
+        };
+        assert_eq!(read, Some(Some(expected)));
+    }
+
+    #[test]
+    fn other_lines_are_left_aside_or_not_vectors() {
+        assert_eq!(request("a\tcheck 0102\taccepted"), Some(None));
+        assert_eq!(request("a\tprogram 0102"), None);
+        assert_eq!(request("a\tpart 0102 256\t-"), None);
+        assert_eq!(request("a\trun 0102 00ff\t1 255 1"), None);
+    }
+}

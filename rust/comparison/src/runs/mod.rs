@@ -1,0 +1,189 @@
+//! Runs: both carry out the same choices and are lent as many bytes; what
+//! they say and write is compared, and held to demand 3.
+
+pub mod choices;
+mod tally;
+
+pub use tally::Runs;
+
+use crate::buffers::{first_difference, Buffer};
+use crate::bytes::hex;
+use crate::lists::Unlike;
+use crate::readers::{Reader, Readers};
+use demand::{Claim, Demand, Facts};
+use reference::checks::verdict;
+use reference::schedule::Passage;
+use reference::table::Table;
+use timed_network::{RunNumbers, MAX_PASSAGES, OBSERVATION};
+
+/// The bytes that the observations of every run fit in, and a few more.
+pub const AMPLE: usize = OBSERVATION * MAX_PASSAGES + 5;
+
+/// An accepted table, to be run.
+pub struct Subject {
+    /// Its bytes.
+    pub bytes: Vec<u8>,
+    /// What they say.
+    pub table: Table,
+    /// Its schedule.
+    pub passages: Vec<Passage>,
+}
+
+impl Subject {
+    /// The table of these bytes, if it is accepted.
+    pub fn new(bytes: &[u8]) -> Option<Subject> {
+        let (table, passages) = verdict(bytes).ok()?;
+        Some(Subject {
+            bytes: bytes.to_vec(),
+            table,
+            passages,
+        })
+    }
+
+    /// What its runs are held to.
+    pub fn demand(&self) -> Demand<'_> {
+        Demand::new(&self.table, &self.passages)
+    }
+
+    /// The bytes that its runs ask for.
+    pub fn needed(&self) -> usize {
+        OBSERVATION * self.passages.len()
+    }
+}
+
+/// The length of the bytes that are lent for a run, by turns: as many as it
+/// asks for or more, and now and then fewer.
+pub fn length(needed: usize, turn: u64) -> usize {
+    let enough = [needed, needed + 1, needed + OBSERVATION, needed, AMPLE];
+    let few = [needed - 1, 0, needed - OBSERVATION, needed / 2];
+    if turn % 16 == 15 {
+        few[(turn / 16 % few.len() as u64) as usize]
+    } else {
+        enough[(turn % enough.len() as u64) as usize]
+    }
+}
+
+/// A run's answer and the whole buffer after it.
+pub struct Lent {
+    /// What the call said.
+    pub answer: RunNumbers,
+    buffer: Buffer,
+}
+
+impl Lent {
+    /// Lends bytes of this length.
+    pub fn to(reader: &Reader, table: &[u8], choices: &[u8], length: usize) -> Lent {
+        let mut buffer = Buffer::new(length);
+        let answer = (reader.run)(table, choices, buffer.lent());
+        Lent { answer, buffer }
+    }
+
+    /// The bytes that the answer says were written.
+    fn size(&self) -> usize {
+        OBSERVATION * self.answer.size as usize
+    }
+
+    /// The observations written.
+    pub fn observations(&self) -> &[u8] {
+        self.buffer.first(self.size())
+    }
+
+    /// Whether the answer is a refusal.
+    fn is_refused(&self) -> bool {
+        self.answer.number != 0
+    }
+
+    fn told(&self, place: Option<usize>) -> String {
+        let mut text = numbers(&self.answer);
+        if let Some(place) = place {
+            let own = self.observations().chunks(OBSERVATION);
+            let number = place / OBSERVATION;
+            let observation = own.skip(number).map(hex).next();
+            text += &format!(", observation {number} {observation:?}");
+        }
+        if let Some(place) = self.buffer.written_past(self.size()) {
+            text += &format!(", written past the result at place {place}");
+        }
+        text
+    }
+}
+
+/// An answer in words.
+pub fn numbers(answer: &RunNumbers) -> String {
+    let RunNumbers {
+        number,
+        component,
+        end,
+        node,
+        tick,
+        used,
+        size,
+    } = answer;
+    let start = match number {
+        0 => format!("component {component}"),
+        _ => format!("refused {number} {component}"),
+    };
+    format!("{start}, end {end}, node {node}, tick {tick}, used {used}, {size} observations")
+}
+
+/// Why a run is a difference: what both sides say, and what the demand says
+/// if that is what is broken.
+pub struct Broken {
+    /// What both sides say.
+    pub unlike: Unlike,
+    /// The sentence that does not hold of the library's run.
+    pub demand: Option<String>,
+}
+
+/// What a run on which both agree came to.
+pub struct Ran {
+    /// The answer.
+    pub answer: RunNumbers,
+    /// What it was found to have done; nothing for a refused one.
+    pub facts: Option<Facts>,
+}
+
+/// Runs a table under choices on both sides with bytes of this length lent,
+/// and holds the library's run to the demand, if there is one.
+pub fn compare(
+    readers: &Readers,
+    table: &[u8],
+    demand: Option<&Demand>,
+    choices: &[u8],
+    length: usize,
+) -> Result<Ran, Broken> {
+    let library = Lent::to(&readers.library, table, choices, length);
+    let second = Lent::to(&readers.second, table, choices, length);
+    let place = first_difference(library.observations(), second.observations());
+    let kept = |side: &Lent| side.buffer.written_past(side.size()).is_none();
+    let broken = |demand| Broken {
+        unlike: Unlike {
+            library: library.told(place),
+            second: second.told(place),
+        },
+        demand,
+    };
+    let answer = library.answer;
+    if answer != second.answer || place.is_some() || !kept(&library) || !kept(&second) {
+        return Err(broken(None));
+    }
+    let facts = match demand {
+        Some(demand) if !library.is_refused() => {
+            let held = demand.hold(choices, &claim(&library));
+            Some(held.map_err(|problem| broken(Some(problem)))?)
+        }
+        _ => None,
+    };
+    Ok(Ran { answer, facts })
+}
+
+/// What a run says of itself.
+fn claim(lent: &Lent) -> Claim<'_> {
+    Claim {
+        end: lent.answer.end,
+        node: lent.answer.node,
+        tick: lent.answer.tick,
+        used: lent.answer.used,
+        observations: lent.observations(),
+    }
+}

@@ -1,0 +1,161 @@
+//! Programs, parts and runs of a class.
+
+use super::Trial;
+use crate::bytes::hex;
+use crate::difference::{Outcome, Stop};
+use crate::lists::Unlike;
+use crate::programs::{self, NODES};
+use crate::readers::Reader;
+use crate::runs::{self, Subject};
+use demand::{Demand, TICK};
+use reference::program::program_length;
+use reference::table::read_table;
+use timed_network::Verdict;
+
+/// The choices under which refused tables are run.
+const CHOICES: [u8; 4] = [0, TICK, 8, 1];
+
+impl Trial<'_> {
+    /// Lends bytes for the program of an accepted table, and asks for its
+    /// parts.
+    pub(super) fn translate_accepted(&mut self, input: &[u8]) -> Outcome {
+        let length = read_table(input).map_or(0, |table| program_length(&table));
+        let turn = self.tally.answers[0];
+        let [enough, few, other] = programs::lengths(length, turn);
+        let program = self.translate(input, enough)?;
+        self.translate(input, few)?;
+        self.translate(input, other)?;
+        self.parts(&program)
+    }
+
+    /// Lends both bytes of this length and gives the program written.
+    pub fn translate(&mut self, input: &[u8], length: usize) -> Result<Vec<u8>, Stop> {
+        match programs::compare(self.readers, input, length) {
+            Ok((verdict, program)) => {
+                self.tally.programs.count(verdict);
+                Ok(program)
+            }
+            Err(unlike) => {
+                let call = format!("translate, with {length} bytes");
+                Err(self.differs(input, call, unlike, None))
+            }
+        }
+    }
+
+    /// Asks both for the part of each number.
+    pub fn parts(&mut self, program: &[u8]) -> Outcome {
+        for node in NODES {
+            match programs::compare_part(self.readers, program, node) {
+                Ok(found) => self.tally.parts[usize::from(!found)] += 1,
+                Err(unlike) => {
+                    let call = format!("part {node}");
+                    return Err(self.differs(program, call, unlike, None));
+                }
+            }
+        }
+        Ok(())
+    }
+
+    /// Translates and runs a refused table.
+    pub(super) fn translate_and_run_refused(&mut self, input: &[u8], turn: u64) -> Outcome {
+        let length = programs::length_for_refused(turn);
+        self.translate(input, length)?;
+        let choices = &CHOICES[..turn as usize % (CHOICES.len() + 1)];
+        self.run(input, None, choices, length)
+    }
+
+    /// Runs an accepted table under choices, with as many bytes as it is its
+    /// turn.
+    pub fn run_accepted(&mut self, subject: &Subject, demand: &Demand, choices: &[u8]) -> Outcome {
+        let length = runs::length(subject.needed(), self.tally.runs.all());
+        self.run(&subject.bytes, Some(demand), choices, length)
+    }
+
+    /// Runs a table under choices with so many bytes lent.
+    pub fn run(
+        &mut self,
+        input: &[u8],
+        demand: Option<&Demand>,
+        choices: &[u8],
+        length: usize,
+    ) -> Outcome {
+        match runs::compare(self.readers, input, demand, choices, length) {
+            Ok(ran) => {
+                self.tally.runs.count(&ran);
+                Ok(())
+            }
+            Err(broken) => {
+                let choices = hex(choices);
+                let call = format!("run, with {length} bytes and the choices {choices}");
+                Err(self.differs(input, call, broken.unlike, broken.demand))
+            }
+        }
+    }
+
+    /// Both have to write this program.
+    pub fn expect_program(&mut self, input: &[u8], program: &[u8]) -> Outcome {
+        let found = self.translate(input, program.len())?;
+        let said = |found: &[u8]| hex(found);
+        self.demand(input, "translate", said(&found), said(program))?;
+        self.parts(&found)
+    }
+
+    /// Both have to find this part.
+    pub fn expect_part(&mut self, program: &[u8], node: u8, part: &[u8]) -> Outcome {
+        let call = format!("part {node}");
+        for reader in [self.readers.library, self.readers.second] {
+            let found = (reader.part)(program, node);
+            self.demand(program, &call, hex(found), hex(part))?;
+        }
+        self.parts(program)
+    }
+
+    /// Both have to give this answer, in the words of [`runs::numbers`], and
+    /// to write these observations.
+    pub fn expect_run(
+        &mut self,
+        input: &[u8],
+        choices: &[u8],
+        answer: &str,
+        observations: &[u8],
+    ) -> Outcome {
+        let call = format!("run, with the choices {}", hex(choices));
+        let said = |reader: &Reader| {
+            let lent = runs::Lent::to(reader, input, choices, runs::AMPLE);
+            let numbers = runs::numbers(&lent.answer);
+            format!("{numbers}: {}", hex(lent.observations()))
+        };
+        let expected = format!("{answer}: {}", hex(observations));
+        for reader in [self.readers.library, self.readers.second] {
+            self.demand(input, &call, said(&reader), expected.clone())?;
+        }
+        match Subject::new(input) {
+            Some(subject) => self.run_accepted(&subject, &subject.demand(), choices),
+            None => self.run(input, None, choices, runs::AMPLE),
+        }
+    }
+
+    /// Both have to refuse the program and the run of this table.
+    pub fn expect_refused(&mut self, input: &[u8], choices: &[u8], answer: Verdict) -> Outcome {
+        let call = format!("translate and run, with the choices {}", hex(choices));
+        for reader in [self.readers.library, self.readers.second] {
+            let translated = (reader.translate)(input, &mut vec![0; runs::AMPLE]).verdict;
+            self.demand(input, &call, translated.to_string(), answer.to_string())?;
+            let ran = (reader.run)(input, choices, &mut vec![0; runs::AMPLE]);
+            let said = format!("refused {} {}", ran.number, ran.component);
+            self.demand(input, &call, said, answer.to_string())?;
+        }
+        self.translate(input, 0)?;
+        self.run(input, None, choices, runs::AMPLE)
+    }
+
+    /// What is said has to be what is known.
+    fn demand(&self, input: &[u8], call: &str, said: String, expected: String) -> Outcome {
+        if said == expected {
+            return Ok(());
+        }
+        let (library, second) = (said.clone(), said);
+        let unlike = Unlike { library, second };
+        Err(self.differs(input, call.to_string(), unlike, Some(expected)))
+    }
+}
