@@ -2,22 +2,21 @@
 //! one run and both with the release profile.
 #![forbid(unsafe_code)]
 
+mod clock;
+
+use clock::{by_turns, REPETITIONS};
 use comparison::random::Random;
-use comparison::readers::{second_reader, second_schedule};
+use comparison::readers::{Reader, Readers};
+use comparison::runs::choices::{draw, Manner};
+use comparison::runs::{Subject, AMPLE};
 use comparison::tables::planned::{greatest_horizon, table, Plan, Style};
 use comparison::tables::{of_length, Values, WORKED_EXAMPLE};
-use reference::calls;
 use reference::checks::verdict;
 use reference::table::write_table;
 use std::hint::black_box;
 use std::process::ExitCode;
-use std::time::{Duration, Instant};
-use timed_network::{check, schedule, Verdict, FIELDS, MAX_PASSAGES};
+use timed_network::{check, program, FIELDS, MAX_CHOICES, MAX_PASSAGES, MAX_PROGRAM};
 
-/// How often each loop is timed; the median counts.
-const REPETITIONS: usize = 15;
-/// A loop makes so many calls that it takes about this long.
-const LOOP: Duration = Duration::from_millis(20);
 /// The length of the table that is refused as soon as it has been read.
 const LARGE: usize = 8000;
 
@@ -26,8 +25,9 @@ fn main() -> ExitCode {
         eprintln!("benchmark: build it with --release");
         return ExitCode::from(2);
     }
-    println!("Checks 1 to 12 and the schedule: ns per call, median of {REPETITIONS} repetitions.");
-    println!("The lent list is the same for all calls of a loop and holds 1,024 passages.");
+    println!("ns per call, median of {REPETITIONS} repetitions; of the run to the horizon also ns");
+    println!("per choice, checks and translation included. What is lent is the same for all calls");
+    println!("of a loop and holds every result.");
     let tables = [
         ("worked example", WORKED_EXAMPLE.to_vec()),
         ("a hub and 7 probes", hub_and_probes()),
@@ -59,79 +59,118 @@ fn generated() -> Vec<u8> {
     write_table(&large)
 }
 
-/// Whether both give the same verdict and the same schedule.
-fn agree(table: &[u8]) -> bool {
-    let [mut first, mut second] = lists();
-    let library = schedule(table, &mut first);
-    let reference = second_schedule(table, &mut second);
-    check(table) == second_reader(table) && library == reference && first == second
+/// What is lent to one side.
+struct Lent {
+    list: Vec<u32>,
+    bytes: Vec<u8>,
 }
 
-/// A list for each of the two.
-fn lists() -> [Vec<u32>; 2] {
-    [(); 2].map(|()| vec![0; FIELDS * MAX_PASSAGES])
+/// What is lent to each side.
+fn lent() -> [Lent; 2] {
+    [(); 2].map(|()| Lent {
+        list: vec![0; FIELDS * MAX_PASSAGES],
+        bytes: vec![0; MAX_PROGRAM],
+    })
+}
+
+/// Choices to the horizon, everything finished as early as it can be; none
+/// for a table that is refused.
+fn choices(table: &[u8]) -> Vec<u8> {
+    let mut random = Random::new(Random::SEED);
+    let subject = Subject::new(table);
+    subject.map_or(Vec::new(), |subject| {
+        draw(&mut random, &subject.demand(), Manner::Early, MAX_CHOICES)
+    })
+}
+
+/// Whether both give the same answers and write the same.
+fn agree(table: &[u8]) -> bool {
+    let choices = choices(table);
+    let all = |reader: &Reader, mut lent: Lent| {
+        let verdict = (reader.check)(table);
+        let scheduled = (reader.schedule)(table, &mut lent.list);
+        let translated = (reader.translate)(table, &mut lent.bytes);
+        let program = lent.bytes[..translated.size].to_vec();
+        let last = (reader.part)(&program, last_node(&program)).to_vec();
+        let ran = (reader.run)(table, &choices, &mut lent.bytes[..AMPLE]);
+        let calls = (verdict, scheduled, translated, ran);
+        (calls, lent.list, program, last, lent.bytes)
+    };
+    let [first, second] = lent();
+    let readers = Readers::real();
+    all(&readers.library, first) == all(&readers.second, second)
+}
+
+/// The number of a program's last node.
+fn last_node(program: &[u8]) -> u8 {
+    program.get(3).map_or(0, |count| count - 1)
 }
 
 /// The rows of one table.
 fn report(name: &str, table: &[u8]) {
     println!();
     println!("{name}, {} bytes, {}:", table.len(), outcome(table));
-    let times = by_turns(&mut || check(black_box(table)), &mut || {
-        verdict(black_box(table))
-    });
-    row("verdict", times);
-    if check(table) == Verdict::Accepted {
-        let [mut first, mut second] = lists();
-        let times = by_turns(&mut || schedule(black_box(table), &mut first), &mut || {
-            calls::schedule(black_box(table), &mut second)
-        });
-        row("schedule", times);
+    let Readers { library, second } = Readers::real();
+    let verdict = |reader: Reader| move || (reader.check)(black_box(table));
+    row(
+        "verdict",
+        by_turns(&mut verdict(library), &mut verdict(second)),
+    );
+    if let Ok(program) = program(table) {
+        report_accepted(table, &program, [library, second]);
     }
 }
 
-/// What is said of a table, with the number of its passages.
+/// The rows of an accepted table.
+fn report_accepted(table: &[u8], program: &[u8], [library, second]: [Reader; 2]) {
+    let [mut first, mut other] = lent();
+    let (one, two) = (&mut first.list, &mut other.list);
+    let times = by_turns(
+        &mut || (library.schedule)(black_box(table), one),
+        &mut || (second.schedule)(black_box(table), two),
+    );
+    row("schedule", times);
+    let (one, two) = (&mut first.bytes, &mut other.bytes);
+    let times = by_turns(
+        &mut || (library.translate)(black_box(table), one),
+        &mut || (second.translate)(black_box(table), two),
+    );
+    row("translate", times);
+    let node = last_node(program);
+    let times = by_turns(
+        &mut || (library.part)(black_box(program), node).len(),
+        &mut || (second.part)(black_box(program), node).len(),
+    );
+    row("part", times);
+    let all = choices(table);
+    for choices in [&[], &all[..]] {
+        let times = by_turns(
+            &mut || (library.run)(black_box(table), choices, one),
+            &mut || (second.run)(black_box(table), choices, two),
+        );
+        match choices.len() {
+            0 => row("run, no choices", times),
+            count => {
+                row("run to the horizon", times);
+                let each = times.map(|time| time / count as f64);
+                row(&format!("each of {count} choices"), each);
+            }
+        }
+    }
+}
+
+/// What is said of a table, with the number of its nodes and passages.
 fn outcome(table: &[u8]) -> String {
     match verdict(table) {
-        Ok((_, passages)) => format!("{} passages", passages.len()),
+        Ok((table, passages)) => {
+            let nodes = table.components.len();
+            format!("{nodes} nodes, {} passages", passages.len())
+        }
         Err(_) => check(table).to_string(),
     }
 }
 
 fn row(call: &str, [library, reference]: [f64; 2]) {
     let ratio = library / reference;
-    println!("  {call:<9} library {library:11.1}   reference {reference:11.1}   ratio {ratio:.2}");
-}
-
-/// Times both by turns, so that what disturbs one disturbs the other.
-fn by_turns<A, B>(library: &mut impl FnMut() -> A, reference: &mut impl FnMut() -> B) -> [f64; 2] {
-    let counts = [calls(library), calls(reference)];
-    let mut times = [const { Vec::new() }; 2];
-    for _ in 0..REPETITIONS {
-        times[0].push(time(library, counts[0]));
-        times[1].push(time(reference, counts[1]));
-    }
-    times.map(median)
-}
-
-/// How many calls take about as long as a loop should.
-fn calls<T>(call: &mut impl FnMut() -> T) -> usize {
-    let mut count = 1;
-    while time(call, count) * (count as f64) < LOOP.as_nanos() as f64 / 2.0 {
-        count *= 2;
-    }
-    count
-}
-
-/// The time of one call in nanoseconds, from a loop of so many calls.
-fn time<T>(call: &mut impl FnMut() -> T, calls: usize) -> f64 {
-    let start = Instant::now();
-    for _ in 0..calls {
-        black_box(call());
-    }
-    start.elapsed().as_nanos() as f64 / calls as f64
-}
-
-fn median(mut times: Vec<f64>) -> f64 {
-    times.sort_by(f64::total_cmp);
-    times[times.len() / 2]
+    println!("  {call:<23} library {library:12.1}   reference {reference:12.1}   ratio {ratio:.2}");
 }

@@ -17,7 +17,7 @@ use std::process::ExitCode;
 const LEAST: Least = Least {
     cases: 100_000,
     runs: 50_000,
-    of_each_kind: 1000,
+    of_each_kind: 500,
 };
 
 fn main() -> ExitCode {
