@@ -13,7 +13,7 @@ use crate::tables::planned::{greatest_horizon, near_passages, passages, shortene
 use crate::tables::WORKED_EXAMPLE;
 use crate::trial::Trial;
 use demand::{Demand, TICK};
-use reference::table::{write_table, Action, Pair, Table, MAX_LOCATIONS};
+use reference::table::*;
 use timed_network::{Verdict, MAX_CHOICES};
 
 /// Runs a table under so many lists, spoilt ones among them.
@@ -197,7 +197,59 @@ pub(super) fn far(trial: &mut Trial, random: &mut Random, extent: &Extent) -> Ou
         let table = late_ticks(random);
         run(trial, random, &write_table(&table), 4, MAX_CHOICES)?;
     }
+    for _ in 0..3 * extent.rounds.div_ceil(50) {
+        let table = write_table(&old_clock(random));
+        let Some(subject) = Subject::new(&table) else {
+            return trial.expect(&table, Verdict::Accepted);
+        };
+        let demand = subject.demand();
+        for manner in [Manner::Early, Manner::Any] {
+            let choices = draw(random, &demand, manner, MAX_CHOICES);
+            trial.run_accepted(&subject, &demand, &choices)?;
+        }
+    }
     Ok(())
+}
+
+/// A component that enters its last location with a clock of more than 16
+/// bits, too old for that location.
+fn old_clock(random: &mut Random) -> Table {
+    let location = |clock, bound| Location { clock, bound };
+    let edge = |source, destination, mask, low| Edge {
+        source,
+        destination,
+        mask,
+        clock_bounds: [ClockBound {
+            clock: 0,
+            low,
+            high: None,
+        }]
+        .into_iter()
+        .collect(),
+        ..Edge::default()
+    };
+    let first = random.within(40_000..=59_000) as u16;
+    let last = random.pick(&[MAX_TICKS, first]);
+    let component = Component {
+        initial: 0,
+        clocks: 2,
+        variables: 0,
+        locations: vec![
+            location(0, first),
+            location(0, MAX_TICKS),
+            location(1, last),
+        ],
+        edges: vec![
+            edge(0, 1, 1, first - 1),
+            edge(1, 2, 0, random.below(20) as u16),
+            edge(2, 2, 0, 0),
+        ],
+    };
+    Table {
+        channels: 0,
+        horizon: first + random.within(20..=60) as u16,
+        components: vec![component],
+    }
 }
 
 /// Runs through schedules of all lengths up to the greatest.
