@@ -101,7 +101,7 @@ pub fn compare_part(readers: &Readers, program: &[u8], node: u8) -> Result<bool,
 #[cfg(test)]
 mod tests {
     use super::*;
-    use crate::readers::refused;
+    use crate::readers::{refused, second_part};
     use crate::tables::WORKED_EXAMPLE;
 
     const NEEDED: usize = 246;
@@ -180,7 +180,7 @@ mod tests {
         let found = [0, 1, 2].map(|node| compare_part(&alike, &program, node));
         assert_eq!(found, [Ok(true), Ok(true), Ok(false)]);
         let first = Reader {
-            part: |program, _| Reader::second().part.to_owned()(program, 0),
+            part: |program, _| second_part(program, 0),
             ..Reader::second()
         };
         assert_eq!(compare_part(&readers(first), &program, 0), Ok(true));

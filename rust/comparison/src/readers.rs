@@ -11,6 +11,11 @@ pub const TOO_SHORT: u8 = 13;
 /// The refusal of too many choices.
 pub const TOO_MANY: u8 = 14;
 
+/// A call that finds one node's part of a program.
+pub type Part = for<'a> fn(&'a [u8], u8) -> &'a [u8];
+/// A call that runs a table under choices and writes observations.
+pub type Run = fn(&[u8], &[u8], &mut [u8]) -> RunNumbers;
+
 /// The calls of an implementation.
 #[derive(Clone, Copy)]
 pub struct Reader {
@@ -21,9 +26,9 @@ pub struct Reader {
     /// What it writes as a table's program.
     pub translate: fn(&[u8], &mut [u8]) -> Call,
     /// What it finds as one node's part of a program.
-    pub part: for<'a> fn(&'a [u8], u8) -> &'a [u8],
+    pub part: Part,
     /// What it says of a table's run under choices, and writes.
-    pub run: fn(&[u8], &[u8], &mut [u8]) -> RunNumbers,
+    pub run: Run,
 }
 
 /// The two implementations.

@@ -5,7 +5,7 @@ use comparison::classes::{Extent, CLASSES};
 use comparison::compare_class;
 use comparison::difference::{Difference, Stop};
 use comparison::random::Random;
-use comparison::readers::{second_run, second_translate, Reader, Readers};
+use comparison::readers::{second_run, second_translate, Part, Reader, Readers, Run};
 use reference::calls::MAX_CHOICES;
 use timed_network::{Call, RunNumbers, Verdict, OBSERVATION};
 
@@ -42,7 +42,7 @@ fn with_program(translate: fn(&[u8], &mut [u8]) -> Call) -> Reader {
     }
 }
 
-fn with_run(run: fn(&[u8], &[u8], &mut [u8]) -> RunNumbers) -> Reader {
+fn with_run(run: Run) -> Reader {
     Reader {
         run,
         ..Reader::second()
@@ -112,7 +112,7 @@ fn part_of_any(program: &[u8], node: u8) -> &[u8] {
 
 #[test]
 fn wrong_parts_are_found_out() {
-    let parts: [for<'a> fn(&'a [u8], u8) -> &'a [u8]; 3] = [part_before, part_cut, part_of_any];
+    let parts: [Part; 3] = [part_before, part_cut, part_of_any];
     for part in parts {
         let second = Reader::second();
         assert!(found_out(Reader { part, ..second }));
@@ -133,7 +133,7 @@ fn changed<const END: u8>(
 }
 
 /// Runs that say something else, each about one end.
-const SAYS_OTHERWISE: [fn(&[u8], &[u8], &mut [u8]) -> RunNumbers; 7] = [
+const SAYS_OTHERWISE: [Run; 7] = [
     |t, c, b| changed::<0>([t, c], b, |answer| answer.end = 1),
     |t, c, b| changed::<0>([t, c], b, |answer| answer.used += 1),
     |t, c, b| changed::<1>([t, c], b, |answer| answer.tick += 1),
@@ -181,8 +181,7 @@ fn sorts(table: &[u8], choices: &[u8], bytes: &mut [u8]) -> RunNumbers {
     answer
 }
 
-const WRITES_OTHERWISE: [fn(&[u8], &[u8], &mut [u8]) -> RunNumbers; 4] =
-    [writes_nothing, copies_the_first, forgets_the_last, sorts];
+const WRITES_OTHERWISE: [Run; 4] = [writes_nothing, copies_the_first, forgets_the_last, sorts];
 
 #[test]
 fn wrong_runs_are_found_out() {

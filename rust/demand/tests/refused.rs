@@ -1,11 +1,12 @@
 //! Runs of tables that fail one of the checks 10 to 12 break the demand, each
-//! in the sentence that the check is there for.
+//! in the sentence that the check is there for; so do runs of accepted tables
+//! with a schedule that lacks something.
 
 mod common;
 
 use common::*;
 use reference::checks::check_messages;
-use reference::schedule::schedule;
+use reference::schedule::{schedule, Passage};
 use reference::table::*;
 
 /// A location with the invariant x0 ≤ bound.
@@ -71,22 +72,31 @@ fn hub(windows: &[(u16, u16)]) -> Component {
     component(&all)
 }
 
+fn table(horizon: u16, components: Vec<Component>) -> Table {
+    Table {
+        channels: 1,
+        horizon,
+        components,
+    }
+}
+
 /// The number of the refusal, and what is wrong with those of many runs that
 /// break the demand.
 fn broken(components: Vec<Component>) -> (u8, Vec<String>) {
-    let table = Table {
-        channels: 1,
-        horizon: 40,
-        components,
-    };
+    let table = table(40, components);
     let passages = schedule(&table).unwrap();
     let number = check_messages(&table, &passages).map_or_else(|refusal| refusal.number, |()| 0);
+    (number, problems(&table, &passages))
+}
+
+/// What is wrong with those of many runs that break the demand.
+fn problems(table: &Table, passages: &[Passage]) -> Vec<String> {
     let mut numbers = Numbers(88_172_645_463_325_252);
     let mut run = |_| {
-        let choices = any_choices(&mut numbers, &table, &passages);
-        held(&table, &passages, &choices).err()
+        let choices = any_choices(&mut numbers, table, passages);
+        held(table, passages, &choices).err()
     };
-    (number, (0..400).filter_map(&mut run).collect())
+    (0..400).filter_map(&mut run).collect()
 }
 
 #[test]
@@ -140,4 +150,56 @@ fn two_senders_for_one_listener() {
         &problems,
         "node 1, yet to send, has not exactly one listener"
     ));
+}
+
+/// Tick 4 is the horizon, and both windows are open then. The message may pass
+/// at tick 3.
+fn open_at_the_horizon() -> (Table, Vec<Passage>) {
+    let table = table(4, vec![sender(&[(3, 5)]), hub(&[(2, 6)])]);
+    let passages = schedule(&table).unwrap();
+    assert_eq!(passages.len(), 2);
+    (table, passages)
+}
+
+#[test]
+fn an_open_passage_without_its_message() {
+    let (table, mut passages) = open_at_the_horizon();
+    assert_eq!(passages[1].message, Some(0));
+    assert_eq!(problems(&table, &passages), Vec::<String>::new());
+    passages[1].message = None;
+    let problems = problems(&table, &passages);
+    assert!(told(&problems, "not with (0, None) as the schedule says"));
+}
+
+/// A send that ends behind the horizon counts too: nobody listens to this one.
+#[test]
+fn a_send_that_ends_behind_the_horizon() {
+    let table = table(4, vec![sender(&[(3, 5)]), hub(&[(3, 6)])]);
+    let passages = schedule(&table).unwrap();
+    let refusal = check_messages(&table, &passages).unwrap_err();
+    assert_eq!(refusal.number, 11);
+    let problems = problems(&table, &passages);
+    assert!(told(
+        &problems,
+        "node 0, yet to send, has not exactly one listener"
+    ));
+}
+
+#[test]
+fn a_schedule_with_other_values() {
+    let components = vec![sender(&[(3, 5), (8, 9)]), hub(&[(2, 6), (7, 10)])];
+    let table = table(40, components);
+    let passages = schedule(&table).unwrap();
+    assert_eq!(problems(&table, &passages), Vec::<String>::new());
+    for change in [
+        |passage: &mut Passage| passage.entry += 1,
+        |passage: &mut Passage| passage.ready -= 1,
+        |passage: &mut Passage| passage.end += 1,
+        |passage: &mut Passage| passage.clocks[0] = 1,
+        |passage: &mut Passage| passage.variables[3] = 1,
+    ] {
+        let mut passages = passages.clone();
+        change(&mut passages[0]);
+        assert!(!problems(&table, &passages).is_empty());
+    }
 }
