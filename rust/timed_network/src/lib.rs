@@ -9,8 +9,6 @@
 #![deny(unsafe_code)]
 #![warn(missing_docs)]
 
-#[cfg(feature = "double")]
-mod double;
 mod exported;
 mod running;
 
