@@ -1,0 +1,30 @@
+// Reads a table from standard input and writes its program to standard output.
+//
+// Standard output holds the program's bytes and nothing else. After a refusal it holds nothing, and standard error has
+// `refused`, number, component, and the question in words. The exit status does not tell the two apart.
+use libc::STDERR_FILENO;
+use libc::STDOUT_FILENO;
+use model::Verdict;
+
+fn write_program(program: &[u8], size: usize) {
+    if program.len() < size {
+        return;
+    }
+    if !io::write_all(STDOUT_FILENO, &program[0..size]) {
+        report::say(STDERR_FILENO, b"The program could not be written.\n");
+    }
+}
+
+fn main() {
+    // One byte more than a table may have, so that a longer input is seen.
+    let mut input = [0u8; 8193];
+    let n = io::read_full(0, &mut input);
+    // No program is longer.
+    let mut program = [0u8; 24576];
+    let r = timed_network::translate(&input[..n], &mut program);
+    let v = r.verdict;
+    match v {
+        Verdict::Accepted => write_program(&program, r.size),
+        Verdict::Refused(number, component) => report::refusal(STDERR_FILENO, number, component),
+    }
+}
