@@ -2,7 +2,8 @@
 use mathlib.Core.Path.{_≡_, refl}
 use mathlib.Core.Bool.{true, false}
 use mathlib.Core.List.{List, [], _∷_}
-use Prim.Native.Nat.{ℕ}
+use Prim.Native.Nat.{ℕ, _*_}
+use lib.ListN.{take, replicate}
 use lib.IntN.{pos}
 use Rattle.model.specs.declared.Action.the-variants.{Internal, Send, Receive}
 use Rattle.model.specs.declared.Update.{Update}
@@ -15,8 +16,10 @@ use Rattle.model.specs.Bytes.{tableBytes}
 use Rattle.model.specs.Reader.{readTable}
 use Rattle.model.specs.Schedule.{Visit, sevenOf}
 use Rattle.model.specs.Checks.{plan, planOf}
-use Rattle.model.specs.Program.{Statement, blockBytes, locationBlock, edgeBlock}
-use Rattle.model.specs.Calls.{verdictOf, planIn, checkCall}
+use Rattle.model.specs.Program.{Statement, blockBytes, locationBlock, edgeBlock, programBytes, partOf}
+use Rattle.model.specs.Machine.{exec}
+use Rattle.model.specs.Run.{choose1, run, observationBytes}
+use Rattle.model.specs.Calls.{verdictOf, planIn, checkCall, RunCall, runCall}
 
 -- "Probe 0: L0 x0 ≤ 5, L1 x0 ≤ 10; e0 send L0 to L1, low 3; e1 internal L1 to L0, low 8, resets x0." By the low of e0.
 abbrev pub probe : ℕ → Component
@@ -78,10 +81,15 @@ pub data Row : Type 0 where
   plans : Read → Verdict → Row
   passes : Read → List ℕ → Row
   writes : List Statement → List ℕ → Row
+  runs : List ℕ → List ℕ → List ℕ → Row
 
 abbrev pub fieldsOf : Answer (List Visit) → List ℕ
 fieldsOf (accepted S) = each sevenOf S
 fieldsOf (refused n c) = []
+
+-- end, node, tick and choices used, then the observations' bytes
+abbrev pub ranAs : RunCall → List ℕ
+ranAs r = r .end ∷ r .node ∷ r .tick ∷ r .used ∷ take (r .size * 32) (r .lent)
 
 abbrev pub Holds : Row → Type 0
 Holds (bytes t bs) = tableBytes t ≡ bs
@@ -90,6 +98,7 @@ Holds (checks bs v) = checkCall bs ≡ v
 Holds (plans t v) = verdictOf (planOf t) ≡ v
 Holds (passes t l) = fieldsOf (planOf t) ≡ l
 Holds (writes b bs) = blockBytes b ≡ bs
+Holds (runs table choices answer) = ranAs (runCall table choices (replicate 256 0)) ≡ answer
 
 abbrev pub rows : List Row
 rows =
@@ -116,15 +125,36 @@ rows =
     (0x0A ∷ 0 ∷ 0 ∷ 0 ∷ 0x0C ∷ 0 ∷ 0 ∷ 5 ∷ 0x0B ∷ 0 ∷ 0 ∷ 3 ∷ 0x0F ∷ 0 ∷ 0 ∷ 0 ∷ 0x10 ∷ 0 ∷ 0 ∷ 0 ∷ [])
     ∷ writes (edgeBlock (probe 3) 0)
     (0x00 ∷ 0 ∷ 0 ∷ 0 ∷ 0x04 ∷ 0 ∷ 0 ∷ 0 ∷ 0x07 ∷ 0 ∷ 0 ∷ 0 ∷ 0x09 ∷ 0 ∷ 0 ∷ 1 ∷ 0x11 ∷ 0 ∷ 0 ∷ 0 ∷ [])
+    -- "No choices: end 1, tick 0."
+    ∷ runs workedBytes [] (1 ∷ 255 ∷ 0 ∷ 0 ∷ [])
+    -- byte 254
+    ∷ runs workedBytes (254 ∷ []) (3 ∷ 255 ∷ 0 ∷ 0 ∷ [])
+    -- ticks only: hub yet to reach its sleep at 2
+    ∷ runs workedBytes (255 ∷ 255 ∷ 255 ∷ 255 ∷ 255 ∷ []) (2 ∷ 1 ∷ 3 ∷ 3 ∷ [])
+    -- tick while a sleep is due
+    ∷ runs workedBytes (1 ∷ 1 ∷ 1 ∷ 1 ∷ 1 ∷ 255 ∷ 255 ∷ 255 ∷ []) (3 ∷ 255 ∷ 2 ∷ 7 ∷ [])
+    -- listen before its end
+    ∷ runs workedBytes (1 ∷ 1 ∷ 1 ∷ 1 ∷ 1 ∷ 255 ∷ 255 ∷ 1 ∷ 1 ∷ []) (3 ∷ 255 ∷ 2 ∷ 8
+    ∷ 1 ∷ 0 ∷ 0 ∷ 0 ∷ 0 ∷ 0 ∷ 0 ∷ 2 ∷ 0 ∷ 0 ∷ 0 ∷ 2 ∷ 0 ∷ 0 ∷ 0 ∷ 0 ∷ 0 ∷ 0 ∷ 0 ∷ 0 ∷ 0 ∷ 0 ∷ 0 ∷ 0 ∷ 0 ∷ 0 ∷ 0 ∷ 0 ∷ 0 ∷ 0 ∷ 0 ∷ 0
+    ∷ [])
+    -- send at its end 5
+    ∷ runs workedBytes (0 ∷ 0 ∷ 0 ∷ 0 ∷ 0 ∷ 1 ∷ 1 ∷ 1 ∷ 1 ∷ 1 ∷ 255 ∷ 255 ∷ 1 ∷ 255 ∷ 0 ∷ 255 ∷ 255 ∷ 0 ∷ []) (1 ∷ 255 ∷ 5 ∷ 18
+    ∷ 1 ∷ 0 ∷ 0 ∷ 0 ∷ 0 ∷ 0 ∷ 0 ∷ 2 ∷ 0 ∷ 0 ∷ 0 ∷ 2 ∷ 0 ∷ 0 ∷ 0 ∷ 0 ∷ 0 ∷ 0 ∷ 0 ∷ 0 ∷ 0 ∷ 0 ∷ 0 ∷ 0 ∷ 0 ∷ 0 ∷ 0 ∷ 0 ∷ 0 ∷ 0 ∷ 0 ∷ 0
+    ∷ 0 ∷ 0 ∷ 0 ∷ 0 ∷ 0 ∷ 0 ∷ 0 ∷ 3 ∷ 0 ∷ 0 ∷ 0 ∷ 3 ∷ 0 ∷ 0 ∷ 0 ∷ 0 ∷ 0 ∷ 0 ∷ 0 ∷ 0 ∷ 0 ∷ 0 ∷ 0 ∷ 0 ∷ 0 ∷ 0 ∷ 0 ∷ 0 ∷ 0 ∷ 0 ∷ 0 ∷ 0
+    ∷ [])
+    -- send at 3, listener's statement is finished too
+    ∷ runs workedBytes (0 ∷ 0 ∷ 0 ∷ 0 ∷ 0 ∷ 1 ∷ 1 ∷ 1 ∷ 1 ∷ 1 ∷ 255 ∷ 255 ∷ 1 ∷ 255 ∷ 0 ∷ 0 ∷ 1 ∷ 1 ∷ 1 ∷ []) (1 ∷ 255 ∷ 3 ∷ 19
+    ∷ 1 ∷ 0 ∷ 0 ∷ 0 ∷ 0 ∷ 0 ∷ 0 ∷ 2 ∷ 0 ∷ 0 ∷ 0 ∷ 2 ∷ 0 ∷ 0 ∷ 0 ∷ 0 ∷ 0 ∷ 0 ∷ 0 ∷ 0 ∷ 0 ∷ 0 ∷ 0 ∷ 0 ∷ 0 ∷ 0 ∷ 0 ∷ 0 ∷ 0 ∷ 0 ∷ 0 ∷ 0
+    ∷ 0 ∷ 0 ∷ 0 ∷ 0 ∷ 0 ∷ 0 ∷ 0 ∷ 3 ∷ 0 ∷ 0 ∷ 0 ∷ 3 ∷ 0 ∷ 0 ∷ 0 ∷ 0 ∷ 0 ∷ 0 ∷ 0 ∷ 0 ∷ 0 ∷ 0 ∷ 0 ∷ 0 ∷ 0 ∷ 0 ∷ 0 ∷ 0 ∷ 0 ∷ 0 ∷ 0 ∷ 0
+    ∷ [])
+    -- hub ahead, probe not: late at 9
+    ∷ runs workedBytes (0 ∷ 0 ∷ 0 ∷ 0 ∷ 0 ∷ 1 ∷ 1 ∷ 1 ∷ 1 ∷ 1 ∷ 255 ∷ 255 ∷ 1 ∷ 255 ∷ 0 ∷ 0 ∷ 1 ∷ 1 ∷ 1 ∷ 1 ∷ 1 ∷ 1 ∷ 1 ∷ 1 ∷ 255 ∷ 255 ∷ 255 ∷ 255 ∷ 255 ∷ 255 ∷ []) (2 ∷ 0 ∷ 9 ∷ 30
+    ∷ 1 ∷ 0 ∷ 0 ∷ 0 ∷ 0 ∷ 0 ∷ 0 ∷ 2 ∷ 0 ∷ 0 ∷ 0 ∷ 2 ∷ 0 ∷ 0 ∷ 0 ∷ 0 ∷ 0 ∷ 0 ∷ 0 ∷ 0 ∷ 0 ∷ 0 ∷ 0 ∷ 0 ∷ 0 ∷ 0 ∷ 0 ∷ 0 ∷ 0 ∷ 0 ∷ 0 ∷ 0
+    ∷ 0 ∷ 0 ∷ 0 ∷ 0 ∷ 0 ∷ 0 ∷ 0 ∷ 3 ∷ 0 ∷ 0 ∷ 0 ∷ 3 ∷ 0 ∷ 0 ∷ 0 ∷ 0 ∷ 0 ∷ 0 ∷ 0 ∷ 0 ∷ 0 ∷ 0 ∷ 0 ∷ 0 ∷ 0 ∷ 0 ∷ 0 ∷ 0 ∷ 0 ∷ 0 ∷ 0 ∷ 0
+    ∷ [])
     ∷ []
 
 pub cases : All Holds rows
-unfolding tableBytes readTable checkCall planIn plan each blockBytes locationBlock edgeBlock
+unfolding tableBytes readTable checkCall planIn plan each blockBytes locationBlock edgeBlock runCall run programBytes observationBytes partOf choose1 exec
 cases =
-    more refl
-    (more refl
-    (more refl
-    (more refl
-    (more refl
-    (more refl
-    (more refl (more refl (more refl (more refl (more refl (more refl (more refl (more refl empty)))))))))))))
+    more refl (more refl (more refl (more refl (more refl (more refl (more refl (more refl (more refl (more refl (more refl (more refl (more refl (more refl (more refl (more refl (more refl (more refl (more refl (more refl (more refl (more refl empty)))))))))))))))))))))
