@@ -20,6 +20,7 @@ pub struct Counts {
 }
 
 // A trial: its ready delay, its end once it was lowered, and whether no bound failed.
+#[repr(C)]
 pub struct Trial {
     pub ready: u16,
     pub ended: bool,
@@ -28,6 +29,7 @@ pub struct Trial {
 }
 
 // The edge kept, if any.
+#[repr(C)]
 pub struct Kept {
     pub some: bool,
     pub edge: u8,
@@ -36,6 +38,7 @@ pub struct Kept {
 }
 
 // The registers. pc is the place of the next statement in the node's part; goes is the location paired with the message taken, if one was.
+#[repr(C)]
 pub struct Node {
     pub pc: usize,
     pub location: u8,
