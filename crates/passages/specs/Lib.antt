@@ -1,0 +1,3 @@
+pub mod Passages
+pub mod Copied
+pub mod Planned
