@@ -3,7 +3,8 @@
  *
  * A table is a string of bytes, laid out as document 01 says under "The
  * table". Link with libtimed_network.a, which `rt staticlib timed_network`
- * writes to target/staticlib.
+ * writes to target/staticlib, and for timed_network_passages also with
+ * libpassages.a, which `rt staticlib passages` writes there.
  *
  * What holds for every call here: it always returns, whatever the bytes are,
  * and it keeps nothing from one call to the next. Memory that is lent is
@@ -207,6 +208,43 @@ typedef struct RunNumbers {
 RunNumbers timed_network_run(const uint8_t *table, size_t length,
                              const uint8_t *choices, size_t choices_length,
                              uint8_t *observations, size_t observations_length);
+
+/*
+ * A passage of a schedule: one stay in a location, with the window of the edge
+ * taken. 16 bytes.
+ *
+ * component, edge, location: their numbers, counted from 0.
+ * message:                   a channel, or 255 for no message.
+ * entry, ready, end:         ticks.
+ */
+typedef struct Passage {
+    uint8_t component;
+    uint8_t edge;
+    uint8_t location;
+    uint8_t message;
+    uint32_t entry;
+    uint32_t ready;
+    uint32_t end;
+} Passage;
+
+/*
+ * Writes the schedule of a table as passages.
+ *
+ * table, length: as for timed_network_check.
+ * list:          the first of `list_length` passages that can be written.
+ * list_length:   how many passages there are. 1,024 are always enough. It may
+ *                be 0; then the pointer is not used.
+ *
+ * The passages stand in the order of the schedule from the front of the list
+ * on. Those past them stay as they were; after a refusal the whole list does.
+ *
+ * Refused with 1 to 12 as timed_network_check refuses, then with 13 where
+ * list_length is below the number of passages.
+ *
+ * The list must not overlap the table.
+ */
+CallNumbers timed_network_passages(const uint8_t *table, size_t length,
+                                   Passage *list, size_t list_length);
 
 #ifdef __cplusplus
 }

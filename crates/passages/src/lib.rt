@@ -8,6 +8,7 @@ ghost use Rattle.passages.specs.Passages.{passagesCall};
 ghost use Rattle.passages.specs.Copied.{blank, copied};
 ghost use Rattle.passages.specs.Planned.{passageAt, Small, SmallRows, Laid, Plans};
 use model::Verdict;
+use timed_network::CallNumbers;
 
 // A passage: its seven fields, 255 for no message.
 #[repr(C)]
@@ -19,15 +20,6 @@ pub struct Passage {
     pub entry: u32,
     pub ready: u32,
     pub end: u32,
-}
-
-// The answer as three numbers: 0 for accepted, else the number of the refusal; the component concerned, 255 for none; how many
-// passages were written.
-#[repr(C)]
-pub struct CallNumbers {
-    pub number: u8,
-    pub component: u8,
-    pub size: u32,
 }
 
 // What a call is to answer and to write: the first `count` of the items.

@@ -49,6 +49,26 @@ pub struct RunNumbers {
     pub size: u32,
 }
 
+/// A passage of a schedule, as the library writes it.
+#[repr(C)]
+#[derive(Clone, Copy, Debug, Default, PartialEq, Eq)]
+pub struct Passage {
+    /// The number of its component.
+    pub component: u8,
+    /// The number of the edge taken.
+    pub edge: u8,
+    /// The number of the location.
+    pub location: u8,
+    /// The channel of its message, or 255 for none.
+    pub message: u8,
+    /// The tick of its entry.
+    pub entry: u32,
+    /// The tick from which it is ready.
+    pub ready: u32,
+    /// The tick of its end.
+    pub end: u32,
+}
+
 extern "C" {
     fn timed_network_check(table: *const u8, length: usize) -> VerdictNumbers;
     fn timed_network_schedule(
@@ -72,6 +92,12 @@ extern "C" {
         observations: *mut u8,
         observations_length: usize,
     ) -> RunNumbers;
+    fn timed_network_passages(
+        table: *const u8,
+        length: usize,
+        list: *mut Passage,
+        list_length: usize,
+    ) -> CallNumbers;
 }
 
 /// Tries a table.
@@ -128,6 +154,13 @@ pub(crate) fn run(table: &[u8], choices: &[u8], observations: &mut [u8]) -> RunN
     }
 }
 
+/// Writes the schedule of a table as passages.
+pub(crate) fn passages(table: &[u8], list: &mut [Passage]) -> CallNumbers {
+    // As for `schedule`. A passage has the layout that the library gives it,
+    // and any bytes of that size are one.
+    unsafe { timed_network_passages(table.as_ptr(), table.len(), list.as_mut_ptr(), list.len()) }
+}
+
 #[cfg(test)]
 mod tests {
     use super::*;
@@ -153,6 +186,25 @@ mod tests {
         };
         assert_eq!(schedule(&SMALLEST, &mut list), answer);
         assert_eq!(list, [0, 0, 0, 0, 0, 1, 255, 9]);
+    }
+
+    #[test]
+    fn a_passage_has_16_bytes() {
+        assert_eq!(size_of::<Passage>(), 16);
+        let mut list = [Passage::default(); 2];
+        let size = 1;
+        let answer = CallNumbers {
+            number: 0,
+            component: 255,
+            size,
+        };
+        assert_eq!(passages(&SMALLEST, &mut list), answer);
+        let only = Passage {
+            message: 255,
+            end: 1,
+            ..Passage::default()
+        };
+        assert_eq!(list, [only, Passage::default()]);
     }
 
     #[test]

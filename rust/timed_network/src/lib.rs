@@ -1,8 +1,9 @@
 //! Safe calls of the library that the Rattle crates export.
 //!
 //! [`check`] answers checks 1 to 12 of document 01, [`schedule`] writes the
-//! schedule of an accepted table into a lent list, [`passages`] gives it as a
-//! list of its own. [`translate`] writes the program of an accepted table,
+//! schedule of an accepted table into a lent list of numbers,
+//! [`schedule_into`] into a lent list of passages, and [`passages`] gives it as
+//! a list of its own. [`translate`] writes the program of an accepted table,
 //! [`program`] gives it as bytes of its own, [`part`] finds one node's part in
 //! it, [`run`] carries out choices. The declarations of the library stand in
 //! one private module; each call gets its safe form here.
@@ -18,6 +19,7 @@ pub use running::{
     OBSERVATION, TICK,
 };
 
+pub use exported::Passage;
 use std::fmt;
 
 /// The numbers that a passage takes in a list: component, edge, location,
@@ -98,6 +100,26 @@ pub fn check(table: &[u8]) -> Verdict {
 /// ```
 pub fn schedule(table: &[u8], list: &mut [u32]) -> Call {
     let answer = exported::schedule(table, list);
+    Call {
+        verdict: Verdict::of(answer.number, answer.component),
+        size: answer.size as usize,
+    }
+}
+
+/// Writes the schedule of a table to the front of a list of passages. What
+/// stands past it stays; after a refusal the whole list does.
+///
+/// ```
+/// use timed_network::{schedule_into, Passage, Verdict};
+///
+/// let mut list = [Passage::default(); 2];
+/// let call = schedule_into(&[], &mut list);
+/// let (number, component) = (1, 255);
+/// assert_eq!(call.verdict, Verdict::Refused { number, component });
+/// assert_eq!((call.size, list), (0, [Passage::default(); 2]));
+/// ```
+pub fn schedule_into(table: &[u8], list: &mut [Passage]) -> Call {
+    let answer = exported::passages(table, list);
     Call {
         verdict: Verdict::of(answer.number, answer.component),
         size: answer.size as usize,

@@ -45,12 +45,12 @@ use Rattle.passages.specs.Copied.{copied}
 use Rattle.passages.specs.Planned.{Plans}
 use Rattle.passages.specs.declared.Passage.{Passage}
 use Rattle.passages.specs.declared.Planned.{Planned}
-use Rattle.passages.specs.declared.CallNumbers.{CallNumbers}
+use Rattle.timed_network.specs.declared.CallNumbers.{CallNumbers}
 use Rattle.passages.proofs.Passage as T
 use Rattle.passages.proofs.Planned as S
 use Rattle.passages.proofs.Planned.Laws as S′
-use Rattle.passages.proofs.CallNumbers as N
-use Rattle.passages.proofs.CallNumbers.Laws as N′
+use Rattle.timed_network.proofs.CallNumbers as N
+use Rattle.timed_network.proofs.CallNumbers.Laws as N′
 use Rattle.passages.proofs.plan as plan
 use Rattle.passages.proofs.plan.Symbol as plan-def
 use Rattle.passages.proofs.plan.Symbol.{name as #passages·plan}
