@@ -1,20 +1,21 @@
--- The edge taken: a candidate from there, with the least ready and then the lowest number; none is taken exactly if there is none. Assumes nothing.
+-- The edge taken: a candidate from there, with the least ready and then the lowest number, in its window; none is taken exactly if there
+-- is none. Assumes nothing.
 use mathlib.Core.Path.{_≡_, refl, sym, ap, subst, _∙_}
 use mathlib.Core.Bool.{Bool, true, false, cond}
 use mathlib.Core.List.{List, [], _∷_, _++_, append-nil}
 use mathlib.Core.Option.{Option, none, some}
 use mathlib.Core.Logic.{_↔_, by-cases}
-use Prim.Native.Nat.{ℕ, suc, _≤_, _<_}
+use Prim.Native.Nat.{ℕ, suc, pred, _≤_, _<_}
 use native.Mathlib.Omega.{arith}
 use native.Mathlib.Decide.{ℕ-discrete}
-use borrow.Author.Tests.{ltb-true, ltb-false}
-use lib.Dec.{ltb}
+use borrow.Author.Tests.{ltb-true, ltb-false, eqb-true}
+use lib.Dec.{ltb, eqb}
 use lib.ListN.{length, getD, length-append}
 use lib.Seq.{append-snoc, getD-at}
 use Rattle.model.specs.Lists.{snoc}
 use Rattle.model.specs.Table.{Arc, Component, noArc, locationOf, arcOf}
-use Rattle.model.specs.Window.{Entry, Pick, windowOf, eligible, considered, chosen, choice}
-use Rattle.model.proofs.Bools.{clash}
+use Rattle.model.specs.Window.{Entry, Pick, readyOf, pastOf, dataHolds, candidate, windowOf, eligible, considered, chosen, choice}
+use Rattle.model.proofs.Bools.{clash, and-is}
 
 -- edge e of the component is an edge from there that is a candidate
 abbrev pub mayTake : Component → Entry → ℕ → Bool
@@ -31,6 +32,15 @@ pub record Taken (n : ℕ) (C : Component) (at : Entry) (p : Pick) : Type 0 wher
   pub window : p ≡ windowAt C at (p .edge)
   pub least : (e : ℕ) → e < n → mayTake C at e ≡ true → p .ready ≤ windowAt C at e .ready
   pub lowest : (e : ℕ) → e < n → mayTake C at e ≡ true → windowAt C at e .ready ≡ p .ready → p .edge ≤ e
+
+-- what is chosen at the entry: the edge is there, it leaves from the location, its data bounds hold, and the window is the one of its bounds
+pub record Picked (C : Component) (at : Entry) (p : Pick) : Type 0 where
+  pub present : p .edge < length (C .arcs)
+  pub source : arcOf C (p .edge) .edge .source ≡ at .location
+  pub holds : dataHolds (arcOf C (p .edge) .dataGuards) (at .values) ≡ true
+  pub ready : p .ready ≡ readyOf (arcOf C (p .edge) .clockGuards) (at .clocks)
+  pub past : pastOf (locationOf C (at .location)) (arcOf C (p .edge) .clockGuards) (at .clocks) ≡ suc (p .end)
+  pub window : p .ready < p .end
 
 module _ (C : Component) (at : Entry) where
   -- what is known of the best of the first n
@@ -148,3 +158,29 @@ module _ (C : Component) (at : Entry) where
       go : (k : Option Pick) → choice C at ≡ k → Taken (length (C .arcs)) C at p → choice C at ≡ some p
       go none q t = clash (sym (choice-none .0 q (p .edge) (t .there)) ∙ t .candidate)
       go (some r) q t = q ∙ ap some (taken-same (choice-taken q) t)
+
+  -- the choice, taken apart
+  pub choice-picked : {p : Pick} → choice C at ≡ some p → Picked C at p
+  choice-picked {p} h =
+      record { present = t .there; source = eqb-true (a .edge .source) (at .location) (from .0); holds = wins .0; ready = first; past = omega (arith, last, less); window = omega (arith, first, last, less) }
+    where
+      t : Taken (length (C .arcs)) C at p
+      t = choice-taken h
+
+      a : Arc
+      a = arcOf C (p .edge)
+
+      from : (eqb (a .edge .source) (at .location) ≡ true) × (candidate (locationOf C (at .location)) a (at .clocks) (at .values) ≡ true)
+      from = and-is (eqb (a .edge .source) (at .location)) (candidate (locationOf C (at .location)) a (at .clocks) (at .values)) .0 (t .candidate)
+
+      wins : (dataHolds (a .dataGuards) (at .values) ≡ true) × (ltb (suc (readyOf (a .clockGuards) (at .clocks))) (pastOf (locationOf C (at .location)) (a .clockGuards) (at .clocks)) ≡ true)
+      wins = and-is (dataHolds (a .dataGuards) (at .values)) (ltb (suc (readyOf (a .clockGuards) (at .clocks))) (pastOf (locationOf C (at .location)) (a .clockGuards) (at .clocks))) .0 (from .1)
+
+      less : suc (readyOf (a .clockGuards) (at .clocks)) < pastOf (locationOf C (at .location)) (a .clockGuards) (at .clocks)
+      less = ltb-true _ _ (wins .1)
+
+      first : p .ready ≡ readyOf (a .clockGuards) (at .clocks)
+      first = ap (λ (x : Pick). x .ready) (t .window)
+
+      last : p .end ≡ pred (pastOf (locationOf C (at .location)) (a .clockGuards) (at .clocks))
+      last = ap (λ (x : Pick). x .end) (t .window)

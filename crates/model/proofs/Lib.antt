@@ -33,7 +33,6 @@ pub mod DecodeSize
 pub mod DecodeBytes
 pub mod BlockTrial
 pub mod BlockLaw
-pub mod BlockChoice
 pub mod NodeChoosing
 pub mod NodeAgeing
 pub mod NodeWorking

@@ -15,7 +15,7 @@ use Rattle.model.specs.Run.{standOf, taking, elsewhere, sleeping}
 use Rattle.model.proofs.Bools.{and-is}
 use Rattle.model.proofs.BlockTrial.{Mind, mind, judge, judges, judges-append}
 use Rattle.model.proofs.BlockLaw.{tests, tests-append, trials-test, tests-elsewhere, trials-judge, Tested, tested}
-use Rattle.model.proofs.BlockChoice.{choice-is}
+use Rattle.model.proofs.Choice.{choice-picked}
 
 -- the part p of a program has the blocks of component C
 pub record Coded (p : List ℕ) (C : Component) : Type 0 where
@@ -130,7 +130,7 @@ take-step {p} {C} {i} {at} {r} {k} coded g e c =
     (record {
       placed = g .placed;
       chosen = c;
-      rest = coded .edges (k .edge) (choice-is C at k c .present);
+      rest = coded .edges (k .edge) (choice-picked C at c .present);
       location = g .location;
       clocks = g .clocks;
       values = g .values;

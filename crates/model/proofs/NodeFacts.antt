@@ -16,7 +16,7 @@ use Rattle.model.specs.Machine.{Node, exec, takes}
 use Rattle.model.specs.Run.{Setting, Stand, sleeping, sending, listening, finishing, adding, working, taking, elsewhere, nowhere, stand, standAt, standOf, windowEnd, overdue, late}
 use Rattle.model.specs.Demand3.{endBefore, readyBefore, lateIn}
 use Rattle.model.proofs.Bools.{clash}
-use Rattle.model.proofs.BlockChoice.{choice-is}
+use Rattle.model.proofs.Choice.{choice-picked}
 use Rattle.model.proofs.NodeChoosing.{choosing-elsewhere, choosing-taking, Asleep, asleep-sleeping}
 use Rattle.model.proofs.NodeAgeing.{Ageing, ageing-elsewhere, entered-elsewhere}
 use Rattle.model.proofs.NodeWorking.{Doing, updating, toSend, toListen, Working}
@@ -136,11 +136,11 @@ update-stand u = go (u .adds)
 module _ {C : Component} {i : ℕ} {at : Entry} {k : Pick} {r : Node} where
   -- asleep its window's end is that of the window chosen
   pub asleep-end : Asleep C i at k r → windowEnd r ≡ at .tick + k .end
-  asleep-end g = omega (arith, g .t, g .d, choice-is C at k (g .chosen) .window)
+  asleep-end g = omega (arith, g .t, g .d, choice-picked C at (g .chosen) .window)
 
   -- and at work
   pub working-end : Working C i at k r → windowEnd r ≡ at .tick + k .end
-  working-end g = omega (arith, g .t, g .d, choice-is C at k (g .chosen) .window)
+  working-end g = omega (arith, g .t, g .d, choice-picked C at (g .chosen) .window)
 
   -- at work it stands at work
   pub working-stand : Working C i at k r → isWork (standOf r) ≡ true

@@ -9,13 +9,14 @@ use lib.ListN.{length-replicate}
 use Rattle.model.specs.Table.{Component, arcOf}
 use Rattle.model.specs.Limits.{ComponentIn}
 use Rattle.model.specs.Reader.{byte}
-use Rattle.model.specs.Window.{Entry, Pick, choice, readyOf, updated, leaves}
-use Rattle.model.specs.Schedule.{Visit, startEntry}
+use Rattle.model.specs.Window.{Entry, Pick, choice, readyOf, updated, channelOf, leaves}
+use Rattle.model.specs.Schedule.{Visit, withMessage, startEntry}
 use Rattle.model.specs.Program.{locationBlock}
 use Rattle.model.specs.Network.{Observation, observation}
 use Rattle.model.specs.Machine.{Node, noTrial, startNode, finish, locationCode}
 use Rattle.model.specs.Run.{windowEnd, observes}
-use Rattle.model.proofs.BlockChoice.{choice-is, Opened}
+use Rattle.model.proofs.Choice.{choice-picked}
+use Rattle.model.proofs.Opening.{Opened}
 use Rattle.model.proofs.NodeChoosing.{Coded, Placed, trialsAt, Asleep}
 use Rattle.model.proofs.NodeWorking.{Working, sleep-step}
 use Rattle.model.proofs.NodePhase.{Heading, isChoosing, afterwards}
@@ -52,7 +53,7 @@ starts {p} {channels} {C} coded fits e =
 -- ## In a passage
 
 -- one window is chosen
-pub same-pick : {o : Option Pick} {j k : Pick} → o ≡ some j → o ≡ some k → j ≡ k
+same-pick : {o : Option Pick} {j k : Pick} → o ≡ some j → o ≡ some k → j ≡ k
 same-pick e f = cc
 
 -- the node's registers are those of passage w: t its ready, t + d its end
@@ -61,39 +62,44 @@ pub record InPassage (w : Visit) (r : Node) : Type 0 where
   pub end : windowEnd r ≡ w .end
   pub edge : r .edge ≡ w .edge
 
-module _ {C : Component} {at : Entry} {w : Visit} {k : Pick} (o : Opened C at w k) where
+-- passage w is the one that component c opens at the entry, whatever its message
+pub record Begins (c : ℕ) (C : Component) (at : Entry) (w : Visit) : Type 0 where
+  pub opens : Opened c C at (withMessage w (channelOf (arcOf C (w .edge))))
+
+module _ {c : ℕ} {C : Component} {at : Entry} {w : Visit} (b : Begins c C at w) where
+  -- the window chosen is the one of the passage that the schedule opens there
+  pub passage-pick : {j : Pick} → choice C at ≡ some j → (w .edge ≡ j .edge) × (w .ready ≡ at .tick + j .ready) × (w .end ≡ at .tick + j .end)
+  passage-pick {j} e =
+      let k : b .opens .pick ≡ j = same-pick (b .opens .taken) e in (
+        ap (λ (v : Visit). v .edge) (b .opens .is) ∙ ap (λ (x : Pick). x .edge) k,
+        ap (λ (v : Visit). v .ready) (b .opens .is) ∙ ap (λ (x : Pick). at .tick + x .ready) k,
+        ap (λ (v : Visit). v .end) (b .opens .is) ∙ ap (λ (x : Pick). at .tick + x .end) k,
+      )
+
   -- asleep where the schedule opens passage w
   pub asleep-passage : {i : ℕ} {j : Pick} {r : Node} → Asleep C i at j r → InPassage w r
   asleep-passage {i} {j} {r} g =
-      let e = same-pick (g .chosen) (o .chosen) in
-      record {
-        ready = g .t ∙ (ap (λ (x : Pick). at .tick + x .ready) e ∙ sym (o .ready));
-        end = asleep-end g ∙ (ap (λ (x : Pick). at .tick + x .end) e ∙ sym (o .end));
-        edge = g .edge ∙ (ap (λ (x : Pick). x .edge) e ∙ sym (o .edge));
-      }
+      let k = passage-pick (g .chosen) in
+      record { ready = g .t ∙ sym (k .1); end = asleep-end g ∙ sym (k .2); edge = g .edge ∙ sym (k .0) }
 
   -- at work there
   pub working-passage : {i : ℕ} {j : Pick} {r : Node} → Working C i at j r → InPassage w r
   working-passage {i} {j} {r} g =
-      let e = same-pick (g .chosen) (o .chosen) in
-      record {
-        ready = g .t ∙ (ap (λ (x : Pick). at .tick + x .ready) e ∙ sym (o .ready));
-        end = working-end g ∙ (ap (λ (x : Pick). at .tick + x .end) e ∙ sym (o .end));
-        edge = g .edge ∙ (ap (λ (x : Pick). x .edge) e ∙ sym (o .edge));
-      }
+      let k = passage-pick (g .chosen) in
+      record { ready = g .t ∙ sym (k .1); end = working-end g ∙ sym (k .2); edge = g .edge ∙ sym (k .0) }
 
   -- the entry after it is the one that the schedule's passage leads to
   pub passage-leads : {j : Pick} → choice C at ≡ some j → (m : Option ℕ) → afterwards C at j m ≡ leaves (arcOf C (w .edge)) m (w .end) (w .entry)
   passage-leads {j} e m =
-      ap (λ (x : Pick). afterwards C at x m) (same-pick e (o .chosen))
-      ∙ (ap (λ (n : ℕ). leaves (arcOf C n) m (at .tick + k .end) at) (sym (o .edge))
-      ∙ (ap (λ (n : ℕ). leaves (arcOf C (w .edge)) m n at) (sym (o .end)) ∙ ap (leaves (arcOf C (w .edge)) m (w .end)) (sym (o .entry))))
+      let k = passage-pick e in
+      ap (λ (n : ℕ). leaves (arcOf C n) m (at .tick + j .end) at) (sym (k .0))
+      ∙ (ap (λ (n : ℕ). leaves (arcOf C (w .edge)) m n at) (sym (k .2)) ∙ ap (leaves (arcOf C (w .edge)) m (w .end)) (sym (b .opens .entry)))
 
   -- its finished sleep leads to its work, since its updates stay in range
   pub passage-works : {channels i : ℕ} {j : Pick} {r : Node} (p : List ℕ) → ComponentIn channels C → Asleep C i at j r → Working C i at j (finish p r (r .rest))
   passage-works {channels} {i} {j} {r} p fits g =
-      sleep-step p fits g (o .values)
-      (subst (λ (x : Pick). updated (arcOf C (x .edge) .updates) (at .values) ≡ some (o .values)) (sym (same-pick (g .chosen) (o .chosen))) (o .ranged))
+      sleep-step p fits g (b .opens .values)
+      (subst (λ (n : ℕ). updated (arcOf C n .updates) (at .values) ≡ some (b .opens .values)) (passage-pick (g .chosen) .0) (b .opens .updates))
 
 -- ## The observation
 
@@ -111,11 +117,10 @@ observes-is {C} {i} {at} {k} {r} c tick e g =
     (g .values)
   where
     ready : k .ready ≡ readyOf (arcOf C (k .edge) .clockGuards) (at .clocks)
-    ready = choice-is C at k (g .chosen) .ready
+    ready = choice-picked C at (g .chosen) .ready
 
 -- the same, of the schedule's passage
-pub observes-passage : {C : Component} {i : ℕ} {at : Entry} {w : Visit} {j k : Pick} {r : Node} (c tick : ℕ) → Opened C at w k → tick ≡ r .t → Asleep C i at j r
+pub observes-passage : {C : Component} {i : ℕ} {at : Entry} {w : Visit} {j : Pick} {r : Node} (c tick : ℕ) → Begins c C at w → tick ≡ r .t → Asleep C i at j r
     → observes c tick r ≡ observation C c (w .entry) (w .edge)
-observes-passage {C} {i} {at} {w} {j} {k} {r} c tick o e g =
-    observes-is c tick e g
-    ∙ ap₂ (observation C c) (sym (o .entry)) (ap (λ (x : Pick). x .edge) (same-pick (g .chosen) (o .chosen)) ∙ sym (o .edge))
+observes-passage {C} {i} {at} {w} {j} {r} c tick b e g =
+    observes-is c tick e g ∙ ap₂ (observation C c) (sym (b .opens .entry)) (sym (passage-pick b (g .chosen) .0))

@@ -18,7 +18,7 @@ use Rattle.model.specs.Window.{Entry, Pick, choice, valueAt, inRange, up
 use Rattle.model.specs.Program.{Statement, setTo, addTo, done, send, listen, updateOf}
 use Rattle.model.specs.Machine.{Node, exec, finish, to, withPlace}
 use Rattle.model.specs.Run.{Stand, sleeping, sending, listening, finishing, adding, working, taking, elsewhere, nowhere, stand, standAt, standOf, pairsAt, takesMessage}
-use Rattle.model.proofs.BlockChoice.{some-same}
+use Rattle.model.proofs.Parts.{some-same}
 use Rattle.model.proofs.NodeChoosing.{Coded, Choosing, choosing-elsewhere, choosing-taking, at-take, choosing-step, Asleep, take-step, asleep-sleeping}
 use Rattle.model.proofs.NodeAgeing.{Ageing, ageing-elsewhere, age-step, Entered, entered-elsewhere, enter-step, choose-step}
 use Rattle.model.proofs.NodeWorking.{afterWork, paired-named, Doing, updating, toSend, toListen, Working, sleep-step, update-is, update-step, work-ends}

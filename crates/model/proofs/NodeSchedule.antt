@@ -14,13 +14,12 @@ use Rattle.model.specs.Schedule.{Visit, own}
 use Rattle.model.specs.Machine.{Node}
 use Rattle.model.specs.Run.{Setting, settingOf, readyOfNth, taking, standOf, windowEnd, overdue, late}
 use Rattle.model.specs.Demand3.{endBefore, readyBefore, lateIn, readyIs, endIs, DueIn, NotDueIn}
-use Rattle.model.proofs.BlockChoice.{Opened}
 use Rattle.model.proofs.NodeChoosing.{Asleep, asleep-sleeping}
 use Rattle.model.proofs.NodeWorking.{Working}
 use Rattle.model.proofs.NodePhase.{Heading, actionOf}
 use Rattle.model.proofs.NodeFacts.{heading-sleeps, heading-late, heading-late-in, working-late, working-late-in, working-end}
 use Rattle.model.proofs.NodeListening.{stands-listening}
-use Rattle.model.proofs.NodePassage.{asleep-passage, working-passage}
+use Rattle.model.proofs.NodePassage.{Begins, asleep-passage, working-passage}
 
 -- ## Passage number i
 
@@ -93,51 +92,51 @@ module _ {C : Component} {i : ℕ} {at : Entry} {r : Node} (t : Read) (S : List 
   heading-late-same g = heading-late (settingOf t S) now c g ∙ (overdue-is (settingOf t S) (own c S) i now ∙ sym (heading-late-in (own c S) now g))
 
   -- at work in passage i
-  pub working-late-same : {j k : Pick} {w : Visit} → Opened C at w k → Nth (own c S) i w → Working C i at j r
+  pub working-late-same : {j : Pick} {w : Visit} → Begins c C at w → Nth (own c S) i w → Working C i at j r
       → late (settingOf t S) now c r (standOf r) ≡ lateIn (own c S) now r (standOf r)
-  working-late-same {j} {k} {w} o m g =
+  working-late-same {j} {w} b m g =
       working-late (settingOf t S) now c g
-      ∙ (ap (λ (n : ℕ). ltb n now) (sym (working-end g) ∙ working-passage o g .end)
+      ∙ (ap (λ (n : ℕ). ltb n now) (sym (working-end g) ∙ working-passage b g .end)
       ∙ (sym (end-before-nth m now) ∙ sym (working-late-in (own c S) now g)))
 
 -- ## Due
 
 module _ {C : Component} {i : ℕ} {at : Entry} {r : Node} (vs : List Visit) (now : ℕ) where
   -- a sleep that is due, by the schedule
-  pub asleep-due-in : {j k : Pick} {w : Visit} → Opened C at w k → Nth vs i w → Asleep C i at j r → eqb now (r .t) ≡ true → DueIn vs now r (standOf r)
-  asleep-due-in {j} {k} {w} o m g e =
+  pub asleep-due-in : {c : ℕ} {j : Pick} {w : Visit} → Begins c C at w → Nth vs i w → Asleep C i at j r → eqb now (r .t) ≡ true → DueIn vs now r (standOf r)
+  asleep-due-in {c} {j} {w} b m g e =
       subst (DueIn vs now r) (sym (asleep-sleeping g))
       (subst (λ (n : ℕ). readyIs vs n now) (sym (g .sleeps))
-      (subst (λ (A : Type 0). A) (sym (ready-is-nth m now)) (sym (asleep-passage o g .ready) ∙ sym (eqb-true now (r .t) e))))
+      (subst (λ (A : Type 0). A) (sym (ready-is-nth m now)) (sym (asleep-passage b g .ready) ∙ sym (eqb-true now (r .t) e))))
 
   -- a sleep that is not due, in passage i
-  pub asleep-not-due-in : {j k : Pick} {w : Visit} → Opened C at w k → Nth vs i w → Asleep C i at j r → eqb now (r .t) ≡ false → NotDueIn vs now r (standOf r)
-  asleep-not-due-in {j} {k} {w} o m g e =
+  pub asleep-not-due-in : {c : ℕ} {j : Pick} {w : Visit} → Begins c C at w → Nth vs i w → Asleep C i at j r → eqb now (r .t) ≡ false → NotDueIn vs now r (standOf r)
+  asleep-not-due-in {c} {j} {w} b m g e =
       subst (NotDueIn vs now r) (sym (asleep-sleeping g))
       (λ h.
       let z : w .ready ≡ now = subst (λ (A : Type 0). A) (ready-is-nth m now) (subst (λ (n : ℕ). readyIs vs n now) (g .sleeps) h) in
-      eqb-false now (r .t) e (sym (asleep-passage o g .ready ∙ z)))
+      eqb-false now (r .t) e (sym (asleep-passage b g .ready ∙ z)))
 
   -- a sleep beyond the last passage
   pub asleep-beyond-in : {j : Pick} → length vs ≤ i → Asleep C i at j r → NotDueIn vs now r (standOf r)
   asleep-beyond-in l g = subst (NotDueIn vs now r) (sym (asleep-sleeping g)) (λ h. no-ready vs i now l (subst (λ (n : ℕ). readyIs vs n now) (g .sleeps) h))
 
   -- a listen that is due
-  pub listening-due-in : {j k : Pick} {w : Visit} → Opened C at w k → Nth vs i w → (g : Working C i at j r) → actionOf C j ≡ Receive → eqb now (windowEnd r) ≡ true
+  pub listening-due-in : {c : ℕ} {j : Pick} {w : Visit} → Begins c C at w → Nth vs i w → (g : Working C i at j r) → actionOf C j ≡ Receive → eqb now (windowEnd r) ≡ true
       → DueIn vs now r (standOf r)
-  listening-due-in {j} {k} {w} o m g act e =
+  listening-due-in {c} {j} {w} b m g act e =
       subst (DueIn vs now r) (sym (stands-listening g act))
       (subst (λ (n : ℕ). endIs vs (pred n) now) (sym (g .sleeps))
-      (subst (λ (A : Type 0). A) (sym (end-is-nth m now)) (sym (working-passage o g .end) ∙ sym (eqb-true now (windowEnd r) e))))
+      (subst (λ (A : Type 0). A) (sym (end-is-nth m now)) (sym (working-passage b g .end) ∙ sym (eqb-true now (windowEnd r) e))))
 
   -- a listen that is not due
-  pub listening-not-due-in : {j k : Pick} {w : Visit} → Opened C at w k → Nth vs i w → (g : Working C i at j r) → actionOf C j ≡ Receive
+  pub listening-not-due-in : {c : ℕ} {j : Pick} {w : Visit} → Begins c C at w → Nth vs i w → (g : Working C i at j r) → actionOf C j ≡ Receive
       → eqb now (windowEnd r) ≡ false → NotDueIn vs now r (standOf r)
-  listening-not-due-in {j} {k} {w} o m g act e =
+  listening-not-due-in {c} {j} {w} b m g act e =
       subst (NotDueIn vs now r) (sym (stands-listening g act))
       (λ h.
       let z : w .end ≡ now = subst (λ (A : Type 0). A) (end-is-nth m now) (subst (λ (n : ℕ). endIs vs (pred n) now) (g .sleeps) h) in
-      eqb-false now (windowEnd r) e (sym (working-passage o g .end ∙ z)))
+      eqb-false now (windowEnd r) e (sym (working-passage b g .end ∙ z)))
 
   -- a take beyond the last passage
   pub taking-not-due-in : length vs ≤ i → Heading C i at r → standOf r ≡ taking → NotDueIn vs now r (standOf r)

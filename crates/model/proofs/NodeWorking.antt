@@ -21,7 +21,8 @@ use Rattle.model.specs.Program.{Statement, setTo, addTo, done, send, lis
 use Rattle.model.specs.Machine.{Node, exec, finish, to, withPlace, slept, withValues}
 use Rattle.model.proofs.Bools.{clash}
 use Rattle.model.proofs.Walk.{all-at}
-use Rattle.model.proofs.BlockChoice.{Picked, some-same, choice-is}
+use Rattle.model.proofs.Parts.{some-same}
+use Rattle.model.proofs.Choice.{Picked, choice-picked}
 use Rattle.model.proofs.NodeChoosing.{Placed, Asleep}
 use Rattle.model.proofs.NodeAgeing.{length-aged, ageingFrom, Ageing}
 
@@ -124,7 +125,7 @@ sleep-step {channels} {C} {i} {at} {k} {r} p fits g ws ranged =
       sleeps = ap suc (g .sleeps);
       results = ws;
       ranged = ranged;
-      doing = go (a .edge .action) refl (arc-in fits (k .edge) (choice-is C at k (g .chosen) .present) .action);
+      doing = go (a .edge .action) refl (arc-in fits (k .edge) (choice-picked C at (g .chosen) .present) .action);
     })
   where
     a : Arc
@@ -217,7 +218,7 @@ work-ends {channels} {C} {i} {at} {k} {r} fits g acted m taken leads =
     a = arcOf C (k .edge)
 
     picked : Picked C at k
-    picked = choice-is C at k (g .chosen)
+    picked = choice-picked C at (g .chosen)
 
     grown : r .n + r .d ≡ (at .tick + k .end) - at .tick
     grown = omega (arith, g .n, g .d, picked .window)

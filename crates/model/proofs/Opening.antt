@@ -4,20 +4,17 @@ use mathlib.Core.Bool.{true}
 use mathlib.Core.List.{List}
 use mathlib.Core.Option.{Option, none, some}
 use mathlib.Core.Logic.{_↔_}
-use Prim.Native.Nat.{ℕ, suc, pred, _+_, _≤_, _<_}
+use Prim.Native.Nat.{ℕ, pred, _+_, _≤_, _<_}
 use native.Mathlib.Omega.{arith}
-use borrow.Author.Tests.{ltb-true, eqb-true}
-use lib.Dec.{ltb, eqb}
 use lib.IntN.{ℤ}
 use lib.ListN.{length}
 use Rattle.model.specs.Lists.{accepted, refused}
 use Rattle.model.specs.Table.{Component, arcOf, locationOf}
-use Rattle.model.specs.Window.{Entry, Pick, IsWindow, readyOf, pastOf, dataHolds, candidate, choice, updated, channelOf}
+use Rattle.model.specs.Window.{Entry, Pick, IsWindow, readyOf, pastOf, dataHolds, choice, updated, channelOf}
 use Rattle.model.specs.Schedule.{Visit, visitOf, ranged, picked, opening}
-use Rattle.model.proofs.Bools.{and-is}
 use Rattle.model.proofs.Parts.{refused-clash, accepted-same}
 use Rattle.model.proofs.Interval.{is-window, invariant}
-use Rattle.model.proofs.Choice.{Taken, choice-taken}
+use Rattle.model.proofs.Choice.{Picked, choice-taken, choice-picked}
 
 -- v is the passage that component c opens as it enters there
 pub record Opened (c : ℕ) (C : Component) (at : Entry) (v : Visit) : Type 0 where
@@ -51,38 +48,22 @@ module _ (c : ℕ) (C : Component) (at : Entry) where
         is = refl;
         component = refl;
         entry = refl;
-        there = t .there;
-        source = eqb-true (arcOf C (p .edge) .edge .source) (at .location) (from .0);
-        bounds = wins .0;
-        ready = ap (λ (x : Pick). at .tick + x .ready) (t .window);
-        end = ap (λ (x : Pick). at .tick + x .end) (t .window);
-        window = subst (λ (x : Pick). IsWindow (locationOf C (at .location)) (arcOf C (p .edge) .clockGuards) (at .clocks) (x .ready) (x .end)) (sym (t .window))
-            (is-window (locationOf C (at .location)) (arcOf C (p .edge) .clockGuards) (at .clocks) (omega (arith, lt)));
+        there = k′ .present;
+        source = k′ .source;
+        bounds = k′ .holds;
+        ready = ap (λ (n : ℕ). at .tick + n) (k′ .ready);
+        end = omega (arith, k′ .past);
+        window = subst (λ (x : Pick). IsWindow (locationOf C (at .location)) (arcOf C (p .edge) .clockGuards) (at .clocks) (x .ready) (x .end)) (sym (choice-taken C at k .window))
+            (is-window (locationOf C (at .location)) (arcOf C (p .edge) .clockGuards) (at .clocks) (omega (arith, k′ .ready, k′ .past, k′ .window)));
         early = omega arith;
-        wide = omega (arith, first, last, lt);
+        wide = omega (arith, k′ .window);
         values = ys;
         updates = u;
         message = refl;
       }
     where
-      t : Taken (length (C .arcs)) C at p
-      t = choice-taken C at k
-
-      from : (eqb (arcOf C (p .edge) .edge .source) (at .location) ≡ true) × (candidate (locationOf C (at .location)) (arcOf C (p .edge)) (at .clocks) (at .values) ≡ true)
-      from = and-is (eqb (arcOf C (p .edge) .edge .source) (at .location)) (candidate (locationOf C (at .location)) (arcOf C (p .edge)) (at .clocks) (at .values)) .0 (t .candidate)
-
-      wins : (dataHolds (arcOf C (p .edge) .dataGuards) (at .values) ≡ true)
-          × (ltb (suc (readyOf (arcOf C (p .edge) .clockGuards) (at .clocks))) (pastOf (locationOf C (at .location)) (arcOf C (p .edge) .clockGuards) (at .clocks)) ≡ true)
-      wins = and-is (dataHolds (arcOf C (p .edge) .dataGuards) (at .values)) _ .0 (from .1)
-
-      lt : suc (readyOf (arcOf C (p .edge) .clockGuards) (at .clocks)) < pastOf (locationOf C (at .location)) (arcOf C (p .edge) .clockGuards) (at .clocks)
-      lt = ltb-true _ _ (wins .1)
-
-      first : p .ready ≡ readyOf (arcOf C (p .edge) .clockGuards) (at .clocks)
-      first = ap (λ (x : Pick). x .ready) (t .window)
-
-      last : p .end ≡ pred (pastOf (locationOf C (at .location)) (arcOf C (p .edge) .clockGuards) (at .clocks))
-      last = ap (λ (x : Pick). x .end) (t .window)
+      k′ : Picked C at p
+      k′ = choice-picked C at k
 
   -- an accepted opening
   pub opened : {v : Visit} → opening c C at ≡ accepted v → Opened c C at v

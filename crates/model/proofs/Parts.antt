@@ -2,6 +2,7 @@
 use mathlib.Core.Path.{_≡_, refl, sym, ap, ap₂, subst, subst₂, _∙_}
 use mathlib.Core.Bool.{Bool, true, false, cond}
 use mathlib.Core.List.{List, [], _∷_, _++_, append-assoc}
+use mathlib.Core.Option.{some}
 use Prim.Native.Nat.{ℕ, zero, suc, _+_, _≤_}
 use native.Mathlib.Omega.{arith}
 use borrow.Author.Tests.{leb-true, le-leb}
@@ -62,6 +63,10 @@ about-ok c (fault n) {x} e = refused-clash n c x e
 -- two acceptances are equal: so is what they give
 pub accepted-same : {A : Type 0} {x y : A} → accepted x ≡ accepted y → x ≡ y
 accepted-same e = cc
+
+-- and what two that are there are
+pub some-same : {A : Type 0} {x y : A} → some x ≡ some y → x ≡ y
+some-same e = cc
 
 -- ## Parts
 

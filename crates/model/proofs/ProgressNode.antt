@@ -18,7 +18,7 @@ use Rattle.model.specs.Machine.{Node, finish, partBytes}
 use Rattle.model.specs.Run.{taking, standOf}
 use Rattle.model.proofs.Bools.{clash, and-is}
 use Rattle.model.proofs.BlockLaw.{tests}
-use Rattle.model.proofs.BlockChoice.{choice-is}
+use Rattle.model.proofs.Choice.{choice-picked}
 use Rattle.model.proofs.DecodeBlock.{allQuads}
 use Rattle.model.proofs.DecodeSize.{location-count, edge-counted}
 use Rattle.model.proofs.NodeChoosing.{Coded, trialsAt, Choosing, left-tests, choosing-taking, at-take, Asleep, take-step, asleep-sleeping}
@@ -91,7 +91,7 @@ module _ {p : List ℕ} {channels : ℕ} {C : Component} (codes : Coded p C) (fi
       take (some k) f e n =
           let q = take-step codes g e f in
           sleep-falls p most r takeEdge [] (g .rest ∙ ap (λ (x : List Statement). x ++ (takeEdge ∷ [])) e) (omega (arith, g .sleeps)) refl (asleep-sleeping q)
-          (omega (arith, ap weight (q .rest), weight-most (edgeBlock C (k .edge)), edge-counted channels C fits (k .edge) (choice-is C at k f .present)))
+          (omega (arith, ap weight (q .rest), weight-most (edgeBlock C (k .edge)), edge-counted channels C fits (k .edge) (choice-picked C at f .present)))
           (omega arith)
 
       go : (ss : List Statement) → g .left ≡ ss → toil most (finish p r (r .rest)) < toil most r

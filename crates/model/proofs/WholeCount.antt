@@ -142,7 +142,7 @@ module _ {t : Read} {S : List Visit} (G : Given t S) {τ : ℕ} {A : ℕ → Lis
           split (ltb (v .ready) (suc τ)) (heading-late-in (own c S) (suc τ) p ∙ ready-before-nth (nth-ahead G g c h k v vs e) (suc τ))
           (put (v ∷ vs) [] (cond (ltb (v .ready) (suc τ)) 1 0) e m (comes v vs e l (ltb (v .ready) (suc τ)) refl))
       go (waiting v vs e m l j p) =
-          let o = opened-first G g c h v vs e .1 in
+          let o = opened-first G g c h v vs e in
           let x = eqb-false τ (r .t) (sym (asleep-due (settingOf t S) τ p ∙ ap (eqb τ) (sym (p .t))) ∙ d) in
           let y : length (readied (suc τ) (v ∷ vs)) ≤ 0 = none-yet (suc τ) (links v vs e) (omega (arith, asleep-passage o p .ready, x)) in
           put (v ∷ vs) [] (cond (lateIn (own c S) (suc τ) r (standOf r)) 1 0) e m (omega arith)

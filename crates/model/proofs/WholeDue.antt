@@ -69,7 +69,7 @@ module _ {t : Read} {S : List Visit} (G : Given t S) {s : Run} (k : Live G s) wh
         listen : (v : Visit) (vs : List Visit) → k .tied .ahead c ≡ v ∷ vs → (j : Pick) → Working C (K .count) (v .entry) j r → (x : Bool) → listens (arcOf C (j .edge)) ≡ x
             → cond x (eqb (s .tick) (v .entry .tick + j .end)) false ≡ true → DueIn (own c S) (s .tick) r (standOf r)
         listen v vs e j p true l f =
-            listening-due-in (own c S) (s .tick) (opened-first G (k .tied .going) c h v vs e .1) (nth-ahead G (k .tied .going) c h K v vs e) p
+            listening-due-in (own c S) (s .tick) (opened-first G (k .tied .going) c h v vs e) (nth-ahead G (k .tied .going) c h K v vs e) p
             (receives-only (actionOf C j) l)
             (ap (eqb (s .tick)) (working-end p) ∙ f)
         listen v vs e j p false l f = clash f
@@ -77,7 +77,7 @@ module _ {t : Read} {S : List Visit} (G : Given t S) {s : Run} (k : Live G s) wh
         go : Held (t .horizon) C (s .tick) (K .count) r (k .tied .ahead c) (K .more) → DueIn (own c S) (s .tick) r (standOf r)
         go (coming v vs e m l p) = clash (sym (heading-due (settingOf t S) (s .tick) p) ∙ d)
         go (waiting v vs e m l j p) =
-            asleep-due-in (own c S) (s .tick) (opened-first G (k .tied .going) c h v vs e .1) (nth-ahead G (k .tied .going) c h K v vs e) p
+            asleep-due-in (own c S) (s .tick) (opened-first G (k .tied .going) c h v vs e) (nth-ahead G (k .tied .going) c h K v vs e) p
             (ap (eqb (s .tick)) (p .t) ∙ (sym (asleep-due (settingOf t S) (s .tick) p) ∙ d))
         go (busy v vs e m l b j p) = listen v vs e j p (listens (arcOf C (j .edge))) refl (sym (working-due (settingOf t S) (s .tick) p) ∙ d)
         go (leaving at e m l p) = clash (sym (heading-due (settingOf t S) (s .tick) p) ∙ d)
@@ -96,12 +96,12 @@ module _ {t : Read} {S : List Visit} (G : Given t S) {s : Run} (k : Live G s) wh
             → ((j : Pick) (a : ℕ) → Working C (K .count) (v .entry) j r → actionOf C j ≡ Send a → listeners s c a ≡ [] → ⊥)
             → NotAllowed C (K .count) (v .entry) s c → NotDueIn (own c S) (s .tick) r (standOf r)
         within v vs e heard (earlySleep j p x) =
-            asleep-not-due-in (own c S) (s .tick) (opened-first G (k .tied .going) c h v vs e .1) (nth-ahead G (k .tied .going) c h K v vs e) p x
+            asleep-not-due-in (own c S) (s .tick) (opened-first G (k .tied .going) c h v vs e) (nth-ahead G (k .tied .going) c h K v vs e) p x
         within v vs e heard (earlyListen j p act x) =
-            listening-not-due-in (own c S) (s .tick) (opened-first G (k .tied .going) c h v vs e .1) (nth-ahead G (k .tied .going) c h K v vs e) p act x
+            listening-not-due-in (own c S) (s .tick) (opened-first G (k .tied .going) c h v vs e) (nth-ahead G (k .tied .going) c h K v vs e) p act x
         within v vs e heard (nothingKept p x n) =
-            let o = opened-first G (k .tied .going) c h v vs e in
-            let z : none ≡ some (o .0) = sym n ∙ o .1 .chosen in
+            let o = opened-first G (k .tied .going) c h v vs e .opens in
+            let z : none ≡ some (o .pick) = sym n ∙ o .taken in
             let z : _≡_ {A = ℕ} 0 1 = cc in
             absurd (omega arith)
         within v vs e heard (unheard j a p act l) = absurd (heard j a p act l)

@@ -124,7 +124,7 @@ module _ {t : Read} {S : List Visit} (G : Given t S) {s : Run} (k : Live G s) (c
   began-earlier =
       let o = opened-first G (k .tied .going) c h v vs e in
       let u = opened-first G (k .tied .going) other (partner .there) (partner .visit) (partner .rest) (partner .ahead) in
-      omega (arith, working-passage (o .1) p .ready, working-passage (u .1) (partner-listens .atWork) .ready, partner .earlier)
+      omega (arith, working-passage o p .ready, working-passage u (partner-listens .atWork) .ready, partner .earlier)
 
   -- it hears
   partner-hears : hears a (nodeOf s c) (nodeOf s other) ≡ true

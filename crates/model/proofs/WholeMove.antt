@@ -17,7 +17,7 @@ use Rattle.model.specs.Machine.{Node}
 use Rattle.model.specs.Run.{Run, noNode, on, moved}
 use Rattle.model.proofs.Members.{only-append}
 use Rattle.model.proofs.NodePhase.{Heading, afterwards}
-use Rattle.model.proofs.NodePassage.{same-pick, passage-leads}
+use Rattle.model.proofs.NodePassage.{passage-pick, passage-leads}
 use Rattle.model.proofs.NetSays.{seen}
 use Rattle.model.proofs.NetLinks.{Links, next-is, next-later, last-beyond}
 use Rattle.model.proofs.NetWitness.{ahead-before, ahead-linked}
@@ -78,7 +78,7 @@ module _ {t : Read} {S : List Visit} (G : Given t S) {τ : ℕ} {A : ℕ → Lis
     (vs : List Visit) (e : A c ≡ v ∷ vs) where
   -- the edge of the window chosen is the passage's
   pub edge-same : {j : Pick} → choice (componentOf (t .table) c) (v .entry) ≡ some j → v .edge ≡ j .edge
-  edge-same {j} f = let o = opened-first G g c h v vs e in o .1 .edge ∙ ap (λ (x : Pick). x .edge) (same-pick (o .1 .chosen) f)
+  edge-same {j} f = passage-pick (opened-first G g c h v vs e) f .0
 
   -- a node that heads for the entry that the passage leads to is held there
   leaves-held : {i : ℕ} {r : Node} → Heading (componentOf (t .table) c) i (leaves (arcOf (componentOf (t .table) c) (v .edge)) (v .message) (v .end) (v .entry)) r
@@ -100,7 +100,7 @@ module _ {t : Read} {S : List Visit} (G : Given t S) {τ : ℕ} {A : ℕ → Lis
       let o = opened-first G g c h v vs e in
       leaves-held
       (subst (λ (at : Entry). Heading (componentOf (t .table) c) i at r)
-      (passage-leads (o .1) f m ∙ ap (λ (x : Option ℕ). leaves (arcOf (componentOf (t .table) c) (v .edge)) x (v .end) (v .entry)) (sym n)) p)
+      (passage-leads o f m ∙ ap (λ (x : Option ℕ). leaves (arcOf (componentOf (t .table) c) (v .edge)) x (v .end) (v .entry)) (sym n)) p)
 
   -- its tie
   pub finished-tie : {r q : Node} {os : List Observation} (k : Tie (t .table) (t .horizon) S c τ r os (A c)) → k .more ≡ v ∷ []

@@ -48,7 +48,7 @@ module _ {t : Read} {S : List Visit} (G : Given t S) {τ : ℕ} {A : ℕ → Lis
       go : Held (t .horizon) (componentOf (t .table) c) τ (k .count) r (A c) (k .more) → late (settingOf t S) now c r (standOf r) ≡ lateIn (own c S) now r (standOf r)
       go (coming v vs e m l p) = heading-late-same t S now c p
       go (waiting v vs e m l q p) = asleep-late (settingOf t S) now c p ∙ sym (asleep-late-in (own c S) now p)
-      go (busy v vs e m l b q p) = working-late-same t S now c (opened-first G g c h v vs e .1) (nth-ahead v vs e) p
+      go (busy v vs e m l b q p) = working-late-same t S now c (opened-first G g c h v vs e) (nth-ahead v vs e) p
       go (leaving at e m l p) = heading-late-same t S now c p
       go (resting at e m l q p) = asleep-late (settingOf t S) now c p ∙ sym (asleep-late-in (own c S) now p)
 
@@ -101,7 +101,7 @@ module _ {t : Read} {S : List Visit} (G : Given t S) {τ : ℕ} {A : ℕ → Lis
           let n : suc τ ≤ v .ready = ltb-false (v .ready) (suc τ) (sym (heading-late-in (own c S) (suc τ) p ∙ ready-before-nth (nth-ahead v vs e) (suc τ)) ∙ not-late) in
           record { tie = again (coming v vs e m n p); room = not-ready v vs e n }
       go (waiting v vs e m b q p) =
-          let o = opened-first G g c h v vs e .1 in
+          let o = opened-first G g c h v vs e in
           let x = eqb-false τ (r .t) (sym (asleep-due (settingOf t S) τ p ∙ ap (eqb τ) (sym (p .t))) ∙ d) in
           let n : suc τ ≤ v .ready = omega (arith, asleep-passage o p .ready, x) in
           record { tie = again (waiting v vs e m n q p); room = not-ready v vs e n }

@@ -19,12 +19,11 @@ use Rattle.model.specs.Network.{one, Observation}
 use Rattle.model.specs.Machine.{Node, partBytes, finish}
 use Rattle.model.specs.Run.{Setting, settingOf, Run, nodeOf, Stand, sleeping, sending, listening, finishing, adding, working, taking, elsewhere, nowhere, standOf, windowEnd, listeners, forbidden, on, observes, moved, sent, finishes}
 use Rattle.model.proofs.Bools.{clash}
-use Rattle.model.proofs.BlockChoice.{Opened}
 use Rattle.model.proofs.NodeChoosing.{Asleep, asleep-sleeping}
 use Rattle.model.proofs.NodeWorking.{Working}
 use Rattle.model.proofs.NodePhase.{Heading, isHeading, isWorking, actionOf, afterwards, AtSend, AtStand, phase-at}
 use Rattle.model.proofs.NodeFacts.{isWork, isWay, heading-stand, working-stand}
-use Rattle.model.proofs.NodePassage.{asleep-passage, working-passage, passage-works, observes-passage}
+use Rattle.model.proofs.NodePassage.{Begins, asleep-passage, working-passage, passage-works, observes-passage}
 use Rattle.model.proofs.NetReached.{map-append}
 use Rattle.model.proofs.NetSays.{seen}
 use Rattle.model.proofs.NetLinks.{first-fits}
@@ -108,7 +107,7 @@ module _ {t : Read} {S : List Visit} (G : Given t S) {s : Run} (k : Live G s) (c
   pub sleep-leads : (v : Visit) (vs : List Visit) → A c ≡ v ∷ vs → tie .more ≡ [] → (j : Pick) → Asleep C (tie .count) (v .entry) j r → Leads G s c (finishes g s c (standOf r))
   sleep-leads v vs e m j p = subst (λ (x : Stand). Leads G s c (finishes g s c x)) (sym (asleep-sleeping p)) (go (eqb (s .tick) (r .t)) refl)
     where
-      o : (i : Pick) × Opened C (v .entry) v i
+      o : Begins c C (v .entry) v
       o = opened-first G (k .tied .going) c h v vs e
 
       others : (d : ℕ) → (d ≡ c → ⊥) → shownBy d (observes c (s .tick) r ∷ []) ≡ []
@@ -117,7 +116,7 @@ module _ {t : Read} {S : List Visit} (G : Given t S) {s : Run} (k : Live G s) (c
       mine : s .tick ≡ r .t → shownBy c (observes c (s .tick) r ∷ []) ≡ seen C c v ∷ []
       mine i =
           ap (λ (x : Bool). cond x (observes c (s .tick) r ∷ []) []) (eq-eqb c c refl)
-          ∙ ap (λ (x : Observation). x ∷ []) (observes-passage c (s .tick) (o .1) i p)
+          ∙ ap (λ (x : Observation). x ∷ []) (observes-passage c (s .tick) o i p)
 
       shows : s .tick ≡ r .t → shownBy c (s .observations) ++ shownBy c (observes c (s .tick) r ∷ []) ≡ map (seen C c) (tie .fin ++ (v ∷ []))
       shows i =
@@ -137,8 +136,8 @@ module _ {t : Read} {S : List Visit} (G : Given t S) {s : Run} (k : Live G s) (c
             counts = tie .counts;
             whole = tie .whole;
             held =
-                busy v vs e refl (omega (arith, asleep-passage (o .1) p .ready)) (omega (arith, k .below, asleep-passage (o .1) p .ready)) j
-                (passage-works (o .1) (partBytes (programBytes t) c) (component-in G c h) p);
+                busy v vs e refl (omega (arith, asleep-passage o p .ready)) (omega (arith, k .below, asleep-passage o p .ready)) j
+                (passage-works o (partBytes (programBytes t) c) (component-in G c h) p);
             shown = shows now;
           }))
           refl
@@ -181,7 +180,7 @@ module _ {t : Read} {S : List Visit} (G : Given t S) {s : Run} (k : Live G s) (c
         timeout i w act n false f = no
         timeout i w act n true f =
             let o = opened-first G (k .tied .going) c h v vs e in
-            let end : s .tick ≡ v .end = eqb-true (s .tick) (windowEnd r) f ∙ working-passage (o .1) w .end in
+            let end : s .tick ≡ v .end = eqb-true (s .tick) (windowEnd r) f ∙ working-passage o w .end in
             let a : arcOf C (v .edge) .edge .action ≡ Receive = action-same (w .chosen) act in
             alone-leads
             (going-timeout limit (t .table) (t .horizon) S (G .sched) (G .checks) (k .tied .going) c h v vs e end a (without c vs A) (without-same c vs A) others)

@@ -19,14 +19,15 @@ use Rattle.model.specs.Run.{Run, nodeOf}
 use Rattle.model.proofs.Parts.{after-ok}
 use Rattle.model.proofs.Walk.{all-at}
 use Rattle.model.proofs.Heard.{checked-is}
+use Rattle.model.proofs.Opening.{opened}
 use Rattle.model.proofs.Own.{all-in}
 use Rattle.model.proofs.Scheduled.{schedule-is}
 use Rattle.model.proofs.Passages.{Entered, entered}
 use Rattle.model.proofs.DecodeProgram.{location-code, edge-code}
-use Rattle.model.proofs.BlockChoice.{Opened, opens-is}
 use Rattle.model.proofs.NodeChoosing.{Coded, Asleep}
 use Rattle.model.proofs.NodeWorking.{Working}
 use Rattle.model.proofs.NodePhase.{Heading, Phase, isHeading, isAsleep, isWorking}
+use Rattle.model.proofs.NodePassage.{Begins}
 use Rattle.model.proofs.NodeSchedule.{Nth}
 use Rattle.model.proofs.NetSays.{seen}
 use Rattle.model.proofs.NetGoing.{Going, first-own}
@@ -106,13 +107,12 @@ module _ {t : Read} {S : List Visit} (G : Given t S) where
 
   -- the first passage ahead is one that the schedule opens
   pub opened-first : {τ : ℕ} {A : ℕ → List Visit} {ws : List Work} → Along τ A ws → (c : ℕ) → c < size (t .table) → (v : Visit) (vs : List Visit) → A c ≡ v ∷ vs
-      → (k : Pick) × Opened (componentOf (t .table) c) (v .entry) v k
+      → Begins c (componentOf (t .table) c) (v .entry) v
   opened-first g c h v vs e =
       let o = first-own limit (t .table) (t .horizon) S (G .sched) (G .checks) g c h v vs e in
       let n : Entered (t .horizon) (v .component) (componentOf (t .table) (v .component)) v = all-in (entered (G .sched)) (o .0) in
       let m : Entered (t .horizon) c (componentOf (t .table) c) v = subst (λ (i : ℕ). Entered (t .horizon) i (componentOf (t .table) i) v) (o .1) n in
-      let k = opens-is c (componentOf (t .table) c) (v .entry) v (m .opens) in
-      (k .0, k .2)
+      record { opens = opened c (componentOf (t .table) c) (v .entry) (m .opens) }
 
 -- the first passage ahead has the number of the works finished
 pub nth-first : (c : ℕ) (S : List Visit) {i : ℕ} (fin : List Visit) {ahead : List Visit} → length fin ≡ i → fin ++ ahead ≡ own c S → (v : Visit) (vs : List Visit) → ahead ≡ v ∷ vs → Nth (own c S) i v
