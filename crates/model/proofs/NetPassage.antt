@@ -1,34 +1,17 @@
 -- One passage in the network: what it needs to be possible there, and what its component may do at each tick of it. Assumes nothing.
 use mathlib.Core.Path.{_≡_}
 use mathlib.Core.Bool.{Bool, true, false, cond}
-use mathlib.Core.List.{List, [], _∷_}
 use mathlib.Core.Option.{none, some}
-use Prim.Native.Nat.{ℕ, suc, _+_, _-_, min, _≤_, _<_}
+use Prim.Native.Nat.{ℕ, suc, _+_, _-_, _≤_, _<_}
 use native.Mathlib.Omega.{arith}
 use borrow.Author.Tests.{le-leb, lt-ltb, eq-eqb}
-use lib.Dec.{eqb}
 use lib.ListN.{length}
-use Rattle.model.specs.declared.Location.{Location}
-use Rattle.model.specs.declared.ClockGuard.{ClockGuard}
 use Rattle.model.specs.Lists.{isNone}
 use Rattle.model.specs.Table.{Component, arcOf, locationOf}
 use Rattle.model.specs.Window.{clockAt, readyOf, pastOf, dataHolds, updated, channelOf, listens}
 use Rattle.model.specs.Schedule.{Visit}
 use Rattle.model.specs.Network.{Taken, Place, inWindow, beforeEnd, atEnd, mayTick, mayStepIn}
-
--- ## The invariant
-
--- before the end of an edge the location's invariant holds, ready or not
-pub invariant : (l : Location) (gs : List ClockGuard) (xs : List ℕ) (d : ℕ) → d < pastOf l gs xs → clockAt xs (l .clock) + d ≤ l .bound
-invariant l [] xs d h = omega arith
-invariant l (g ∷ gs) xs d h = go (invariant l gs xs d) (eqb (g .high) 65535) h
-  where
-    go : (d < pastOf l gs xs → clockAt xs (l .clock) + d ≤ l .bound) → (t : Bool)
-        → d < cond t (pastOf l gs xs) (min (suc (g .high) - clockAt xs (g .clock)) (pastOf l gs xs)) → clockAt xs (l .clock) + d ≤ l .bound
-    go ih true k = ih k
-    go ih false k = ih (omega arith)
-
--- ## A passage that the network allows
+use Rattle.model.proofs.Interval.{invariant}
 
 -- Its edge is there and starts where it is, data bounds hold, updates stay in range, ready and end are those of the edge, and the window is
 -- more than one tick. The message of an edge that does not receive is its channel, if it sends.
@@ -85,4 +68,4 @@ module _ {C : Component} {v : Visit} (f : Fits C v) (τ : ℕ) (since : v .entry
   may-tick true h = before-end true h
   may-tick false h =
       lt-ltb (clockAt (v .entry .clocks) (locationOf C (v .entry .location) .clock) + (τ - v .entry .tick)) (locationOf C (v .entry .location) .bound)
-      (omega (arith, invariant (locationOf C (v .entry .location)) (arcOf C (v .edge) .clockGuards) (v .entry .clocks) (suc (τ - v .entry .tick)) (omega (arith, f .end))))
+      (omega (arith, invariant (locationOf C (v .entry .location)) (v .entry .clocks) (suc (τ - v .entry .tick)) (arcOf C (v .edge) .clockGuards) (omega (arith, f .end))))
