@@ -1,11 +1,11 @@
 -- A block of a program: decoding its bytes gives its statements; where each block of a row of blocks stands. Assumes nothing.
-use mathlib.Core.Path.{_≡_, refl, sym, ap, subst, _∙_}
+use mathlib.Core.Path.{_≡_, ap, subst, _∙_}
 use mathlib.Core.Bool.{true, false}
 use mathlib.Core.List.{List, [], _∷_, _++_, append-assoc}
 use mathlib.Core.Option.{some}
 use Prim.Native.Nat.{ℕ, zero, suc, _+_, _*_, _≤_, _<_}
 use native.Mathlib.Omega.{arith}
-use lib.ListN.{length, getD, drop, length-append}
+use lib.ListN.{length, getD, drop}
 use lib.Seq.{drop-at}
 use Rattle.model.specs.Lists.{All, empty, more, each}
 use Rattle.model.specs.Reader.{word}
@@ -14,6 +14,8 @@ use Rattle.model.specs.Machine.{statementAt, decodeBlock}
 use Rattle.model.proofs.Words.{word-back}
 use Rattle.model.proofs.Walk.{Stands, stands-first, stands-second, stands-at, stands-says}
 use Rattle.model.proofs.DecodeStatement.{Fitting, quads, ends, coded, statement-back}
+use Rattle.model.proofs.ProgramSize.{allQuads, quads-length, four}
+use Rattle.model.proofs.ProgramSize.{block-join as bytes-join}
 
 -- ## One block
 
@@ -55,29 +57,9 @@ decode-back (after {s} {b} h t) (suc most) k r =
 
 -- ## Lengths
 
--- how many times four bytes statements have
-abbrev pub allQuads : List Statement → ℕ
-allQuads [] = 0
-allQuads (s ∷ b) = quads s + allQuads b
-
--- a block's bytes are a multiple of four
-pub block-length : (b : List Statement) → length (blockBytes b) ≡ allQuads b * 4
-unfolding blockBytes each
-block-length [] = refl
-block-length (s ∷ b) = length-append (code s) (each code b) ∙ omega (arith, coded s [] .0, block-length b)
-
--- so many statements of four bytes has a block
-pub statements-is : (b : List Statement) → statements b ≡ allQuads b
-unfolding statements
-statements-is b = rw block-length (omega arith)
-
--- a block has four bytes for each statement counted
-pub statements-length : (b : List Statement) → statements b * 4 ≡ length (blockBytes b)
-statements-length b = omega (arith, statements-is b, block-length b)
-
 -- a block has no more statements than bytes
 pub block-fuel : (b : List Statement) → length b ≤ length (blockBytes b)
-block-fuel b = omega (arith, block-length b, go b)
+block-fuel b = omega (arith, quads-length b, go b)
   where
     go : (l : List Statement) → length l ≤ allQuads l
     go [] = omega arith
@@ -90,12 +72,6 @@ abbrev pub startAt : List (List Statement) → ℕ → ℕ
 startAt [] i = 0
 startAt (b ∷ bs) zero = 0
 startAt (b ∷ bs) (suc i) = statements b + startAt bs i
-
--- the table of starts has two bytes for each block
-pub starts-length : (at : ℕ) (bs : List (List Statement)) → length (startBytes at bs) ≡ length bs * 2
-unfolding startBytes
-starts-length at [] = refl
-starts-length at (b ∷ bs) = omega (arith, starts-length (at + statements b) bs)
 
 -- number i of the table of starts is where block i starts
 pub start-back : (at : ℕ) (bs : List (List Statement)) (r : List ℕ) (i : ℕ) → i < length bs → word (startBytes at bs ++ r) (i * 2) ≡ at + startAt bs i
@@ -115,7 +91,7 @@ blocks-stand (b ∷ bs) w p h zero k =
     let e : p ≡ p + 0 * 4 = omega arith in
     stands-at e (stands-first w p (blockBytes b) (each blockBytes bs) h)
 blocks-stand (b ∷ bs) w p h (suc i) k =
-    let e : p + length (blockBytes b) + startAt bs i * 4 ≡ p + (statements b + startAt bs i) * 4 = omega (arith, statements-length b) in
+    let e : p + length (blockBytes b) + startAt bs i * 4 ≡ p + (statements b + startAt bs i) * 4 = omega (arith, four b) in
     stands-at e (blocks-stand bs w (p + length (blockBytes b)) (stands-second w p (blockBytes b) (each blockBytes bs) h) i (omega arith))
 
 -- a block that stands somewhere is decoded there
@@ -124,17 +100,11 @@ block-stands {w} {p} {b} k h = stands-says (decodeBlock (length w)) (λ r. decod
 
 -- ## Inside a block that stands somewhere
 
--- the bytes of two lists of statements, one after the other
-bytes-join : (a b : List Statement) → blockBytes (a ++ b) ≡ blockBytes a ++ blockBytes b
-unfolding blockBytes each
-bytes-join [] b = refl
-bytes-join (s ∷ a) b = ap (λ l. code s ++ l) (bytes-join a b) ∙ sym (append-assoc (code s) (each code a) (each code b))
-
 module _ (w : List ℕ) (p : ℕ) where
   -- behind the first statements the others stand
   pub rest-stands : (a b : List Statement) → Stands w p (blockBytes (a ++ b)) → Stands w (p + allQuads a * 4) (blockBytes b)
   rest-stands a b h =
-      let e : p + length (blockBytes a) ≡ p + allQuads a * 4 = omega (arith, block-length a) in
+      let e : p + length (blockBytes a) ≡ p + allQuads a * 4 = omega (arith, quads-length a) in
       stands-at e (stands-second w p (blockBytes a) (blockBytes b) (subst (Stands w p) (bytes-join a b) h))
 
   -- the first statement is decoded there

@@ -10,7 +10,8 @@ use Rattle.model.specs.Limits.{Int16, ComponentIn, InLimits}
 use Rattle.model.specs.Program.{Statement, sleep, setTo, addTo, done, send, listen, age, reset, enter, trial, low, high, dataLow, dataHigh, keep, takeEdge, choose, quad, pairQuad, code, blockBytes, statements, locationBlock, edgeBlock, blocks, startBytes, nodeBody, nodeBytes, programBytes}
 use Rattle.model.proofs.Words.{all-join, be16-bytes, unsigned-small}
 use Rattle.model.proofs.DecodeStatement.{Fitting}
-use Rattle.model.proofs.DecodeBlock.{Block, last, after, statements-length}
+use Rattle.model.proofs.ProgramSize.{four}
+use Rattle.model.proofs.DecodeBlock.{Block, last, after}
 use Rattle.model.proofs.DecodeInside.{location-block, edge-block}
 use Rattle.model.proofs.DecodeSize.{blocks-length, node-small}
 
@@ -75,7 +76,7 @@ unfolding startBytes each
 starts-bytes at [] h = empty
 starts-bytes at (b ∷ bs) h =
     all-join (be16-bytes at (omega arith))
-    (starts-bytes (at + statements b) bs (omega (arith, statements-length b, length-append (blockBytes b) (each blockBytes bs))))
+    (starts-bytes (at + statements b) bs (omega (arith, four b, length-append (blockBytes b) (each blockBytes bs))))
 
 module _ (channels : ℕ) (C : Component) (small : channels ≤ 16) (h : ComponentIn channels C) where
   -- all blocks of a node are blocks

@@ -1,11 +1,11 @@
 -- The bytes of one node: its first bytes, and its blocks decoded where the table of starts says. Assumes nothing.
 use mathlib.Core.Path.{_≡_, refl, sym, ap, ap₂, subst, _∙_}
 use mathlib.Core.List.{List, [], _∷_, _++_, map}
-use Prim.Native.Nat.{ℕ, zero, suc, _+_, _*_, _≤_, _<_}
+use Prim.Native.Nat.{ℕ, suc, _+_, _*_, _≤_, _<_}
 use native.Mathlib.Omega.{arith}
-use lib.ListN.{length, getD, drop, length-append, length-map, List·getD-append}
+use lib.ListN.{length, getD, drop, length-map, List·getD-append}
 use lib.Seq.{getD-append-add}
-use Rattle.model.specs.Lists.{be16, each, from, below}
+use Rattle.model.specs.Lists.{be16, each, below}
 use Rattle.model.specs.Table.{Component}
 use Rattle.model.specs.Limits.{ComponentIn}
 use Rattle.model.specs.Reader.{byte, word}
@@ -13,7 +13,8 @@ use Rattle.model.specs.Program.{locationBlock, edgeBlock, blockBytes, bl
 use Rattle.model.specs.Machine.{blockPlace, blockAt, locationCode, edgeCode}
 use Rattle.model.proofs.Words.{word-back}
 use Rattle.model.proofs.Walk.{byte-drop, Stands, stands-first, stands-second, stands-at, stands-whole, stands-says}
-use Rattle.model.proofs.DecodeBlock.{Block, startAt, starts-length, start-back, blocks-stand, block-stands}
+use Rattle.model.proofs.ProgramSize.{length-from, at-from, start-bytes-length, blocks-count}
+use Rattle.model.proofs.DecodeBlock.{Block, startAt, start-back, blocks-stand, block-stands}
 use Rattle.model.proofs.DecodeInside.{location-block, edge-block}
 
 -- the number at i from p on
@@ -24,29 +25,10 @@ word-from bs p i =
 
 -- ## The list of blocks
 
--- so many numbers from k on
-from-length : (k n : ℕ) → length (from k n) ≡ n
-from-length k zero = refl
-from-length k (suc n) = ap suc (from-length (suc k) n)
-
--- what is made of the numbers from k on, by number
-map-from : {A : Type 0} (f : ℕ → A) (d : A) (k n i : ℕ) → i < n → getD (map f (from k n)) i d ≡ f (k + i)
-map-from f d k zero i h = absurd (omega arith)
-map-from f d k (suc n) zero h = let e : k ≡ k + 0 = omega arith in ap f e
-map-from f d k (suc n) (suc i) h = let e : suc k + i ≡ k + suc i = omega arith in map-from f d (suc k) n i (omega arith) ∙ ap f e
-
 module _ (C : Component) where
   -- so many blocks for locations
   locations-count : length (map (locationBlock C) (below (length (C .locations)))) ≡ length (C .locations)
-  locations-count = length-map (below (length (C .locations))) (locationBlock C) ∙ from-length 0 (length (C .locations))
-
-  -- one block for each location and each edge
-  pub blocks-count : length (blocks C) ≡ length (C .locations) + length (C .arcs)
-  unfolding blocks
-  blocks-count =
-      let L = map (locationBlock C) (below (length (C .locations))) in
-      let E = map (edgeBlock C) (below (length (C .arcs))) in
-      omega (arith, length-append L E, locations-count, length-map (below (length (C .arcs))) (edgeBlock C), from-length 0 (length (C .arcs)))
+  locations-count = length-map (below (length (C .locations))) (locationBlock C) ∙ length-from 0 (length (C .locations))
 
   -- the blocks of the locations come first
   pub location-at : (l : ℕ) → l < length (C .locations) → getD (blocks C) l [] ≡ locationBlock C l
@@ -55,7 +37,7 @@ module _ (C : Component) where
       let L = map (locationBlock C) (below (length (C .locations))) in
       let E = map (edgeBlock C) (below (length (C .arcs))) in
       let e : 0 + l ≡ l = omega arith in
-      List·getD-append L E [] l (omega (arith, locations-count)) ∙ map-from (locationBlock C) [] 0 (length (C .locations)) l h ∙ ap (locationBlock C) e
+      List·getD-append L E [] l (omega (arith, locations-count)) ∙ at-from (locationBlock C) [] 0 (length (C .locations)) l h ∙ ap (locationBlock C) e
 
   -- then the blocks of the edges
   pub edge-at : (e : ℕ) → e < length (C .arcs) → getD (blocks C) (length (C .locations) + e) [] ≡ edgeBlock C e
@@ -65,7 +47,7 @@ module _ (C : Component) where
       let E = map (edgeBlock C) (below (length (C .arcs))) in
       let i : length (C .locations) + e ≡ length L + e = omega (arith, locations-count) in
       let z : 0 + e ≡ e = omega arith in
-      ap (λ n. getD (L ++ E) n []) i ∙ getD-append-add L E e [] ∙ map-from (edgeBlock C) [] 0 (length (C .arcs)) e h ∙ ap (edgeBlock C) z
+      ap (λ n. getD (L ++ E) n []) i ∙ getD-append-add L E e [] ∙ at-from (edgeBlock C) [] 0 (length (C .arcs)) e h ∙ ap (edgeBlock C) z
 
   -- ## The node's bytes
 
@@ -101,7 +83,7 @@ module _ (C : Component) where
 
   -- where block i is looked for
   place-is : (i : ℕ) → i < length (blocks C) → 6 + length (startBytes 0 (blocks C)) + startAt (blocks C) i * 4 ≡ blockPlace (nodeBytes C) i
-  place-is i h = omega (arith, starts-length 0 (blocks C), blocks-count, start-at i h, node-head .0, node-head .1)
+  place-is i h = omega (arith, start-bytes-length 0 (blocks C), blocks-count C, start-at i h, node-head .0, node-head .1)
 
   -- block i stands there
   pub block-there : (i : ℕ) → i < length (blocks C) → Stands (nodeBytes C) (blockPlace (nodeBytes C) i) (blockBytes (getD (blocks C) i []))

@@ -1,5 +1,5 @@
 -- How long the program of a node in the limits is: its length and its starts have two bytes. Assumes nothing.
-use mathlib.Core.Path.{_≡_, refl, ap, _∙_}
+use mathlib.Core.Path.{_≡_, ap}
 use mathlib.Core.Bool.{Bool, true, false, cond}
 use mathlib.Core.List.{List, [], _∷_, _++_, map}
 use Prim.Native.Nat.{ℕ, zero, suc, _+_, _*_, _≤_, _<_}
@@ -9,58 +9,19 @@ use lib.ListN.{length, length-append}
 use Rattle.model.specs.declared.Action.{Action}
 use Rattle.model.specs.declared.Action.the-variants.{Internal, Send, Receive}
 use Rattle.model.specs.declared.Location.{Location}
-use Rattle.model.specs.declared.ClockGuard.{ClockGuard}
-use Rattle.model.specs.declared.DataGuard.{DataGuard}
-use Rattle.model.specs.declared.Update.{Update}
 use Rattle.model.specs.declared.Sizes.{Sizes}
 use Rattle.model.specs.Lists.{All, empty, more, each, from, below}
 use Rattle.model.specs.Table.{Arc, Component, sizesOf, noArc, locationOf, arcOf}
 use Rattle.model.specs.Limits.{ActionIn, ArcIn, ComponentIn}
-use Rattle.model.specs.Window.{masked}
-use Rattle.model.specs.Program.{Statement, setTo, addTo, age, reset, high, enter, choose, keep, done, takeEdge, clockTests, dataTests, trialOf, trials, locationBlock, updateOf, workOf, ageing, edgeBlockOf, edgeBlock, blockBytes, blocks, startBytes, nodeBody, nodeBytes}
+use Rattle.model.specs.Program.{Statement, takeEdge, trialOf, trials, locationBlock, edgeBlockOf, edgeBlock, blockBytes, blocks, startBytes, nodeBody, nodeBytes}
 use Rattle.model.proofs.Walk.{all-at}
-use Rattle.model.proofs.DecodeStatement.{quads}
-use Rattle.model.proofs.DecodeBlock.{allQuads, block-length, starts-length}
-use Rattle.model.proofs.DecodeNode.{blocks-count}
+use Rattle.model.proofs.ProgramSize.{each-join, allQuads, quads-length, block-length, trial-length, clock-tests-most, trial-parts, workLength, edge-block-length, start-bytes-length, blocks-count}
 
 -- ## Counts of statements
 
 -- two lists, one after the other
 quads-join : (a b : List Statement) → allQuads (a ++ b) ≡ allQuads a + allQuads b
-quads-join [] b = omega arith
-quads-join (s ∷ a) b = omega (arith, quads-join a b)
-
--- at most two for a clock bound
-clocks-count : (gs : List ClockGuard) → allQuads (clockTests gs) ≤ length gs * 2
-clocks-count [] = omega arith
-clocks-count (g ∷ gs) = omega (arith, clocks-count gs, go (eqb (g .high) 65535))
-  where
-    go : (t : Bool) → allQuads (cond t (clockTests gs) (high (g .clock) (g .high) ∷ clockTests gs)) ≤ 1 + allQuads (clockTests gs)
-    go true = omega arith
-    go false = omega arith
-
--- two for a data bound
-datas-count : (gs : List DataGuard) → allQuads (dataTests gs) ≡ length gs * 2
-datas-count [] = omega arith
-datas-count (g ∷ gs) = omega (arith, datas-count gs)
-
--- one for an update
-updates-count : (us : List Update) → allQuads (map updateOf us) ≡ length us
-updates-count [] = refl
-updates-count (u ∷ us) = omega (arith, updates-count us, go (u .adds))
-  where
-    go : (t : Bool) → quads (cond t (addTo (u .variable) (u .number)) (setTo (u .variable) (u .number))) ≡ 1
-    go true = refl
-    go false = refl
-
--- one for a clock
-ageing-count : (mask k n : ℕ) → allQuads (map (ageing mask) (from k n)) ≡ n
-ageing-count mask k zero = refl
-ageing-count mask k (suc n) = omega (arith, ageing-count mask (suc k) n, go (masked mask k))
-  where
-    go : (t : Bool) → quads (cond t (reset k) (age k)) ≡ 1
-    go true = refl
-    go false = refl
+quads-join a b = omega (arith, block-length a b, quads-length (a ++ b), quads-length a, quads-length b)
 
 module _ (s : Sizes) where
   -- at most four data bounds
@@ -72,9 +33,7 @@ module _ (s : Sizes) where
   -- at most 19 for the trial of an edge
   trial-count : (l : Location) (e : ℕ) (a : Arc) → ArcIn s a → allQuads (trialOf l e a) ≤ 19
   trial-count l e a h =
-      let X = clockTests (a .clockGuards) in
-      let Y = dataTests (a .dataGuards) in
-      omega (arith, quads-join X (Y ++ (keep e ∷ [])), quads-join Y (keep e ∷ []), clocks-count (a .clockGuards), datas-count (a .dataGuards), guards-count a (a .edge .action) (h .action))
+      omega (arith, quads-length (trialOf l e a), trial-length l e a, trial-parts a, clock-tests-most (a .clockGuards), guards-count a (a .edge .action) (h .action))
 
   -- at most 19 for each edge
   trials-count : (l : Location) (here e : ℕ) {as′ : List Arc} → All (ArcIn s) as′ → allQuads (trials l here e as′) ≤ length as′ * 19
@@ -86,19 +45,16 @@ module _ (s : Sizes) where
       go r k true = omega (arith, quads-join (trialOf l e a) r, trial-count l e a h)
       go r k false = omega arith
 
-  -- at most nine for the work of an edge
-  work-count : (a : Arc) (act : Action) → ActionIn s a act → allQuads (workOf a act) ≤ 9
-  work-count a Internal h = omega (arith, quads-join (map updateOf (a .updates)) (done ∷ []), updates-count (a .updates))
-  work-count a (Send k) h = omega arith
-  work-count a Receive h = omega arith
+  -- at most 36 bytes for the work of an edge
+  work-small : (a : Arc) (act : Action) → ActionIn s a act → workLength a act ≤ 36
+  unfolding workLength
+  work-small a Internal h = omega arith
+  work-small a (Send k) h = omega arith
+  work-small a Receive h = omega arith
 
   -- at most 16 for the block of an edge
   edge-count : (n : ℕ) (a : Arc) → n ≤ 4 → ArcIn s a → allQuads (edgeBlockOf n a) ≤ 16
-  edge-count n a k h =
-      let W = workOf a (a .edge .action) in
-      let A = map (ageing (a .edge .mask)) (below n) in
-      let Z = enter (a .edge .destination) ∷ choose ∷ [] in
-      omega (arith, quads-join W (A ++ Z), quads-join A Z, work-count a (a .edge .action) (h .action), ageing-count (a .edge .mask) 0 n)
+  edge-count n a k h = omega (arith, quads-length (edgeBlockOf n a), edge-block-length n a, work-small a (a .edge .action) (h .action))
 
 -- ## Lengths of rows
 
@@ -111,13 +67,6 @@ module _ (f : ℕ → List Statement) (m : ℕ) where
       let R = each blockBytes (map f (from (suc k) n)) in
       let t = row-length (suc k) n (λ i u. h i (omega arith)) in
       omega (arith, length-append (blockBytes (f k)) R, h k (omega arith), t)
-
--- two rows, one after the other
-row-join : (xs ys : List (List Statement)) → length (each blockBytes (xs ++ ys)) ≡ length (each blockBytes xs) + length (each blockBytes ys)
-unfolding each
-row-join [] ys = omega arith
-row-join (x ∷ xs) ys =
-    length-append (blockBytes x) (each blockBytes (xs ++ ys)) ∙ omega (arith, row-join xs ys, length-append (blockBytes x) (each blockBytes xs))
 
 -- ## The laws
 
@@ -140,9 +89,9 @@ module _ (channels : ℕ) (C : Component) (h : ComponentIn channels C) where
   blocks-length =
       let L = map (locationBlock C) (below (length (C .locations))) in
       let E = map (edgeBlock C) (below (length (C .arcs))) in
-      let x = row-length (locationBlock C) 2436 0 (length (C .locations)) (λ i u. omega (arith, block-length (locationBlock C i), location-count i)) in
-      let y = row-length (edgeBlock C) 64 0 (length (C .arcs)) (λ i u. omega (arith, block-length (edgeBlock C i), edge-counted i (omega arith))) in
-      omega (arith, row-join L E)
+      let x = row-length (locationBlock C) 2436 0 (length (C .locations)) (λ i u. omega (arith, quads-length (locationBlock C i), location-count i)) in
+      let y = row-length (edgeBlock C) 64 0 (length (C .arcs)) (λ i u. omega (arith, quads-length (edgeBlock C i), edge-counted i (omega arith))) in
+      omega (arith, ap length (each-join blockBytes L E), length-append (each blockBytes L) (each blockBytes E))
 
   -- a node has at most 41,126 bytes
   pub node-small : length (nodeBytes C) ≤ 41126
@@ -150,4 +99,4 @@ module _ (channels : ℕ) (C : Component) (h : ComponentIn channels C) where
   node-small =
       let S = startBytes 0 (blocks C) in
       let B = each blockBytes (blocks C) in
-      omega (arith, length-append S B, starts-length 0 (blocks C), blocks-count C, blocks-length)
+      omega (arith, length-append S B, start-bytes-length 0 (blocks C), blocks-count C, blocks-length)

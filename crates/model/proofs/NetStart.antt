@@ -2,17 +2,18 @@
 use mathlib.Core.Path.{_≡_, refl, sym, ap, subst, _∙_}
 use mathlib.Core.Bool.{false}
 use mathlib.Core.List.{List, [], _∷_, map}
-use Prim.Native.Nat.{ℕ, zero, suc, _+_, _<_}
+use Prim.Native.Nat.{ℕ, _+_, _<_}
 use native.Mathlib.Omega.{arith}
 use lib.ListN.{length, getD, length-map, List·getD-map}
 use lib.Seq.{ext-getD}
-use Rattle.model.specs.Lists.{from, below, empty}
+use Rattle.model.specs.Lists.{below, empty}
 use Rattle.model.specs.Table.{Table, size, componentOf, noComponent}
 use Rattle.model.specs.Window.{Entry}
 use Rattle.model.specs.Schedule.{Visit, own}
 use Rattle.model.specs.Chains.{IsSchedule}
 use Rattle.model.specs.Network.{State, Place, noPlace, start, startPlace, entersAt}
 use Rattle.model.proofs.Bools.{clash}
+use Rattle.model.proofs.ProgramSize.{length-from, at-from}
 use Rattle.model.proofs.NetLinks.{Linked, schedule-linked}
 use Rattle.model.proofs.NetWays.{no-way, same-way}
 use Rattle.model.proofs.NetLanes.{Lane, lane, noLane, laneAt, place, stateOf, ahead, Settled, place-at}
@@ -26,17 +27,6 @@ laneFrom (v ∷ vs) = lane v false vs
 -- all of them
 abbrev pub startLanes : List Visit → ℕ → List Lane
 startLanes S n = map (λ c. laneFrom (own c S)) (below n)
-
--- so many numbers
-length-from : (i n : ℕ) → length (from i n) ≡ n
-length-from i zero = refl
-length-from i (suc n) = ap suc (length-from (suc i) n)
-
--- the image of the numbers from i on
-at-from : {A : Type 0} (f : ℕ → A) (d : A) (i n c : ℕ) → c < n → getD (map f (from i n)) c d ≡ f (i + c)
-at-from f d i zero c h = absurd (omega arith)
-at-from f d i (suc n) zero h = let z : i ≡ i + 0 = omega arith in ap f z
-at-from f d i (suc n) (suc c) h = let z : suc i + c ≡ i + suc c = omega arith in at-from f d (suc i) n c (omega arith) ∙ ap f z
 
 module _ (limit : ℕ) (T : Table) (H : ℕ) (S : List Visit) (sched : IsSchedule limit T H S) where
   -- the lanes at the start

@@ -20,9 +20,10 @@ use Rattle.model.specs.Bytes.{locationBytes, kindOf, itemCount, arcBytes
 use Rattle.model.specs.Limits.{ArcIn, ComponentIn, InLimits}
 use Rattle.model.specs.Places.{itemsLength}
 use Rattle.model.specs.Window.{masked}
-use Rattle.model.specs.Program.{Statement, sleep, setTo, addTo, done, send, listen, age, reset, enter, trial, low, high, dataLow, dataHigh, keep, takeEdge, choose, clockTests, dataTests, trialOf, trials, locationBlock, updateOf, workOf, ageing, edgeBlockOf, edgeBlock, pairQuad, code, blockBytes, statements, blocks, startBytes, nodeBody, nodeBytes, programBytes}
+use Rattle.model.specs.Program.{Statement, setTo, addTo, done, listen, age, reset, enter, low, high, keep, takeEdge, choose, clockTests, dataTests, trialOf, trials, locationBlock, updateOf, workOf, ageing, edgeBlockOf, edgeBlock, pairQuad, code, blockBytes, statements, blocks, startBytes, nodeBody, nodeBytes, programBytes}
 use Rattle.model.proofs.Walk.{each-length}
 use Rattle.model.proofs.ArcPlaces.{arc-length}
+use Rattle.model.proofs.DecodeStatement.{quads, coded}
 
 -- ## Sums over lists
 
@@ -93,6 +94,12 @@ map-from : {B : Type 0} (f : ℕ → B) (i n : ℕ) → map f (from (suc i) n) �
 map-from f i zero = refl
 map-from {B} f i (suc n) = ap (λ (l : List B). f (suc i) ∷ l) (map-from f (suc i) n)
 
+-- what is made of the numbers from k on, by number
+pub at-from : {A : Type 0} (f : ℕ → A) (d : A) (k n i : ℕ) → i < n → getD (map f (from k n)) i d ≡ f (k + i)
+at-from f d k zero i h = absurd (omega arith)
+at-from f d k (suc n) zero h = let e : k ≡ k + 0 = omega arith in ap f e
+at-from f d k (suc n) (suc i) h = let e : suc k + i ≡ k + suc i = omega arith in at-from f d (suc k) n i (omega arith) ∙ ap f e
+
 -- what is made of each by its number is made of each
 pub by-number : {A B : Type 0} (g : A → B) (d : A) (xs : List A) → map (λ i. g (getD xs i d)) (below (length xs)) ≡ map g xs
 by-number g d [] = refl
@@ -100,54 +107,20 @@ by-number {A} {B} g d (x ∷ xs) = ap (λ (l : List B). g x ∷ l) (map-from (λ
 
 -- ## Statements
 
--- how many statements of four bytes a statement has
-abbrev sizeOf : Statement → ℕ
-sizeOf (listen qs) = suc (length qs)
-sizeOf sleep = 1
-sizeOf (setTo v k) = 1
-sizeOf (addTo v k) = 1
-sizeOf done = 1
-sizeOf (send k) = 1
-sizeOf (age i) = 1
-sizeOf (reset i) = 1
-sizeOf (enter l) = 1
-sizeOf trial = 1
-sizeOf (low i k) = 1
-sizeOf (high i k) = 1
-sizeOf (dataLow v k) = 1
-sizeOf (dataHigh v k) = 1
-sizeOf (keep e) = 1
-sizeOf takeEdge = 1
-sizeOf choose = 1
+-- how many times four bytes statements have
+abbrev pub allQuads : List Statement → ℕ
+allQuads [] = 0
+allQuads (s ∷ b) = quads s + allQuads b
 
-code-size : (s : Statement) → length (code s) ≡ 4 * sizeOf s
-unfolding code
-code-size (listen qs) = omega (arith, each-length pairQuad 4 (λ q. refl) qs)
-code-size sleep = refl
-code-size (setTo v k) = refl
-code-size (addTo v k) = refl
-code-size done = refl
-code-size (send k) = refl
-code-size (age i) = refl
-code-size (reset i) = refl
-code-size (enter l) = refl
-code-size trial = refl
-code-size (low i k) = refl
-code-size (high i k) = refl
-code-size (dataLow v k) = refl
-code-size (dataHigh v k) = refl
-code-size (keep e) = refl
-code-size takeEdge = refl
-code-size choose = refl
+pub quads-length : (b : List Statement) → length (blockBytes b) ≡ 4 * allQuads b
+unfolding blockBytes each
+quads-length [] = refl
+quads-length (s ∷ b) = length-append (code s) (each code b) ∙ omega (arith, coded s [] .0, quads-length b)
 
 -- a block's bytes are whole statements
 pub four : (b : List Statement) → length (blockBytes b) ≡ 4 * statements b
-unfolding statements blockBytes each
-four b = let (n, e) = go b in omega (arith, e)
-  where
-    go : (l : List Statement) → (n : ℕ) × (length (each code l) ≡ 4 * n)
-    go [] = (0, refl)
-    go (s ∷ l) = let (n, e) = go l in (sizeOf s + n, length-append (code s) (each code l) ∙ omega (arith, code-size s, e))
+unfolding statements
+four b = omega (arith, quads-length b)
 
 -- the bytes of two runs of statements
 pub block-join : (a b : List Statement) → blockBytes (a ++ b) ≡ blockBytes a ++ blockBytes b

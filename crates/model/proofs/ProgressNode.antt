@@ -19,7 +19,7 @@ use Rattle.model.specs.Run.{taking, standOf}
 use Rattle.model.proofs.Bools.{clash, and-is}
 use Rattle.model.proofs.BlockLaw.{tests}
 use Rattle.model.proofs.Choice.{choice-picked}
-use Rattle.model.proofs.DecodeBlock.{allQuads}
+use Rattle.model.proofs.ProgramSize.{allQuads}
 use Rattle.model.proofs.DecodeSize.{location-count, edge-counted}
 use Rattle.model.proofs.NodeChoosing.{Coded, trialsAt, Choosing, left-tests, choosing-taking, at-take, Asleep, take-step, asleep-sleeping}
 use Rattle.model.proofs.NodeAgeing.{Ageing, ageingFrom, Entered, choose-step}

@@ -10,7 +10,7 @@ use Rattle.model.specs.Machine.{Node, exec, finish, to}
 use Rattle.model.specs.Run.{Stand, sleeping, sending, listening, finishing, adding, working, taking, elsewhere, nowhere, stand, standAt, standOf}
 use Rattle.model.proofs.Bools.{clash, and-is}
 use Rattle.model.proofs.BlockLaw.{tests}
-use Rattle.model.proofs.DecodeBlock.{allQuads}
+use Rattle.model.proofs.ProgramSize.{allQuads}
 use Rattle.model.proofs.NodeFacts.{sleepsAfter, exec-sleeps}
 
 -- ## The number
