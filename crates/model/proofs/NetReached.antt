@@ -11,6 +11,8 @@ use Rattle.model.specs.Lists.{All, empty, more}
 use Rattle.model.specs.Table.{Component, Table, size, componentOf}
 use Rattle.model.specs.Schedule.{Visit, own}
 use Rattle.model.specs.Network.{Label, tick, stepIn, together, start, Work, one, two}
+use Rattle.model.proofs.Words.{all-join}
+use Rattle.model.proofs.Own.{all-then}
 use Rattle.model.proofs.NetPassage.{Fits}
 use Rattle.model.proofs.NetLinks.{first-fits}
 use Rattle.model.proofs.NetWays.{Way, then-way, same-way}
@@ -42,16 +44,6 @@ pub map-append : {A B : Type 0} (f : A → B) (xs ys : List A) → map f (xs ++ 
 map-append f [] ys = refl
 map-append f (x ∷ xs) ys = ap (λ (l : List _). f x ∷ l) (map-append f xs ys)
 
--- what holds of all of two lists holds of all of the one after the other
-pub all-append : {A : Type 0} {P : A → Type 0} {xs ys : List A} → All P xs → All P ys → All P (xs ++ ys)
-all-append empty b = b
-all-append (more p a) b = more p (all-append a b)
-
--- what follows from a property follows of all
-pub all-map : {A : Type 0} {P Q : A → Type 0} {xs : List A} → ((x : A) → P x → Q x) → All P xs → All Q xs
-all-map f empty = empty
-all-map f (more {x = x} p a) = more (f x p) (all-map f a)
-
 -- ## Those step out that are to
 
 -- one component
@@ -78,7 +70,7 @@ settle-stands {H} {C} {vs} {τ} {past} K s = go (turn τ K)
               ∙ append-snoc past (K .visit) (v ∷ ns)
               ∙ ap (λ (y : List Visit). past ++ (K .visit ∷ y)) (sym n)
               ∙ s .whole;
-          over = all-append (s .over) (subst (λ (y : List Visit). All (λ v. Fits C v × (v .end ≤ τ)) y) (sym l) (more (first-fits (s .good .linked), omega arith) empty));
+          over = all-join (s .over) (subst (λ (y : List Visit). All (λ v. Fits C v × (v .end ≤ τ)) y) (sym l) (more (first-fits (s .good .linked), omega arith) empty));
           good = good;
         }
 
@@ -119,7 +111,7 @@ module _ (T : Table) (H : ℕ) (S : List Visit) where
         subst (λ (vs : List Work). Reached T H S (p ++ (tick ∷ outs (suc τ) 0 L)) (suc τ) (settleAll (suc τ) L) vs) (append-nil ws)
         (further L r (tick-event T H τ L (r .count) goods later) (r .count) (λ c h.
         let s = r .stands c h in
-        record { whole = s .whole; over = all-map (λ v k. (k .0, omega (arith, k .1))) (s .over); good = good-later (s .good) (later c h) }))
+        record { whole = s .whole; over = all-then (λ v k. (k .0, omega (arith, k .1))) (s .over); good = good-later (s .good) (later c h) }))
       where
         later : (c : ℕ) → c < size T → τ < laneAt L c .visit .end
         later c h = ends-later (laneAt L c) (r .settled c h) below (unfinished c h)

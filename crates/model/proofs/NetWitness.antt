@@ -11,9 +11,11 @@ use Rattle.model.specs.Table.{Table, size, componentOf}
 use Rattle.model.specs.Schedule.{Visit, own}
 use Rattle.model.specs.Network.{State, Label, start, follow, passagesOn, Work, worksOn, Observation, observationsOn}
 use Rattle.model.specs.Demand3.{PassAs, SteppedBefore, Begins}
+use Rattle.model.proofs.Words.{all-join}
+use Rattle.model.proofs.Own.{all-then}
 use Rattle.model.proofs.NetLinks.{Links, next-links, next-later}
 use Rattle.model.proofs.NetLanes.{Lane, laneAt, stateOf, aheadOf, Good}
-use Rattle.model.proofs.NetReached.{Stands, all-append, all-map}
+use Rattle.model.proofs.NetReached.{Stands}
 use Rattle.model.proofs.NetSays.{seen, reached-valid, reached-works, reached-scheduled, reached-kept, reached-shows-finished, reached-shows-ready}
 use Rattle.model.proofs.NetPassing.{Passing}
 
@@ -105,12 +107,12 @@ module _ (T : Table) (H : ℕ) (S : List Visit) {τ : ℕ} {A : ℕ → List Vis
       s = g .reached .stands c h
 
       ready : All (λ v. v .ready ≤ τ) past
-      ready = all-map (λ v k. omega (arith, k .0 .window, k .1)) (s .over)
+      ready = all-then (λ v k. omega (arith, k .0 .window, k .1)) (s .over)
 
       go : (t : Bool) → K .done ≡ t → aheadOf t (K .visit) (K .next) ≡ A c → (fin : List Visit) × (fin ++ A c ≡ own c S) × All (λ v. v .ready ≤ τ) fin
       go true d i = (
         past ++ (K .visit ∷ []),
         ap (λ (x : List Visit). (past ++ (K .visit ∷ [])) ++ x) (sym i) ∙ append-snoc past (K .visit) (K .next) ∙ s .whole,
-        all-append ready (more (s .good .begun d) empty),
+        all-join ready (more (s .good .begun d) empty),
       )
       go false d i = (past, ap (λ (x : List Visit). past ++ x) (sym i) ∙ s .whole, ready)

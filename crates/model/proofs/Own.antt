@@ -36,11 +36,6 @@ module _ {A : Type 0} {P : A → Type 0} where
   at-all d [] f = empty
   at-all d (x ∷ xs) f = more (f 0 (omega arith)) (at-all d xs (λ i h. f (suc i) (omega arith)))
 
-  -- of two lists, one after the other
-  pub all-append : {xs ys : List A} → All P xs → All P ys → All P (xs ++ ys)
-  all-append empty b = b
-  all-append (more p a) b = more p (all-append a b)
-
 -- what holds of the one stored, and of every other as before, holds after it is stored
 pub at-set : (vs : List Visit) (i : ℕ) (w : Visit) → i < length vs → (Q : ℕ → Visit → Type 0) → Q i w → (c : ℕ) → ((c ≡ i → ⊥) → Q c (visitAt vs c)) → Q c (visitAt (set vs i w) c)
 at-set vs i w h Q q c f = by-cases (ℕ-discrete c i)

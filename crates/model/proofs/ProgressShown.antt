@@ -17,8 +17,9 @@ use Rattle.model.specs.Checks.{planOf}
 use Rattle.model.specs.Run.{settingOf, Run, Result, nodeOf, ticked, run, startRun}
 use Rattle.model.specs.Demand3.{observationsOf}
 use Rattle.model.specs.Progress.{readyPassages, dueOf, ReachesBy, Reaches, Continues, Happens}
+use Rattle.model.proofs.Words.{all-join}
 use Rattle.model.proofs.Members.{only-append}
-use Rattle.model.proofs.NetReached.{all-append, all-map}
+use Rattle.model.proofs.Own.{all-then}
 use Rattle.model.proofs.NetSays.{seen}
 use Rattle.model.proofs.NetWitness.{ahead-rest}
 use Rattle.model.proofs.WholeLimits.{read-limits}
@@ -60,7 +61,7 @@ module _ {t : Read} {S : List Visit} (G : Given t S) {s : Run} (k : Live G s) (p
   fin-ready =
       let r = ahead-rest (t .table) (t .horizon) S (k .tied .going .passing) c h in
       let same : r .0 ≡ K .fin = append-cancel-right (r .0) (K .fin) (k .tied .ahead c) (r .1 ∙ sym (K .whole)) in
-      subst (All (λ v. ltb (v .ready) (t .horizon) ≡ true)) same (all-map (λ v i. lt-ltb (v .ready) (t .horizon) (omega arith)) (r .2))
+      subst (All (λ v. ltb (v .ready) (t .horizon) ≡ true)) same (all-then (λ v i. lt-ltb (v .ready) (t .horizon) (omega arith)) (r .2))
 
   -- those that were observed: the first of the schedule, all ready before the horizon
   front : (rest : List Visit) × ((K .fin ++ K .more) ++ rest ≡ own c S) × All (λ v. ltb (v .ready) (t .horizon) ≡ true) (K .fin ++ K .more)
@@ -72,14 +73,14 @@ module _ {t : Read} {S : List Visit} (G : Given t S) {s : Run} (k : Live G s) (p
       none : K .more ≡ [] → Front (K .more)
       none m =
           subst Front (sym m)
-          (k .tied .ahead c, ap (λ (l : List Visit). l ++ k .tied .ahead c) (append-nil (K .fin)) ∙ K .whole, all-append fin-ready empty)
+          (k .tied .ahead c, ap (λ (l : List Visit). l ++ k .tied .ahead c) (append-nil (K .fin)) ∙ K .whole, all-join fin-ready empty)
 
       go : Held (t .horizon) (componentOf (t .table) c) (s .tick) (K .count) (nodeOf s c) (k .tied .ahead c) (K .more) → Front (K .more)
       go (coming v vs a m l q) = none m
       go (waiting v vs a m l j q) = none m
       go (busy v vs a m l b j q) =
           subst Front (sym m)
-          (vs, append-snoc (K .fin) v vs ∙ (ap (λ (l : List Visit). K .fin ++ l) (sym a) ∙ K .whole), all-append fin-ready (more (lt-ltb (v .ready) (t .horizon) b) empty))
+          (vs, append-snoc (K .fin) v vs ∙ (ap (λ (l : List Visit). K .fin ++ l) (sym a) ∙ K .whole), all-join fin-ready (more (lt-ltb (v .ready) (t .horizon) b) empty))
       go (leaving at a m l q) = none m
       go (resting at a m l j q) = none m
 

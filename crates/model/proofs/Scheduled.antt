@@ -14,10 +14,11 @@ use Rattle.model.specs.Schedule.{Visit, own, messageIn, withMessage, sta
 use Rattle.model.specs.Checks.{noVisit, visitAt}
 use Rattle.model.specs.Chains.{Before, Ordered, IsSchedule}
 use Rattle.model.specs.Chains.{none as no-passage, more as first-passage}
+use Rattle.model.proofs.Words.{all-join}
 use Rattle.model.proofs.Parts.{refused-clash, accepted-same, after-ok}
 use Rattle.model.proofs.Opening.{Opened, opened}
 use Rattle.model.proofs.Messages.{put, message-put, message-bare}
-use Rattle.model.proofs.Own.{at-snoc, in-all, all-in, all-append, all-then, all-map, own-here, own-other, own-append, own-put, at-all}
+use Rattle.model.proofs.Own.{at-snoc, in-all, all-in, all-then, all-map, own-here, own-other, own-append, own-put, at-all}
 use Rattle.model.proofs.Loop.{told, Sound, Added, loop}
 
 -- ## Order
@@ -25,7 +26,7 @@ use Rattle.model.proofs.Loop.{told, Sound, Added, loop}
 -- two ordered lists, each of the first before each of the second
 pub ordered-append : {xs ys : List Visit} → Ordered xs → Ordered ys → All (λ x. All (Before x) ys) xs → Ordered (xs ++ ys)
 ordered-append no-passage o a = o
-ordered-append (first-passage b p) o (more f a) = first-passage (all-append b f) (ordered-append p o a)
+ordered-append (first-passage b p) o (more f a) = first-passage (all-join b f) (ordered-append p o a)
 
 -- messages put in do not change the order
 pub ordered-put : (g : Visit → Option ℕ) {vs : List Visit} → Ordered vs → Ordered (map (put g) vs)
@@ -136,7 +137,7 @@ module _ (T : Table) (H : ℕ) where
     finished-is =
         record {
           few = omega (arith, length-map W (told T H W), ap length (a .is), length-append vs (a .more), st .full, a .few);
-          present = all-map (told T H W) (subst (All (λ v. v .component < size T)) (sym (a .is)) (all-append (at-all noVisit vs (λ i h. omega (arith, numbered i h, st .full))) (a .present)));
+          present = all-map (told T H W) (subst (All (λ v. v .component < size T)) (sym (a .is)) (all-join (at-all noVisit vs (λ i h. omega (arith, numbered i h, st .full))) (a .present)));
           chains = λ c h.
               record {
                 head = told T H W (visitAt vs c);

@@ -18,7 +18,7 @@ use Rattle.model.specs.Network.{Place, Work, Observation, observation, t
 use Rattle.model.specs.Machine.{Node}
 use Rattle.model.specs.Run.{Setting, settingOf, Run, Outcome, forbidden, on, over, Stand, sleeping, sending, listening, finishing, adding, working, taking, elsewhere, nowhere, standOf, nodeOf, windowEnd, ownTick, moved, ticked, sent, listeners, finishes, someDue, lateNodes, afterTick, choose1, continue, runFrom, run}
 use Rattle.model.specs.Demand3.{PassAs, Begins, observationsOf, Demand3}
-use Rattle.model.proofs.Own.{all-append}
+use Rattle.model.proofs.Words.{all-join}
 use Rattle.model.proofs.WholeLimits.{read-limits}
 use Rattle.model.proofs.WholeTied.{given}
 use Rattle.model.proofs.WholeStart.{tied-start}
@@ -85,7 +85,7 @@ leaves-if n false h k = k
 module _ (g : Setting) {n : ℕ} {s : Run} (k : Shown n s) where
   -- one node moved
   moves : (c : ℕ) (r : Node) (os : List Observation) (ws : List Work) → All (λ o. o .component < n) os → Shown n (moved s c r os ws)
-  moves c r os ws h = record { full = length-set (s .nodes) c r ∙ k .full; shown = all-append (k .shown) h }
+  moves c r os ws h = record { full = length-set (s .nodes) c r ∙ k .full; shown = all-join (k .shown) h }
 
   sends : (c a : ℕ) (is : List ℕ) → Leaves n (sent g s c a is)
   sends c a [] = no
