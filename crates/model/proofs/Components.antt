@@ -12,17 +12,12 @@ use Rattle.model.specs.Lists.{All, empty, more, Bytes, be16, each, accep
 use Rattle.model.specs.Table.{Arc, Component, sizesOf}
 use Rattle.model.specs.Bytes.{locationBytes, arcBytes, bodyBytes, componentBytes}
 use Rattle.model.specs.Limits.{LocationIn, ArcIn, ComponentIn}
-use Rattle.model.specs.Reader.{byte, word, ok, many, readLocation, readArc, headFine, sizesAt, componentWith, finished, readBody, readComponent, about, atEnd, lengthFits, readComponents}
+use Rattle.model.specs.Reader.{byte, word, ok, many, readLocation, readArc, headFine, sizesAt, componentWith, readBody, readComponent, about, atEnd, lengthFits, readComponents}
 use Rattle.model.proofs.Bools.{tests}
 use Rattle.model.proofs.Words.{all-before, word-back, word-bytes}
-use Rattle.model.proofs.Parts.{fault-clash, refused-clash, after-ok, cond-accepted, about-ok, accepted-same, then-ok, ok-same, head-ok, head-reads, from, firsts-rest, bytes-drop, Said, said-is, Agrees, Counted, many-agrees}
+use Rattle.model.proofs.Parts.{refused-clash, after-ok, cond-accepted, about-ok, accepted-same, then-ok, finished-ok, head-ok, head-reads, from, firsts-rest, bytes-drop, Said, said-is, Agrees, Counted, many-agrees}
 use Rattle.model.proofs.Fixed.{location-agrees}
 use Rattle.model.proofs.Edges.{arc-agrees}
-
--- nothing is left: the value is the one handed in
-finished-ok : {A : Type 0} (a : A) (bs : List ℕ) {x : A} {r : List ℕ} → finished a bs ≡ ok x r → (a ≡ x) × (bs ≡ [])
-finished-ok a [] e = (ok-same e .0, refl)
-finished-ok a (b ∷ bs) {x} {r} e = fault-clash 4 x r e
 
 -- the locations of a component
 locations : (s : Sizes) (n : ℕ) → Agrees (many (readLocation s) n) (Counted (LocationIn s) n) (each locationBytes)

@@ -8,18 +8,12 @@ use Rattle.model.specs.Table.{Component, Read}
 use Rattle.model.specs.Bytes.{unsigned}
 use Rattle.model.specs.Limits.{Int16, ComponentIn, InLimits}
 use Rattle.model.specs.Program.{Statement, sleep, setTo, addTo, done, send, listen, age, reset, enter, trial, low, high, dataLow, dataHigh, keep, takeEdge, choose, quad, pairQuad, code, blockBytes, statements, locationBlock, edgeBlock, blocks, startBytes, nodeBody, nodeBytes, programBytes}
-use Rattle.model.proofs.Words.{all-join, be16-bytes, unsigned-small}
+use Rattle.model.proofs.Words.{all-join, each-bytes, be16-bytes, unsigned-small}
 use Rattle.model.proofs.DecodeStatement.{Fitting}
 use Rattle.model.proofs.ProgramSize.{four}
 use Rattle.model.proofs.DecodeBlock.{Block, last, after}
 use Rattle.model.proofs.DecodeInside.{location-block, edge-block}
 use Rattle.model.proofs.DecodeSize.{blocks-length, node-small}
-
--- each part's bytes are bytes: so are those of all, one after the other
-each-bytes : {A : Type 0} {In : A → Type 0} (f : A → List ℕ) → ((x : A) → In x → Bytes (f x)) → {xs : List A} → All In xs → Bytes (each f xs)
-unfolding each
-each-bytes f k empty = empty
-each-bytes f k (more {x = x} h a) = all-join (k x h) (each-bytes f k a)
 
 -- ## Statements and blocks
 

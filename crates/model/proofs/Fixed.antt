@@ -58,7 +58,7 @@ module _ (s : Sizes) where
 
       got : (bs : List ℕ) → Bytes bs → dataGuardFine s bs ≡ true → DataGuardIn s (dataGuardAt bs) × (from bs 0 5 ≡ dataGuardBytes (dataGuardAt bs))
       got bs a e = (
-        record { variable = simp tests at e; low = complement-in (word bs 1) (word-small a 1); high = complement-in (word bs 3) (word-small a 3) },
+        record { variable = simp tests at e; low = complement-in (word bs 1); high = complement-in (word bs 3) },
         ap₂ (λ p q. byte bs 0 ∷ p ++ q)
             (sym (ap be16 (unsigned-back (word bs 1) (word-small a 1)) ∙ word-bytes a 1))
             (sym (ap be16 (unsigned-back (word bs 3) (word-small a 3)) ∙ word-bytes a 3)),
@@ -83,7 +83,7 @@ module _ (s : Sizes) where
       got : (bs : List ℕ) → Bytes bs → updateFine s bs ≡ true → UpdateIn s (updateAt bs) × (from bs 0 4 ≡ updateBytes (updateAt bs))
       got bs a e =
           let h = simp tests at e in (
-            record { variable = h .0; number = complement-in (word bs 2) (word-small a 2) },
+            record { variable = h .0; number = complement-in (word bs 2) },
             ap₂ (λ k l. byte bs 0 ∷ k ∷ l)
                 (zero-or-one (byte bs 1) (h .1))
                 (sym (ap be16 (unsigned-back (word bs 2) (word-small a 2)) ∙ word-bytes a 2)),

@@ -26,7 +26,7 @@ use Rattle.model.proofs.Fixed.{update-agrees, channel-agrees, pair-agre
 -- ## Pairs
 
 -- no pair's channel was listed before
-abbrev Fresh : List ℕ → List Pair → Type 0
+abbrev pub Fresh : List ℕ → List Pair → Type 0
 Fresh seen ps = All (λ q. listed (q .channel) seen ≡ false) ps
 
 -- one more channel that no pair names
@@ -35,7 +35,7 @@ fresh-more c seen empty empty = empty
 fresh-more c seen (more {x = p} h a) (more f b) = more {x = p} (rw (ne-eqb c (p .channel) (λ e. h (sym e)), f)) (fresh-more c seen a b)
 
 -- one channel less
-fresh-less : {ps : List Pair} (c : ℕ) (seen : List ℕ) → Fresh (c ∷ seen) ps → All (λ p. p .channel ≡ c → ⊥) ps × Fresh seen ps
+pub fresh-less : {ps : List Pair} (c : ℕ) (seen : List ℕ) → Fresh (c ∷ seen) ps → All (λ p. p .channel ≡ c → ⊥) ps × Fresh seen ps
 fresh-less c seen empty = (empty, empty)
 fresh-less c seen (more {x = p} h a) =
     let t = neither (eqb c (p .channel)) (listed (p .channel) seen) h in

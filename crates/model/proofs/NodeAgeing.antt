@@ -13,6 +13,7 @@ use Rattle.model.specs.Window.{Entry, aged, masked, clockAt}
 use Rattle.model.specs.Program.{Statement, age, reset, enter, choose, ageing, locationBlock}
 use Rattle.model.specs.Machine.{Node, exec, finish, to, locationCode}
 use Rattle.model.specs.Run.{stand, standAt, standOf, elsewhere}
+use Rattle.model.proofs.Passages.{length-aged}
 use Rattle.model.proofs.NodeChoosing.{Coded, Placed, Choosing, trialsAt}
 
 -- ## Clocks aged
@@ -23,12 +24,6 @@ aged-snoc mask d i [] x = let e : i ≡ i + 0 = omega arith in ap (λ (j : ℕ).
 aged-snoc mask d i (y ∷ xs) x =
     let e : suc i + length xs ≡ i + suc (length xs) = omega arith in
     ap (λ (l : List ℕ). cond (masked mask i) 0 (y + d) ∷ l) (aged-snoc mask d (suc i) xs x ∙ ap (λ (j : ℕ). aged mask d (suc i) xs ++ (cond (masked mask j) 0 (x + d) ∷ [])) e)
-
--- as many clocks as before
-pub length-aged : (mask d i : ℕ) (xs : List ℕ) → length (aged mask d i xs) ≡ length xs
-unfolding aged
-length-aged mask d i [] = refl
-length-aged mask d i (x ∷ xs) = ap suc (length-aged mask d (suc i) xs)
 
 -- the statements from the ageing of clock i on, so many clocks
 abbrev pub ageingFrom : ℕ → ℕ → ℕ → ℕ → List Statement

@@ -23,8 +23,9 @@ use Rattle.model.proofs.Bools.{clash}
 use Rattle.model.proofs.Walk.{all-at}
 use Rattle.model.proofs.Parts.{some-same}
 use Rattle.model.proofs.Choice.{Picked, choice-picked}
+use Rattle.model.proofs.Passages.{length-aged}
 use Rattle.model.proofs.NodeChoosing.{Placed, Asleep}
-use Rattle.model.proofs.NodeAgeing.{length-aged, ageingFrom, Ageing}
+use Rattle.model.proofs.NodeAgeing.{ageingFrom, Ageing}
 
 -- the statements behind the work of an edge
 abbrev pub afterWork : Component → Arc → List Statement

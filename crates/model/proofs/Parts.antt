@@ -10,7 +10,7 @@ use lib.Dec.{leb}
 use lib.ListN.{length, drop, length-append}
 use lib.Seq.{drop-at, drop-cons}
 use Rattle.model.specs.Lists.{All, empty, more, Bytes, each, Answer, accepted, refused, _after_}
-use Rattle.model.specs.Reader.{byte, Parsed, ok, fault, _then_, part, many, about}
+use Rattle.model.specs.Reader.{byte, Parsed, ok, fault, _then_, part, many, finished, about}
 use Rattle.model.proofs.Words.{all-after}
 
 -- ## Taking an accepting reader apart
@@ -38,6 +38,11 @@ cond-not-ok false a n e = (refl, e)
 -- two acceptances are equal: so are what they give and what they leave
 pub ok-same : {A : Type 0} {x y : A} {q r : List ℕ} → ok x q ≡ ok y r → (x ≡ y) × (q ≡ r)
 ok-same e = (cc, cc)
+
+-- nothing is left: the value is the one handed in
+pub finished-ok : {A : Type 0} (a : A) (bs : List ℕ) {x : A} {r : List ℕ} → finished a bs ≡ ok x r → (a ≡ x) × (bs ≡ [])
+finished-ok a [] e = (ok-same e .0, refl)
+finished-ok a (b ∷ bs) {x} {r} e = fault-clash 4 x r e
 
 -- ## Taking an acceptance of the whole table apart
 

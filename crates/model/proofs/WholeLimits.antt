@@ -11,9 +11,9 @@ use Rattle.model.specs.Lists.{All, empty, more, each, accepted}
 use Rattle.model.specs.Table.{Arc, Component, Read, sizesOf}
 use Rattle.model.specs.Bytes.{locationBytes, clockGuardBytes, dataGuardBytes, itemBytes, arcHead, arcBytes, bodyBytes, componentBytes, tableBytes}
 use Rattle.model.specs.Limits.{LocationIn, ClockGuardIn, DataGuardIn, ArcIn, ComponentIn, InLimits}
-use Rattle.model.specs.Reader.{byte, word, ok, many, readLocation, readClockGuard, readDataGuard, readItems, countsFine, edgeFine, arcWith, readArcBody, readArc, headFine, sizesAt, componentWith, finished, readBody, readComponent, about, atEnd, lengthFits, readComponents, versionFine, lengthFine, countFine, readWith, readTable}
+use Rattle.model.specs.Reader.{byte, word, ok, many, readLocation, readClockGuard, readDataGuard, readItems, countsFine, edgeFine, arcWith, readArcBody, readArc, headFine, sizesAt, componentWith, readBody, readComponent, about, atEnd, lengthFits, readComponents, versionFine, lengthFine, countFine, readWith, readTable}
 use Rattle.model.proofs.Bools.{tests}
-use Rattle.model.proofs.Parts.{fault-clash, refused-clash, after-ok, cond-accepted, about-ok, accepted-same, then-ok, ok-same, head-ok}
+use Rattle.model.proofs.Parts.{refused-clash, after-ok, cond-accepted, about-ok, accepted-same, then-ok, ok-same, finished-ok, head-ok}
 use Rattle.model.proofs.WholeRead.{holds-is, Tells, many-tells, more-long, location-tells, clockGuard-tells, dataGuard-tells, items-tell}
 
 -- ## Edges
@@ -66,11 +66,6 @@ component-long C =
     let A = each arcBytes (C .arcs) in
     omega (arith, length-append L A)
 
--- nothing is left: the value is the one handed in
-finished-is : {A : Type 0} (a : A) (bs : List ℕ) {x : A} {r : List ℕ} → finished a bs ≡ ok x r → (a ≡ x) × (bs ≡ [])
-finished-is a [] e = (ok-same e .0, refl)
-finished-is a (b ∷ bs) {x} {r} e = fault-clash 4 x r e
-
 module _ (channels : ℕ) where
   -- a component, all of its bytes
   component-tells : (bs : List ℕ) (C : Component) (r : List ℕ) → readComponent channels bs ≡ ok C r → ComponentIn channels C × (length (componentBytes C) ≡ length bs)
@@ -82,7 +77,7 @@ module _ (channels : ℕ) where
       let l = many-tells (readLocation s) (LocationIn s) locationBytes (location-tells s) (byte bs 2) (drop 7 bs) (u .0) (u .1) (u .2) in
       let v = then-ok (many (readArc s) (byte bs 6) (u .1)) _ (u .3) in
       let m = many-tells (readArc s) (ArcIn s) arcBytes (arc-tells s) (byte bs 6) (u .1) (v .0) (v .1) (v .2) in
-      let w = finished-is (componentWith bs (u .0) (v .0)) (v .1) (v .3) in
+      let w = finished-ok (componentWith bs (u .0) (v .0)) (v .1) (v .3) in
       let D : Component = componentWith bs (u .0) (v .0) in
       let h = simp tests at (t .1) in
       let n = l .within .0 in

@@ -1,25 +1,23 @@
 -- Reading the parts of a table, whatever the numbers handed in, bytes or not: what is read is in its limits, and as long as its bytes. Assumes nothing.
-use mathlib.Core.Path.{_≡_, refl, sym, ap, subst, subst₂}
-use mathlib.Core.Bool.{Bool, true, false, cond}
+use mathlib.Core.Path.{_≡_, refl, ap, subst, subst₂}
+use mathlib.Core.Bool.{Bool, true}
 use mathlib.Core.List.{List, [], _∷_}
 use Prim.Native.Nat.{ℕ, zero, suc, _+_, _-_, _≤_}
 use native.Mathlib.Omega.{arith}
-use borrow.Author.Tests.{ltb-true, ltb-false, eqb-false}
-use lib.Dec.{ltb, eqb}
-use lib.IntN.{pos, negsuc}
 use lib.ListN.{length, length-append, length-drop}
 use Rattle.model.specs.declared.ClockGuard.{ClockGuard}
 use Rattle.model.specs.declared.DataGuard.{DataGuard}
-use Rattle.model.specs.declared.Pair.{Pair}
 use Rattle.model.specs.declared.Sizes.{Sizes}
-use Rattle.model.specs.Lists.{All, empty, more, each}
+use Rattle.model.specs.Lists.{empty, more, each}
 use Rattle.model.specs.Table.{Arc}
 use Rattle.model.specs.Bytes.{locationBytes, clockGuardBytes, dataGuardBytes, updateBytes, pairBytes, itemBytes}
-use Rattle.model.specs.Limits.{Int16, LocationIn, ClockGuardIn, DataGuardIn, UpdateIn, PairIn, Distinct, ActionIn}
+use Rattle.model.specs.Limits.{LocationIn, ClockGuardIn, DataGuardIn, UpdateIn, PairIn, ActionIn}
 use Rattle.model.specs.Limits.Distinct.{none as nil, more as cons}
-use Rattle.model.specs.Reader.{byte, word, complement, Parsed, ok, _then_, part, many, locationFine, locationAt, readLocation, clockGuardFine, clockGuardAt, readClockGuard, dataGuardFine, dataGuardAt, readDataGuard, updateFine, updateAt, readUpdate, channelFine, readChannel, pairFine, pairAt, readPair, listed, readPairs, Items, readItems, countsFine, arcWith}
-use Rattle.model.proofs.Bools.{tests, neither}
-use Rattle.model.proofs.Parts.{then-ok, cond-not-ok, ok-same, part-ok}
+use Rattle.model.specs.Reader.{byte, word, Parsed, ok, _then_, part, many, locationFine, locationAt, readLocation, clockGuardFine, clockGuardAt, readClockGuard, dataGuardFine, dataGuardAt, readDataGuard, updateFine, updateAt, readUpdate, channelFine, readChannel, pairFine, pairAt, readPair, listed, readPairs, Items, readItems, countsFine, arcWith}
+use Rattle.model.proofs.Bools.{tests}
+use Rattle.model.proofs.Words.{complement-in}
+use Rattle.model.proofs.Parts.{then-ok, cond-not-ok, ok-same, part-ok, Counted}
+use Rattle.model.proofs.Items.{fresh-less, PairsIn}
 
 -- ## Parts
 
@@ -46,10 +44,6 @@ part-tells n fine value In f sized got bs x r e =
       long = omega (arith, h .fits, sized x, length-drop n bs, ap length (h .leaves));
     }
 
--- n values, each in its limits
-abbrev Counted : {A : Type 0} → (A → Type 0) → ℕ → List A → Type 0
-Counted In n xs = (length xs ≡ n) × All In xs
-
 -- one more part
 pub more-long : {A : Type 0} (f : A → List ℕ) (x : A) (xs : List A) → length (each f (x ∷ xs)) ≡ length (f x) + length (each f xs)
 unfolding each
@@ -72,14 +66,6 @@ many-tells p In f k (suc n) bs xs r e =
 
 -- ## The kinds of parts
 
--- a signed number read is in range, whatever the number
-complement-any : (n : ℕ) → Int16 (complement n)
-complement-any n = go (ltb n 32768) refl
-  where
-    go : (t : Bool) → ltb n 32768 ≡ t → Int16 (cond t (pos n) (negsuc (65535 - n)))
-    go true e = ltb-true n 32768 e
-    go false e = omega (arith, ltb-false n 32768 e)
-
 module _ (s : Sizes) where
   -- a location
   pub location-tells : Tells (readLocation s) (LocationIn s) locationBytes
@@ -94,11 +80,11 @@ module _ (s : Sizes) where
   pub dataGuard-tells : Tells (readDataGuard s) (DataGuardIn s) dataGuardBytes
   dataGuard-tells =
       part-tells 5 (dataGuardFine s) dataGuardAt (DataGuardIn s) dataGuardBytes (λ g. refl)
-      (λ bs e. record { variable = simp tests at e; low = complement-any (word bs 1); high = complement-any (word bs 3) })
+      (λ bs e. record { variable = simp tests at e; low = complement-in (word bs 1); high = complement-in (word bs 3) })
 
   -- an update
   update-tells : Tells (readUpdate s) (UpdateIn s) updateBytes
-  update-tells = part-tells 4 (updateFine s) updateAt (UpdateIn s) updateBytes (λ u. refl) (λ bs e. let h = simp tests at e in record { variable = h .0; number = complement-any (word bs 2) })
+  update-tells = part-tells 4 (updateFine s) updateAt (UpdateIn s) updateBytes (λ u. refl) (λ bs e. let h = simp tests at e in record { variable = h .0; number = complement-in (word bs 2) })
 
   -- the channel of a send edge
   channel-tells : Tells (readChannel s) (λ k. suc k ≤ s .channels) (λ k. k ∷ [])
@@ -109,22 +95,6 @@ module _ (s : Sizes) where
   pair-tells = part-tells 2 (pairFine s) pairAt (PairIn s) pairBytes (λ q. refl) (λ bs e. let h = simp tests at e in record { channel = h .0; location = h .1 })
 
 -- ## Items
-
--- one channel less
-fresh-less : {ps : List Pair} (c : ℕ) (seen : List ℕ) → All (λ q. listed (q .channel) (c ∷ seen) ≡ false) ps
-    → All (λ p. p .channel ≡ c → ⊥) ps × All (λ q. listed (q .channel) seen ≡ false) ps
-fresh-less c seen empty = (empty, empty)
-fresh-less c seen (more {x = p} h a) =
-    let t = neither (eqb c (p .channel)) (listed (p .channel) seen) h in
-    let u = fresh-less c seen a in
-    (more (λ e. eqb-false c (p .channel) (t .0) (sym e)) (u .0), more (t .1) (u .1))
-
--- n pairs in range, no channel twice and none that was listed before
-record PairsIn (s : Sizes) (n : ℕ) (seen : List ℕ) (ps : List Pair) : Type 0 where
-  count : length ps ≡ n
-  pairs : All (PairIn s) ps
-  distinct : Distinct ps
-  fresh : All (λ q. listed (q .channel) seen ≡ false) ps
 
 -- the pairs of a receive edge
 pairs-tell : (s : Sizes) (n : ℕ) (seen : List ℕ) → Tells (readPairs s n seen) (PairsIn s n seen) (each pairBytes)

@@ -7,7 +7,7 @@ use native.Mathlib.Omega.{arith}
 use borrow.Author.Tests.{ltb-true, ltb-false, lt-ltb, le-ltb}
 use lib.Dec.{ltb}
 use lib.IntN.{ℤ, pos, negsuc}
-use Rattle.model.specs.Lists.{All, empty, more, Bytes, be16}
+use Rattle.model.specs.Lists.{All, empty, more, Bytes, be16, each}
 use Rattle.model.specs.Bytes.{unsigned}
 use Rattle.model.specs.Limits.{Int16}
 use Rattle.model.specs.Reader.{byte, word, complement}
@@ -24,6 +24,12 @@ byte-small (more h a) (suc i) = byte-small a i
 pub all-join : {A : Type 0} {P : A → Type 0} {xs ys : List A} → All P xs → All P ys → All P (xs ++ ys)
 all-join empty b = b
 all-join (more h a) b = more h (all-join a b)
+
+-- each part's bytes are bytes: so are those of all, one after the other
+pub each-bytes : {A : Type 0} {In : A → Type 0} (f : A → List ℕ) → ((x : A) → In x → Bytes (f x)) → {xs : List A} → All In xs → Bytes (each f xs)
+unfolding each
+each-bytes f k empty = empty
+each-bytes f k (more {x = x} h a) = all-join (k x h) (each-bytes f k a)
 
 -- the second of two lists
 pub all-after : {A : Type 0} {P : A → Type 0} (xs : List A) {ys : List A} → All P (xs ++ ys) → All P ys
@@ -77,9 +83,9 @@ pub unsigned-small : (z : ℤ) → Int16 z → unsigned z < 65536
 unsigned-small (pos n) h = omega arith
 unsigned-small (negsuc n) h = omega arith
 
--- a signed number read is in range
-pub complement-in : (n : ℕ) → n < 65536 → Int16 (complement n)
-complement-in n h = go (ltb n 32768) refl
+-- a signed number read is in range, whatever the number
+pub complement-in : (n : ℕ) → Int16 (complement n)
+complement-in n = go (ltb n 32768) refl
   where
     go : (t : Bool) → ltb n 32768 ≡ t → Int16 (cond t (pos n) (negsuc (65535 - n)))
     go true e = ltb-true n 32768 e

@@ -18,14 +18,8 @@ use Rattle.model.specs.Lists.{All, empty, more, Bytes, each}
 use Rattle.model.specs.Table.{Arc, Component, Read, sizesOf}
 use Rattle.model.specs.Bytes.{unsigned, locationBytes, clockGuardBytes, dataGuardBytes, updateBytes, pairBytes, kindOf, itemCount, itemBytes, arcHead, arcBytes, bodyBytes, componentBytes, tableBytes}
 use Rattle.model.specs.Limits.{LocationIn, ClockGuardIn, DataGuardIn, UpdateIn, PairIn, ActionIn, ArcIn, ComponentIn, InLimits}
-use Rattle.model.proofs.Words.{all-join, be16-bytes, unsigned-small}
+use Rattle.model.proofs.Words.{all-join, each-bytes, be16-bytes, unsigned-small}
 use Rattle.model.proofs.Items.{kind-small}
-
--- each part's bytes are bytes: so are those of all, one after the other
-each-bytes : {A : Type 0} {In : A → Type 0} (f : A → List ℕ) → ((x : A) → In x → Bytes (f x)) → {xs : List A} → All In xs → Bytes (each f xs)
-unfolding each
-each-bytes f k empty = empty
-each-bytes f k (more {x = x} h a) = all-join (k x h) (each-bytes f k a)
 
 -- the sizes of a component in the limits
 record Small (s : Sizes) : Type 0 where
