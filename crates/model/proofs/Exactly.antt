@@ -53,7 +53,7 @@ module _ (T : Table) (H : ℕ) (S : List Visit) where
     never n f =
         let k = chained-of (own-other c w rest n) (a .chained c (omega arith) hc) in
         let t = starts-at c (componentOf T c) (k .head) (k .starts) in
-        let b : Before w (k .head) = all-in before (own-in c rest (subst (λ l. k .head ∈ l) (sym (k .is)) (here refl)) .1) in
+        let b : Before w (k .head) = all-in before (own-in c rest (subst (λ l. k .head ∈ l) (sym (k .is)) (here refl)) .0) in
         go (k .head) t b f
       where
         go : (h : Visit) → (h .entry .tick ≡ 0) × (h .component ≡ c) → Before w h → ((w .entry .tick ≡ 0) × (c < w .component)) ⊎ (0 < w .entry .tick) → ⊥

@@ -19,9 +19,9 @@ use Rattle.model.specs.Schedule.{opened as opening-of}
 use Rattle.model.specs.Checks.{noVisit, visitAt}
 use Rattle.model.specs.Chains.{Opens, Chain, last, link, Before, Ordered}
 use Rattle.model.specs.Chains.{none as no-passage, more as first-passage}
-use Rattle.model.proofs.Parts.{refused-clash, accepted-same, after-ok}
+use Rattle.model.proofs.Parts.{refused-clash, accepted-same, after-ok, some-clash}
 use Rattle.model.proofs.Opening.{Opened, opened}
-use Rattle.model.proofs.Soonest.{some-clash, NoLater, Closes, next-closes, next-none}
+use Rattle.model.proofs.Soonest.{NoLater, Closes, next-closes, next-none}
 use Rattle.model.proofs.Messages.{same-message, put}
 use Rattle.model.proofs.Own.{at-set, own-here, own-other}
 

@@ -12,6 +12,7 @@ use Rattle.model.specs.Window.{readyOf, channelOf, listens}
 use Rattle.model.specs.Schedule.{Visit, names}
 use Rattle.model.specs.Network.{State, Place, Taken, placeOf, stayed, pastIn, Label, waits, leftBy, passagesOn}
 use Rattle.model.proofs.Bools.{clash}
+use Rattle.model.proofs.Parts.{some-clash}
 use Rattle.model.proofs.Members.{in-append}
 use Rattle.model.proofs.NetPassage.{Fits}
 use Rattle.model.proofs.NetRules.{StepsIn, Step, step-is}
@@ -41,10 +42,6 @@ within-passage {C} {now} {p} {e} {v} f i j w =
 
 -- ## Who waits is on the path
 
--- nothing is not something
-pub free-clash : {A : Type 0} {o : Option Taken} {w : Taken} → o ≡ none → o ≡ some w → A
-free-clash e f = absurd (let z : _≡_ {A = ℕ} 0 1 = cc in omega arith)
-
 -- a component that waits is among its passages on the path that follows
 pub waits-on : {T : Table} {s u : State} {ls : List Label} (c : ℕ) → c < size T → Sound T s → Along T s ls u → (w : Taken) → placeOf s c .waiting ≡ some w → placeOf s c ∈ passagesOn T c s ls
 unfolding passagesOn
@@ -60,9 +57,9 @@ waits-on {T} {s} {u} c h g (then {t = t} {l = l} {ls = ls} q a) w e =
     go : Change T s l t c → (placeOf t c .waiting ≡ some w → placeOf t c ∈ passagesOn T c t ls) → (placeOf s c ∈ leftBy s c l) ⊎ (placeOf s c ∈ passagesOn T c t ls)
     go (grows f p i n) ih = inr (stays f ih)
     go (rests f i n) ih = inr (stays f ih)
-    go (alone d k f i n) ih = free-clash (k .free) e
-    go (speaks d m k ch f i n) ih = free-clash (k .free) e
-    go (hears d m k b f i n) ih = free-clash (k .free) e
+    go (alone d k f i n) ih = some-clash (sym e ∙ k .free)
+    go (speaks d m k ch f i n) ih = some-clash (sym e ∙ k .free)
+    go (hears d m k b f i n) ih = some-clash (sym e ∙ k .free)
     go (goes f i j n) ih = inl (subst (λ (x : List Place). placeOf s c ∈ x) (sym n) (here refl))
 
 -- ## Who spoke
@@ -162,4 +159,4 @@ heard-from {T} {s} {u} b h g (then {t = t} {l = l} {ls = ls} q a) w k e m li =
         let z : listens (arcOf (componentOf T b) d) ≡ true = subst (λ (x : ℕ). listens (arcOf (componentOf T b) x) ≡ true) (sym (ap (λ (x : Taken). x .edge) y)) li in
         clash (sym (sends-only (arcOf (componentOf T b) d) j ch) ∙ z)
     go (hears d j i c f p n) (inl o) = inr (longer (now-heard d j i c f o))
-    go (goes f i j n) (inl o) = free-clash f (ap (λ (y : Place). y .waiting) o ∙ e)
+    go (goes f i j n) (inl o) = some-clash (sym (ap (λ (y : Place). y .waiting) o ∙ e) ∙ f)

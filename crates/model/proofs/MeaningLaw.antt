@@ -19,16 +19,18 @@ use Rattle.model.specs.Checks.{isSend, mayHear, planOf, limit, visitAt}
 use Rattle.model.specs.Network.{State, Place, Taken, Label, together, placeOf, start, mayStepIn, mayJoin, step, waits, withPlace}
 use Rattle.model.specs.Demand3.{TakenAs, PassAs, SteppedBefore}
 use Rattle.model.specs.Progress.{presentOf, OnSchedule, Sending, meet, mayMeet, OnePartner, Means}
+use Rattle.model.proofs.Parts.{some-clash}
 use Rattle.model.proofs.Heard.{Listener, heard-law, single-law, send-is, hears-is, others-is}
+use Rattle.model.proofs.Own.{in-own, own-in}
 use Rattle.model.proofs.NetPassage.{Fits, from-entry, placeIn, may-step-in}
 use Rattle.model.proofs.NetRules.{Step, joins, step-is}
 use Rattle.model.proofs.NetSteps.{sends-only}
 use Rattle.model.proofs.NetWays.{leftOn}
-use Rattle.model.proofs.NetPartners.{component-there, in-own, of-own, fits-in, heard-message, hears-now}
+use Rattle.model.proofs.NetPartners.{component-there, fits-in, heard-message, hears-now}
 use Rattle.model.proofs.WholeLimits.{read-limits}
 use Rattle.model.proofs.WholeTied.{Given, given}
 use Rattle.model.proofs.MeaningPath.{sound-start, start-free}
-use Rattle.model.proofs.MeaningHeard.{steps-within, within-passage, free-clash, Spoken, heard-from}
+use Rattle.model.proofs.MeaningHeard.{steps-within, within-passage, Spoken, heard-from}
 use Rattle.model.proofs.MeaningStep.{put-same, put-other}
 use Rattle.model.proofs.MeaningPass.{passages-are, Beside}
 use Rattle.model.proofs.MeaningPresent.{Present, steps, sound, present}
@@ -57,7 +59,7 @@ module _ {t : Read} {S : List Visit} (G : Given t S) {path : List Label} {s : St
 
   -- its passage is one of the schedule
   mine : (N a ∈ S) × (N a .component ≡ a)
-  mine = of-own limit T H S (G .sched) a (N a) (A .listed)
+  mine = own-in a S (A .listed)
 
   -- a send below the horizon
   sends : isSend T H (N a) ≡ true
@@ -85,7 +87,7 @@ module _ {t : Read} {S : List Visit} (G : Given t S) {path : List Label} {s : St
 
   -- it is in that window
   is-now : R .visit ≡ N b
-  is-now = go (B .others (R .visit) (in-own limit T H S (G .sched) (R .visit) (R .listed)))
+  is-now = go (B .others (R .visit) (in-own (R .listed)))
     where
       f : Fits (componentOf T b) (R .visit)
       f = fits-in limit T H S (G .sched) (R .visit) (R .listed)
@@ -105,7 +107,7 @@ module _ {t : Read} {S : List Visit} (G : Given t S) {path : List Label} {s : St
 
   -- it is a passage of the schedule
   yours : (N b ∈ S) × (N b .component ≡ b)
-  yours = of-own limit T H S (G .sched) b (N b) (B .listed)
+  yours = own-in b S (B .listed)
 
   -- its edge receives
   receives : listens (arcOf (componentOf T b) (N b .edge)) ≡ true
@@ -136,7 +138,7 @@ module _ {t : Read} {S : List Visit} (G : Given t S) {path : List Label} {s : St
       -- the passage that it was heard from
       same : (y : Visit) → y ∈ own c S → Beside (p .place) y → N a ≡ y
       same y m k =
-          let o = of-own limit T H S (G .sched) c y m in
+          let o = own-in c S m in
           let f : Fits (componentOf T c) y = subst (λ (n : ℕ). Fits (componentOf T n) y) (o .1) (fits-in limit T H S (G .sched) y (o .0)) in
           let q : TakenAs (some (p .taken)) y = subst (λ (x : Option Taken). TakenAs x y) (p .waiting) (k .taken) in
           let i = within-passage f (k .entry) (q .0) (p .sending) in
@@ -150,12 +152,12 @@ module _ {t : Read} {S : List Visit} (G : Given t S) {path : List Label} {s : St
 
       -- so that the two are one
       one : (y : Visit) → y ∈ own c S → N a ≡ y → c ≡ a
-      one y m e = sym (of-own limit T H S (G .sched) c y m .1) ∙ (ap (λ (x : Visit). x .component) (sym e) ∙ mine .1)
+      one y m e = sym (own-in c S m .1) ∙ (ap (λ (x : Visit). x .component) (sym e) ∙ mine .1)
 
       go : (p .place ≡ placeOf s c) ⊎ ((y : Visit) × (y ∈ own c S) × Beside (p .place) y × (y .end ≤ N c .entry .tick)) → ⊥
       go (inl q) =
           let e = one (N c) (K .listed) (same (N c) (K .listed) (subst (λ (x : Place). Beside x (N c)) (sym q) (K .beside))) in
-          free-clash (Z .free) (ap (λ (n : ℕ). placeOf s n .waiting) (sym e) ∙ (ap (λ (x : Place). x .waiting) (sym q) ∙ p .waiting))
+          some-clash (sym (ap (λ (n : ℕ). placeOf s n .waiting) (sym e) ∙ (ap (λ (x : Place). x .waiting) (sym q) ∙ p .waiting)) ∙ Z .free)
       go (inr y) =
           let e = same (y .0) (y .1) (y .2) in
           let n = one (y .0) (y .1) e in
@@ -181,7 +183,7 @@ module _ {t : Read} {S : List Visit} (G : Given t S) {path : List Label} {s : St
           listening = subst (λ (n : ℕ). listens (arcOf (componentOf T b) n) ≡ true) (sym (q .0)) receives
 
           by : (placeOf (start T) b ≡ placeOf s b) ⊎ Spoken T b (placeOf s b) (w .edge) (Z .channel) (start T) path (s .tick) → ⊥
-          by (inl i) = free-clash (start-free T b there) (ap (λ (x : Place). x .waiting) i ∙ e)
+          by (inl i) = some-clash (sym (ap (λ (x : Place). x .waiting) i ∙ e) ∙ start-free T b there)
           by (inr p) = not-spoken w (q .0) p
 
   -- ## The joint step
@@ -218,7 +220,7 @@ module _ {t : Read} {S : List Visit} (G : Given t S) {path : List Label} {s : St
       go : {u : State} → Step T s (together a (N a .edge) c (N c .edge)) u → c ≡ b
       go (joins {k = k} ha hc n ka kc ch li na) =
           let K = present G O c hc in
-          let o = of-own limit T H S (G .sched) c (N c) (K .listed) in
+          let o = own-in c S (K .listed) in
           let i = within-passage (K .fits) (K .beside .entry) refl (steps-within (sound G O .since c hc) kc none) in
           let m =
           hears-now limit T H S (G .sched) (G .checks) (s .tick) a c k (N a) (N c) (mine .0) (o .0) (mine .1) (o .1) n ch li na (Z .ready) (A .before) (i .0) (i .1) (Z .below) in

@@ -1,12 +1,12 @@
 -- What holds of every component on every path of the network: it entered no later than now, and it waits no longer than its end. Assumes nothing.
 use mathlib.Core.Path.{_≡_, refl, sym, ap, subst, _∙_}
-use mathlib.Core.List.{List, [], _∷_, _++_, map}
+use mathlib.Core.List.{List, [], _∷_, _++_}
 use mathlib.Core.Option.{Option, none, some}
-use Prim.Native.Nat.{ℕ, zero, suc, _≤_, _<_}
+use Prim.Native.Nat.{ℕ, suc, _≤_, _<_}
 use native.Mathlib.Omega.{arith}
-use lib.ListN.{length, getD, length-map}
+use lib.ListN.{length, length-map, List·getD-map}
 use Rattle.model.specs.Table.{Component, Table, noComponent, size, componentOf}
-use Rattle.model.specs.Network.{State, Place, Taken, noPlace, placeOf, stayed, pastIn, Label, startPlace, start, leftBy, step, onward, follow, passagesOn}
+use Rattle.model.specs.Network.{State, Place, Taken, placeOf, stayed, pastIn, Label, startPlace, start, leftBy, step, onward, follow, passagesOn}
 use Rattle.model.proofs.NetRules.{Passes, Step, step-is}
 use Rattle.model.proofs.MeaningStep.{Change, grows, rests, alone, speaks, hears, goes, change, same-size}
 
@@ -23,24 +23,18 @@ pub record Sound (T : Table) (s : State) : Type 0 where
   pub since : (c : ℕ) → c < size T → placeOf s c .entry .tick ≤ s .tick
   pub inside : (c : ℕ) → c < size T → Inside (componentOf T c) (s .tick) (placeOf s c) (placeOf s c .waiting)
 
--- a place of the start
-start-at : (Cs : List Component) (c : ℕ) → c < length Cs → getD (map startPlace Cs) c noPlace ≡ startPlace (getD Cs c noComponent)
-start-at [] c h = absurd (omega arith)
-start-at (C ∷ Cs) zero h = refl
-start-at (C ∷ Cs) (suc c) h = start-at Cs c (omega arith)
-
 -- so at the start
 pub sound-start : (T : Table) → Sound T (start T)
 sound-start T =
     record {
       full = length-map (T .components) startPlace;
-      since = λ c h. subst (λ (p : Place). p .entry .tick ≤ 0) (sym (start-at (T .components) c h)) (omega arith);
-      inside = λ c h. subst (λ (p : Place). Inside (componentOf T c) 0 p (p .waiting)) (sym (start-at (T .components) c h)) tt;
+      since = λ c h. subst (λ (p : Place). p .entry .tick ≤ 0) (sym (List·getD-map startPlace (T .components) c noComponent)) (omega arith);
+      inside = λ c h. subst (λ (p : Place). Inside (componentOf T c) 0 p (p .waiting)) (sym (List·getD-map startPlace (T .components) c noComponent)) tt;
     }
 
 -- nobody waits at the start
 pub start-free : (T : Table) (c : ℕ) → c < size T → placeOf (start T) c .waiting ≡ none
-start-free T c h = ap (λ (p : Place). p .waiting) (start-at (T .components) c h)
+start-free T c h = ap (λ (p : Place). p .waiting) (List·getD-map startPlace (T .components) c noComponent)
 
 -- a place with its waiting told
 told : (C : Component) (now : ℕ) (p : Place) (o : Option Taken) → p .waiting ≡ o → Inside C now p o → Inside C now p (p .waiting)

@@ -19,11 +19,12 @@ use Rattle.model.specs.Chains.{IsSchedule}
 use Rattle.model.specs.Network.{Work, one, two}
 use Rattle.model.proofs.Members.{in-append, not-in}
 use Rattle.model.proofs.Heard.{Listener, heard-law, sender-law, hears-is, others-is, send-is}
-use Rattle.model.proofs.NetLinks.{first-fits, each-fits, later-ready, all-in}
+use Rattle.model.proofs.Own.{all-in, own-in}
+use Rattle.model.proofs.NetLinks.{first-fits, each-fits, later-ready}
 use Rattle.model.proofs.NetSteps.{Alone, timeout}
 use Rattle.model.proofs.NetPassing.{Passing, Partners, passing-start, passing-tick, passing-alone, passing-together}
 use Rattle.model.proofs.NetWitness.{Witness, passing-witness, ahead-before, ahead-linked, ahead-rest}
-use Rattle.model.proofs.NetPartners.{Paired, paired-start, paired-without, without-one, without-two, of-own, component-there, windows, heard-message, alone-unpaired, together-paired, hears-now}
+use Rattle.model.proofs.NetPartners.{Paired, paired-start, paired-without, without-one, without-two, component-there, windows, heard-message, alone-unpaired, together-paired, hears-now}
 
 module _ (limit : ℕ) (T : Table) (H : ℕ) (S : List Visit) (sched : IsSchedule limit T H S) (ok : checked T H S ≡ accepted S) where
   -- a passing, and of each pair of a send and its receive both works are finished or neither is
@@ -56,7 +57,7 @@ module _ (limit : ℕ) (T : Table) (H : ℕ) (S : List Visit) (sched : IsSchedul
     ahead-own : (c : ℕ) → c < size T → (x : Visit) → x ∈ A c → (x ∈ S) × (x .component ≡ c)
     ahead-own c h x m =
         let r = ahead-rest T H S (g .passing) c h in
-        of-own limit T H S sched c x (subst (λ (l : List Visit). x ∈ l) (r .1) (in-append (r .0) (A c) .1 (inr m)))
+        own-in c S (subst (λ (l : List Visit). x ∈ l) (r .1) (in-append (r .0) (A c) .1 (inr m)))
 
     -- the first passage ahead is one of the schedule's
     pub first-own : (c : ℕ) → c < size T → (v : Visit) (vs : List Visit) → A c ≡ v ∷ vs → (v ∈ S) × (v .component ≡ c)

@@ -4,14 +4,12 @@ use mathlib.Core.Bool.{false}
 use mathlib.Core.List.{List, [], _∷_}
 use Prim.Native.Nat.{ℕ, _≤_, _<_}
 use native.Mathlib.Omega.{arith}
-use borrow.Author.Tests.{eqb-true}
-use lib.Dec.{eqb}
-use Rattle.model.specs.Lists.{All, more, _∈_, here, there}
+use Rattle.model.specs.Lists.{_∈_, here, there}
 use Rattle.model.specs.Table.{Component, Table, size, componentOf, arcOf}
 use Rattle.model.specs.Window.{Entry, channelOf, listens, leaves}
 use Rattle.model.specs.Schedule.{Visit, visitArc, own, messageIn, startEntry}
 use Rattle.model.specs.Chains.{Chain, last, link, IsSchedule}
-use Rattle.model.proofs.Members.{only-is}
+use Rattle.model.proofs.Own.{all-in, own-in}
 use Rattle.model.proofs.NetPassage.{Fits, from-entry}
 use Rattle.model.proofs.NetOpening.{opens}
 
@@ -68,11 +66,6 @@ module _ {H : ℕ} {C : Component} where
 
 -- ## The passages of a schedule
 
--- what holds of all holds of a member
-pub all-in : {A : Type 0} {P : A → Type 0} {xs : List A} → All P xs → {x : A} → x ∈ xs → P x
-all-in {P = P} (more p ps) (here e) = subst P (sym e) p
-all-in (more p ps) (there m) = all-in ps m
-
 -- a passage whose edge does not receive has its channel for its message, if it sends
 abbrev Said : Component → Visit → Type 0
 Said C v = listens (arcOf C (v .edge)) ≡ false → v .message ≡ channelOf (arcOf C (v .edge))
@@ -93,18 +86,14 @@ pub record Linked (T : Table) (H : ℕ) (S : List Visit) (c : ℕ) : Type 0 wher
   pub linked : Links H (componentOf T c) head tail
 
 module _ (limit : ℕ) (T : Table) (H : ℕ) (S : List Visit) (sched : IsSchedule limit T H S) where
-  -- the component of a passage of component c is c
-  pub own-component : (c : ℕ) (v : Visit) → v ∈ own c S → v .component ≡ c
-  own-component c v m = eqb-true (v .component) c (only-is (λ w. eqb (w .component) c) S .0 m .1)
-
   -- a passage that does not receive has the message that its edge sends
   said : (c : ℕ) (v : Visit) → v ∈ own c S → Said (componentOf T c) v
   unfolding messageIn
   said c v m n =
-      let e : v .message ≡ messageIn T H S v = all-in (sched .messages) (only-is (λ w. eqb (w .component) c) S .0 m .0) in
-      let n′ : listens (visitArc T v) ≡ false = subst (λ (i : ℕ). listens (arcOf (componentOf T i) (v .edge)) ≡ false) (sym (own-component c v m)) n in
+      let e : v .message ≡ messageIn T H S v = all-in (sched .messages) (own-in c S m .0) in
+      let n′ : listens (visitArc T v) ≡ false = subst (λ (i : ℕ). listens (arcOf (componentOf T i) (v .edge)) ≡ false) (sym (own-in c S m .1)) n in
       let g : v .message ≡ channelOf (visitArc T v) = e ∙ rw n′ in
-      subst (λ (i : ℕ). v .message ≡ channelOf (arcOf (componentOf T i) (v .edge))) (own-component c v m) g
+      subst (λ (i : ℕ). v .message ≡ channelOf (arcOf (componentOf T i) (v .edge))) (own-in c S m .1) g
 
   -- the passages of each component of a schedule are linked, from the start on
   pub schedule-linked : (c : ℕ) → c < size T → Linked T H S c

@@ -3,10 +3,10 @@ use mathlib.Core.Path.{_≡_, refl, sym, ap, subst, _∙_}
 use mathlib.Core.Logic.{_↔_, _⊎_, inl, inr}
 use mathlib.Core.Bool.{Bool, true, false}
 use mathlib.Core.List.{List, _∷_}
-use mathlib.Core.Option.{none, some}
+use mathlib.Core.Option.{some}
 use Prim.Native.Nat.{ℕ, _≤_, _<_}
 use native.Mathlib.Omega.{arith}
-use borrow.Author.Tests.{eqb-true, eqb-false, eq-eqb, le-leb}
+use borrow.Author.Tests.{eqb-true, eqb-false, le-leb}
 use lib.Dec.{eqb}
 use Rattle.model.specs.Lists.{_∈_, here, there, accepted}
 use Rattle.model.specs.Table.{Table, size, componentOf, arcOf}
@@ -15,15 +15,12 @@ use Rattle.model.specs.Schedule.{Visit, visitArc, own, names, others}
 use Rattle.model.specs.Checks.{shareTick, isSend, isReceive, mayHear, checked}
 use Rattle.model.specs.Chains.{IsSchedule}
 use Rattle.model.proofs.Bools.{clash}
-use Rattle.model.proofs.Members.{only-is}
+use Rattle.model.proofs.Parts.{some-clash}
 use Rattle.model.proofs.Heard.{Windows, send-is, hears-is, others-is, heard-law, single-law, message-law}
+use Rattle.model.proofs.Own.{all-in, in-own}
 use Rattle.model.proofs.NetPassage.{Fits}
-use Rattle.model.proofs.NetLinks.{Links, first-fits, each-fits, later-ready, all-in, schedule-linked}
+use Rattle.model.proofs.NetLinks.{Links, first-fits, each-fits, later-ready, schedule-linked}
 use Rattle.model.proofs.NetSteps.{Alone, internal, timeout, sends-only}
-
--- no channel is none
-silent : {k : ℕ} → none ≡ some k → ⊥
-silent e = let z : _≡_ {A = ℕ} 0 1 = cc in omega arith
 
 -- ## Passages that are no longer ahead
 
@@ -38,19 +35,11 @@ module _ (limit : ℕ) (T : Table) (H : ℕ) (S : List Visit) (sched : IsSchedul
   pub component-there : (x : Visit) → x ∈ S → x .component < size T
   component-there x m = all-in (sched .present) m
 
-  -- a passage is among those of its component
-  pub in-own : (x : Visit) → x ∈ S → x ∈ own (x .component) S
-  in-own x m = only-is (λ w. eqb (w .component) (x .component)) S .1 (m, eq-eqb (x .component) (x .component) refl)
-
-  -- a passage of component c
-  pub of-own : (c : ℕ) (x : Visit) → x ∈ own c S → (x ∈ S) × (x .component ≡ c)
-  of-own c x m = let h = only-is (λ w. eqb (w .component) c) S .0 m in (h .0, eqb-true (x .component) c (h .1))
-
   -- each passage of a schedule fits
   pub fits-in : (x : Visit) → x ∈ S → Fits (componentOf T (x .component)) x
   fits-in x m =
       let k = schedule-linked limit T H S sched (x .component) (component-there x m) in
-      each-fits (k .linked) x (subst (λ (l : List Visit). x ∈ l) (k .is) (in-own x m))
+      each-fits (k .linked) x (subst (λ (l : List Visit). x ∈ l) (k .is) (in-own m))
 
   -- every window has a tick
   pub windows : Windows S
@@ -111,7 +100,7 @@ module _ (limit : ℕ) (T : Table) (H : ℕ) (S : List Visit) (sched : IsSchedul
 
   -- so at the start
   pub paired-start : Paired (λ c. own c S)
-  paired-start s r ms mr es h = (λ i. in-own r mr, λ i. in-own s ms)
+  paired-start s r ms mr es h = (λ i. in-own mr, λ i. in-own ms)
 
   -- so where both of a pair are taken away, or neither is
   pub paired-without : (A B : ℕ → List Visit) {P : Visit → Type 0} → Paired A → Without S A B P
@@ -149,14 +138,14 @@ module _ (limit : ℕ) (T : Table) (H : ℕ) (S : List Visit) (sched : IsSchedul
         k = send-is T H s .0 es
 
         not-send : Alone (componentOf T (v .component)) τ v → isSend T H v ≡ true → ⊥
-        not-send (internal e) f = silent (sym (ap sends e) ∙ send-is T H v .0 f .1)
-        not-send (timeout e n t) f = silent (sym (ap sends e) ∙ send-is T H v .0 f .1)
+        not-send (internal e) f = some-clash (sym (send-is T H v .0 f .1) ∙ ap sends e)
+        not-send (timeout e n t) f = some-clash (sym (send-is T H v .0 f .1) ∙ ap sends e)
 
         not-heard : Alone (componentOf T (v .component)) τ v → r ≡ v → ⊥
         not-heard (internal e) i =
             let l : listens (visitArc T v) ≡ true = subst (λ (x : Visit). isReceive T x ≡ true) i (hears-is T r s .0 h .0) in
             clash (sym (ap receives e) ∙ l)
-        not-heard (timeout e n t) i = silent (sym n ∙ ap (λ (x : Visit). x .message) (sym i) ∙ heard-message s r ms mr es h ∙ k .1)
+        not-heard (timeout e n t) i = some-clash (sym (ap (λ (x : Visit). x .message) (sym i) ∙ heard-message s r ms mr es h ∙ k .1) ∙ n)
 
     -- a send and a receive that finish together are a pair, and in no other
     pub together-paired : (v w : Visit) → v ∈ S → w ∈ S → isSend T H v ≡ true → mayHear T w v ≡ true

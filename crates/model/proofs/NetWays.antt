@@ -3,9 +3,9 @@ use mathlib.Core.Path.{_≡_, refl, sym, ap, ap₂, _∙_}
 use mathlib.Core.List.{List, [], _∷_, _++_, append-assoc, append-nil}
 use mathlib.Core.Option.{Option, none, some}
 use Prim.Native.Nat.{ℕ}
-use native.Mathlib.Omega.{arith}
 use Rattle.model.specs.Table.{Table}
 use Rattle.model.specs.Network.{State, Place, Label, step, onward, follow, placeOf, leftBy, passagesOn, Work, workBy, worksOn}
+use Rattle.model.proofs.Parts.{some-clash}
 
 -- the passages that component c leaves along a list of steps
 unfoldable pub leftOn : Table → ℕ → State → List Label → List Place
@@ -21,10 +21,6 @@ pub record Way (T : Table) (s : State) (ls : List Label) (t : State) (left : ℕ
 
 -- ## Two lists of steps, one after the other
 
--- nothing is no state
-nowhere : {A : Type 0} {t : State} → none ≡ some t → A
-nowhere e = absurd (let z : _≡_ {A = ℕ} 0 1 = cc in omega arith)
-
 -- they lead where the second leads from where the first leads
 pub follow-append : (T : Table) (s : State) (ls ms : List Label) {t : State} → follow T s ls ≡ some t → follow T s (ls ++ ms) ≡ follow T t ms
 unfolding follow
@@ -33,7 +29,7 @@ follow-append T s (l ∷ ls) ms {t} e = go (step T s l) (λ u h. follow-append T
   where
     go : (o : Option State) → ((u : State) → follow T u ls ≡ some t → follow T u (ls ++ ms) ≡ follow T t ms)
         → onward o (λ u. follow T u ls) none ≡ some t → onward o (λ u. follow T u (ls ++ ms)) none ≡ follow T t ms
-    go none ih h = nowhere h
+    go none ih h = some-clash (sym h)
     go (some u) ih h = ih u h
 
 -- a component leaves what it leaves on the first, then on the second
@@ -46,7 +42,7 @@ left-append T c s (l ∷ ls) ms {t} e = go (step T s l) (λ u h. left-append T c
     go : (o : Option State) → ((u : State) → follow T u ls ≡ some t → leftOn T c u (ls ++ ms) ≡ leftOn T c u ls ++ leftOn T c t ms)
         → onward o (λ u. follow T u ls) none ≡ some t
         → leftBy s c l ++ onward o (λ u. leftOn T c u (ls ++ ms)) [] ≡ (leftBy s c l ++ onward o (λ u. leftOn T c u ls) []) ++ leftOn T c t ms
-    go none ih h = nowhere h
+    go none ih h = some-clash (sym h)
     go (some u) ih h = ap (λ (x : List Place). leftBy s c l ++ x) (ih u h) ∙ sym (append-assoc (leftBy s c l) (leftOn T c u ls) (leftOn T c t ms))
 
 -- the works of the first, then those of the second
@@ -58,7 +54,7 @@ works-append T s (l ∷ ls) ms {t} e = go (step T s l) (λ u h. works-append T u
     go : (o : Option State) → ((u : State) → follow T u ls ≡ some t → worksOn T u (ls ++ ms) ≡ worksOn T u ls ++ worksOn T t ms)
         → onward o (λ u. follow T u ls) none ≡ some t
         → workBy T s l ++ onward o (λ u. worksOn T u (ls ++ ms)) [] ≡ (workBy T s l ++ onward o (λ u. worksOn T u ls) []) ++ worksOn T t ms
-    go none ih h = nowhere h
+    go none ih h = some-clash (sym h)
     go (some u) ih h = ap (λ (x : List Work). workBy T s l ++ x) (ih u h) ∙ sym (append-assoc (workBy T s l) (worksOn T u ls) (worksOn T t ms))
 
 -- the passages on a path are those left along its first part, then those on the rest
@@ -71,7 +67,7 @@ passages-append T c s (l ∷ ls) ms {t} e = go (step T s l) (λ u h. passages-ap
     go : (o : Option State) → ((u : State) → follow T u ls ≡ some t → passagesOn T c u (ls ++ ms) ≡ leftOn T c u ls ++ passagesOn T c t ms)
         → onward o (λ u. follow T u ls) none ≡ some t
         → leftBy s c l ++ onward o (λ u. passagesOn T c u (ls ++ ms)) [] ≡ (leftBy s c l ++ onward o (λ u. leftOn T c u ls) []) ++ passagesOn T c t ms
-    go none ih h = nowhere h
+    go none ih h = some-clash (sym h)
     go (some u) ih h = ap (λ (x : List Place). leftBy s c l ++ x) (ih u h) ∙ sym (append-assoc (leftBy s c l) (leftOn T c u ls) (passagesOn T c t ms))
 
 -- ## Ways

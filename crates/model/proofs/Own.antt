@@ -81,6 +81,6 @@ own-put g c vs = only-map (put g) (λ v. eqb (v .component) c) vs
 pub in-own : {v : Visit} {vs : List Visit} → v ∈ vs → v ∈ own (v .component) vs
 in-own {v} {vs} i = only-is (λ (x : Visit). eqb (x .component) (v .component)) vs .1 (i, eq-eqb (v .component) (v .component) refl)
 
--- a passage among those of a component is of that component, and in the list
-pub own-in : {v : Visit} (c : ℕ) (vs : List Visit) → v ∈ own c vs → (v .component ≡ c) × (v ∈ vs)
-own-in {v} c vs i = let h = only-is (λ (x : Visit). eqb (x .component) c) vs .0 i in (eqb-true (v .component) c (h .1), h .0)
+-- a passage among those of a component is in the list, and of that component
+pub own-in : {v : Visit} (c : ℕ) (vs : List Visit) → v ∈ own c vs → (v ∈ vs) × (v .component ≡ c)
+own-in {v} c vs i = let h = only-is (λ (x : Visit). eqb (x .component) c) vs .0 i in (h .0, eqb-true (v .component) c (h .1))

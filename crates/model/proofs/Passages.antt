@@ -17,9 +17,9 @@ use Rattle.model.specs.Schedule.{Visit, own, withMessage, startEntry}
 use Rattle.model.specs.Checks.{noVisit, visitAt}
 use Rattle.model.specs.Chains.{Opens, Chain, last, link, Chained, Before, Ordered, IsSchedule}
 use Rattle.model.specs.Chains.{none as no-passage, more as first-passage}
+use Rattle.model.proofs.Parts.{some-clash}
 use Rattle.model.proofs.Walk.{all-at}
 use Rattle.model.proofs.Opening.{Opened, opened}
-use Rattle.model.proofs.Soonest.{some-clash}
 use Rattle.model.proofs.Own.{in-all, all-in, in-own}
 
 -- ## Clocks and values at an entry

@@ -130,7 +130,7 @@ module _ (T : Table) (H : ℕ) (S : List Visit) where
         go [] e k = inl (omega (arith, linked .0, chain-last k))
         go (x ∷ ws) e k =
             let t = opens-follows H j (componentOf T j) (visitAt cur j) x (chain-link k .0) (chain-link k .1) in
-            let b : Before w x = all-in before (own-in j rest (subst (λ l. x ∈ l) (sym e) (here refl)) .1) in
+            let b : Before w x = all-in before (own-in j rest (subst (λ l. x ∈ l) (sym e) (here refl)) .0) in
             elim b [ inl q ↦ inl (omega (arith, q, t .tick, w-entry)) | inr q ↦ inr (omega (arith, q .0, t .tick, w-entry), omega (arith, q .1, t .component, a .each i (fw .component), a .each j h)) ]
 
     -- v is what closes next

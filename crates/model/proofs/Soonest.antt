@@ -13,15 +13,12 @@ use lib.ListN.{length}
 use Rattle.model.specs.Schedule.{Visit, sooner, earliest, next}
 use Rattle.model.specs.Checks.{visitAt}
 use Rattle.model.proofs.Bools.{clash}
+use Rattle.model.proofs.Parts.{some-clash}
 
 -- v ends no later than x, and if at the same tick, its component is not above x's
 pub record NoLater (v x : Visit) : Type 0 where
   pub end : v .end ≤ x .end
   pub component : v .end ≡ x .end → v .component ≤ x .component
-
--- some is not none: anything follows
-pub some-clash : {A : Type 0} {B : Type 0} {x : A} → some x ≡ none → B
-some-clash e = absurd (let z : _≡_ {A = ℕ} 0 1 = cc in omega arith)
 
 -- no passage is later than itself
 no-later-self : (v : Visit) → NoLater v v
