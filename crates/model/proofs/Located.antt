@@ -59,7 +59,7 @@ module _ (channels : ℕ) (C : Component) (h : ComponentIn channels C) (bs : Lis
       walk locationBytes (λ r. 3) (LocationIn s) (λ l r i. refl) bs noLocation (locationPlace b) (λ l. omega arith) (h .locations) (stands-at at first)
 
   -- edge e
-  arc-stands : (e : ℕ) → e < length (C .arcs) → Stands bs (arcPlace bs b e) (arcBytes (arcOf C e))
+  pub arc-stands : (e : ℕ) → e < length (C .arcs) → Stands bs (arcPlace bs b e) (arcBytes (arcOf C e))
   unfolding arcPlace
   arc-stands =
       let s = sizesOf channels C in
@@ -95,7 +95,7 @@ component-length C r = word-back (2 + length (bodyBytes C)) ∙ omega arith
 
 module _ (t : Read) (h : InLimits t) (bs : List ℕ) (st : Stands bs 0 (tableBytes t)) where
   -- component c
-  component-stands : (c : ℕ) → c < size (t .table) → Stands bs (startOf bs c) (componentBytes (componentOf (t .table) c))
+  pub component-stands : (c : ℕ) → c < size (t .table) → Stands bs (startOf bs c) (componentBytes (componentOf (t .table) c))
   unfolding tableBytes startOf
   component-stands =
       let R = each componentBytes (t .table .components) in
