@@ -1,15 +1,15 @@
 -- A node whose words and variables are what they were is what it was. Assumes nothing.
-use mathlib.Core.Path.{_≡_, refl, sym, ap, ap₂, _∙_}
+use mathlib.Core.Path.{_≡_, sym, ap, ap₂, _∙_}
 use mathlib.Core.List.{List}
 use Prim.Native.Nat.{ℕ, _≤_, _<_}
 use native.Mathlib.Omega.{arith}
 use lib.IntN.{ℤ}
-use Rattle.model.specs.Lists.{All, empty, more}
 use Rattle.model.specs.Machine
 use Rattle.model.specs.Run.{standOf}
 use Rattle.node.specs.declared.Node.{Node}
 use Rattle.node.specs.declared.Counts.{Counts}
-use Rattle.node.specs.Views.{nodeOf, Within}
+use Rattle.node.specs.Views.{nodeOf}
+use Rattle.node.proofs.Held.{wider}
 use Rattle.registers.specs.Words.{wordIn, SameNode}
 use Rattle.registers.proofs.Frames as reg
 use Rattle.stand.specs.Stands.{dueTick, lastTick}
@@ -48,13 +48,6 @@ module _ {l : List ℕ} {v : List ℤ} {l′ : List ℕ} {v′ : List ℤ} {i : 
       }
 
 -- ## A higher bound
-
-raise : (m n : ℕ) {xs : List ℕ} → m ≤ n → All (λ x. x ≤ m) xs → All (λ x. x ≤ n) xs
-raise m n h empty = empty
-raise m n h (more {x} k a) = more {x = x} (omega arith) (raise m n h a)
-
-pub wider : (m n : ℕ) {r : Node} → m ≤ n → Within m r → Within n r
-wider m n h w = record { t = omega (arith, w .t); clocks = raise m n h (w .clocks); sleeps = omega (arith, w .sleeps) }
 
 pub stands-wider : {program rows : List ℕ} {n : ℕ} {l : List ℕ} {v : List ℤ} {c : ℕ} (m m′ : ℕ) → m ≤ m′ → NodeStands program rows n l v c m → NodeStands program rows n l v c m′
 stands-wider m m′ h a =

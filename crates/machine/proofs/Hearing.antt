@@ -2,12 +2,12 @@
 use mathlib.Core.Path.{_≡_, refl, sym, ap, ap₂, subst, _∙_}
 use mathlib.Core.Bool.{Bool, true, false, _&&_, not}
 use mathlib.Core.List.{List, [], map}
-use Prim.Native.Nat.{ℕ, _+_, _-_, _≤_, _<_}
+use Prim.Native.Nat.{ℕ, _+_, _≤_, _<_}
 use native.Mathlib.Omega.{arith}
 use borrow.Author.Tests.{eqb-true, eqb-false, le-leb, lt-leb, eq-eqb, ne-eqb}
 use lib.Dec.{leb, eqb}
 use lib.IntN.{ℤ}
-use lib.ListN.{length, take, drop, getD}
+use lib.ListN.{length, drop, getD}
 use Rattle.model.specs.Lists.{isNone, below}
 use Rattle.model.specs.Machine.{Node}
 use Rattle.model.specs.Run.{Run, noNode, nodeOf, standAt, standOf, names, hears, listeners}
@@ -17,13 +17,8 @@ use Rattle.registers.specs.Words.{wordIn, partIn}
 use Rattle.machine.specs.Running.{viewIn}
 use Rattle.machine.specs.Chosen.{IsFirst}
 use Rattle.machine.proofs.Numbered.{length-below, at-below, none-first, one-first}
+use Rattle.machine.proofs.Lent.{lent, lent-is}
 use Rattle.machine.proofs.Ops.{stands-listening}
-
--- the part between two places
-pub between : (program l : List ℕ) (c base end : ℕ) → base ≡ wordIn l c 21 → end ≡ base + wordIn l c 22 → take (end - base) (drop base program) ≡ partIn program l c
-between program l c base end e f =
-    let d : end - base ≡ wordIn l c 22 = omega arith in
-    ap₂ (λ (m b : ℕ). take m (drop b program)) d e
 
 and-false : (a : Bool) → a && false ≡ false
 and-false true = refl
@@ -43,10 +38,10 @@ module _ (program l : List ℕ) (v : List ℤ) (k t i : ℕ) where
   deaf-taken h = rw (eq-eqb (wordIn l i 10) 1 h, and-false (names k (standOf (viewIn program l v i))))
 
   -- else what it stands at decides
-  pub heard : (base end at : ℕ) (r : Bool) → base ≡ wordIn l i 21 → end ≡ base + wordIn l i 22 → at ≡ wordIn l i 0
-      → r ≡ names k (standAt (restAt (take (end - base) (drop base program)) at)) → wordIn l i 1 ≤ t → (wordIn l i 10 ≡ 1 → ⊥) → r ≡ hearsIn
-  heard base end at r b e a s h n =
-      s ∙ (ap₂ (λ (p : List ℕ) (m : ℕ). names k (standAt (restAt p m))) (between program l i base end b e) a ∙ sym (kept (names k (standOf (viewIn program l v i)))))
+  pub heard : (base size at : ℕ) (r : Bool) → base ≡ wordIn l i 21 → size ≡ wordIn l i 22 → at ≡ wordIn l i 0
+      → r ≡ names k (standAt (restAt (lent program base size) at)) → wordIn l i 1 ≤ t → (wordIn l i 10 ≡ 1 → ⊥) → r ≡ hearsIn
+  heard base size at r b e a s h n =
+      s ∙ (ap₂ (λ (p : List ℕ) (m : ℕ). names k (standAt (restAt p m))) (lent-is program l i base size b e) a ∙ sym (kept (names k (standOf (viewIn program l v i)))))
     where
       kept : (x : Bool) → x && isNone (viewIn program l v i .goes) && leb (wordIn l i 1) t ≡ x
       kept true = rw (le-leb (wordIn l i 1) t h, ne-eqb (wordIn l i 10) 1 n)

@@ -1,6 +1,6 @@
 pub mod Numbered
 pub mod Frames
-pub mod Placing
+pub mod Lent
 pub mod RowsOwn
 pub mod Ops
 pub mod Sleeps

@@ -5,7 +5,7 @@ use mathlib.Core.List.{List}
 use Prim.Native.Nat.{ℕ, _+_, _-_, _≤_, _<_}
 use native.Mathlib.Omega.{arith}
 use lib.IntN.{ℤ}
-use lib.ListN.{length, take, drop, length-take, length-drop}
+use lib.ListN.{length, drop, length-take, length-drop}
 use lib.Seq.{getD-drop}
 use Rattle.model.specs.Reader.{byte}
 use Rattle.model.specs.Machine
@@ -14,20 +14,21 @@ use Rattle.node.specs.declared.Counts.{Counts}
 use Rattle.node.specs.declared.Node.{Node}
 use Rattle.node.specs.Views.{nodeOf, opIn, Held, Within, Addable}
 use Rattle.node.proofs.Ops.{opens}
+use Rattle.node.proofs.Held.{wider}
 use Rattle.registers.specs.Words.{wordIn, nodeIn, partIn, heldIn, SameNode}
 use Rattle.stand.specs.Stands.{mayFinish}
 use Rattle.machine.specs.Running.{viewIn, NodeStands, Standing}
 use Rattle.machine.specs.Chosen.{opOf, Inside}
 use Rattle.registers.proofs.Frames.{same-part}
-use Rattle.machine.proofs.Frames.{wider, stands-wider}
+use Rattle.machine.proofs.Frames.{stands-wider}
 use Rattle.machine.proofs.Ops.{addable}
-use Rattle.machine.proofs.Hearing.{between}
+use Rattle.machine.proofs.Lent.{lent, lent-is, lent-short}
 
 -- the op, read from the part's bytes as they were lent
 pub op-read : (program l : List ℕ) (v : List ℤ) (c base len at o : ℕ) → base ≡ wordIn l c 21 → len ≡ wordIn l c 22 → at ≡ wordIn l c 0
-    → o ≡ opIn (drop at (take (base + len - base) (drop base program))) → o ≡ opOf program l v c
+    → o ≡ opIn (drop at (lent program base len)) → o ≡ opOf program l v c
 op-read program l v c base len at o b s p e =
-    e ∙ ap₂ (λ (m : ℕ) (q : List ℕ). opIn (drop m q)) p (between program l c base (base + len) b (ap (λ (x : ℕ). base + x) s))
+    e ∙ ap₂ (λ (m : ℕ) (q : List ℕ). opIn (drop m q)) p (lent-is program l c base len b s)
 
 -- where its part lies, its counts and registers
 pub record Loaded (program rows : List ℕ) (n : ℕ) (l : List ℕ) (v : List ℤ) (c base len : ℕ) (held : Counts) (r : Node) : Type 0 where
@@ -39,25 +40,25 @@ pub record Loaded (program rows : List ℕ) (n : ℕ) (l : List ℕ) (v : List �
 
 module _ {program rows : List ℕ} {n : ℕ} {l : List ℕ} {v : List ℤ} {c base len : ℕ} {held : Counts} {r : Node} (a : Loaded program rows n l v c base len held r) where
   -- the part's bytes, as they were lent
-  abbrev lent : List ℕ
-  lent = take (base + len - base) (drop base program)
+  abbrev bytes : List ℕ
+  bytes = lent program base len
 
-  lent-is : lent ≡ partIn program l c
-  lent-is = between program l c base (base + len) (a .begins) (ap (λ (x : ℕ). base + x) (a .spans))
+  bytes-are : bytes ≡ partIn program l c
+  bytes-are = lent-is program l c base len (a .begins) (a .spans)
 
   -- the node, over its part
   pub view-of : nodeOf (partIn program l c) held r ≡ viewIn program l v c
   view-of = ap₂ (λ (k : Counts) (x : Node). nodeOf (partIn program l c) k x) (a .counts) (a .node)
 
-  view-is : nodeOf lent held r ≡ viewIn program l v c
-  view-is = ap (λ (x : List ℕ). nodeOf x held r) lent-is ∙ view-of
+  view-is : nodeOf bytes held r ≡ viewIn program l v c
+  view-is = ap (λ (x : List ℕ). nodeOf x held r) bytes-are ∙ view-of
 
   -- the part lies in the program, is short, and the registers are within bounds
   pub inside : base + len ≤ length program
   inside = let e = a .begins in let f = a .spans in omega (arith, a .stands .inside)
 
-  pub short : length lent ≤ 65535
-  short = let f = a .spans in simp length-take (omega (arith, a .stands .short))
+  pub short : length bytes ≤ 65535
+  short = let f = a .spans in lent-short program base len (omega (arith, a .stands .short))
 
   pub held-fine : Held held
   held-fine = subst (λ (k : Counts). Held k) (sym (a .counts)) (a .stands .held)
@@ -66,12 +67,12 @@ module _ {program rows : List ℕ} {n : ℕ} {l : List ℕ} {v : List ℤ} {c ba
   within = subst (λ (x : Node). Within 4000000000000000000 x) (sym (a .node)) (wider 2000000000000000000 4000000000000000000 (omega arith) (a .stands .within))
 
   -- whether it may finish its statement
-  pub may : (tick : ℕ) (x y : Bool) → x ≡ mayFinish tick (nodeOf lent held r) (standOf (nodeOf lent held r)) → x ≡ y
+  pub may : (tick : ℕ) (x y : Bool) → x ≡ mayFinish tick (nodeOf bytes held r) (standOf (nodeOf bytes held r)) → x ≡ y
       → mayFinish tick (viewIn program l v c) (standOf (viewIn program l v c)) ≡ y
   may tick x y e f = sym (ap (λ (q : Rattle.model.specs.Machine.Node). mayFinish tick q (standOf q)) view-is) ∙ (sym e ∙ f)
 
   -- the statement's op
-  pub op-is : (o : ℕ) → o ≡ opIn (drop (r .pc) lent) → o ≡ opOf program l v c
+  pub op-is : (o : ℕ) → o ≡ opIn (drop (r .pc) bytes) → o ≡ opOf program l v c
   op-is o e = op-read program l v c base len (r .pc) o (a .begins) (a .spans) (ap (λ (x : Node). x .pc) (a .node)) e
 
   -- an addition that may be finished stays in range
@@ -93,10 +94,10 @@ module _ {program rows : List ℕ} {n : ℕ} {l : List ℕ} {v : List ℤ} {c ba
       let k : length (partIn program l c) ≤ wordIn l c 22 = simp length-take (omega arith) in
       omega (arith, a .stands .short)
 
-  pub channel : (k : ℕ) → k ≡ byte lent (r .pc + 1) → k ≡ byte (drop (wordIn l c 0) (partIn program l c)) 1
+  pub channel : (k : ℕ) → k ≡ byte bytes (r .pc + 1) → k ≡ byte (drop (wordIn l c 0) (partIn program l c)) 1
   channel k e =
       e
-      ∙ (ap₂ (λ (m : ℕ) (p : List ℕ). byte p (m + 1)) (ap (λ (x : Node). x .pc) (a .node)) lent-is
+      ∙ (ap₂ (λ (m : ℕ) (p : List ℕ). byte p (m + 1)) (ap (λ (x : Node). x .pc) (a .node)) bytes-are
       ∙ sym (getD-drop (wordIn l c 0) (partIn program l c) 1 0))
 
 -- node c stands well within what its next statement asks

@@ -2,36 +2,24 @@
 use mathlib.Core.Path.{_≡_, refl, sym, ap, ap₂, subst, _∙_}
 use mathlib.Core.Logic.{_⊎_, ⊎-elim}
 use mathlib.Core.List.{List}
-use Prim.Native.Nat.{ℕ, suc, _+_, _-_, _*_, _≤_, _<_}
+use Prim.Native.Nat.{ℕ, suc, _+_, _*_, _≤_, _<_}
 use native.Mathlib.Omega.{arith}
 use lib.IntN.{ℤ}
-use lib.ListN.{length, take, drop, set, length-set, length-take}
+use lib.ListN.{length, drop, set}
 use Rattle.model.specs.Machine.{finish}
 use Rattle.model.specs.Run.{standOf, takesMessage}
-use Rattle.model.proofs.Own.{all-then}
 use Rattle.rows.specs.Rows.{rowsOf}
 use Rattle.node.specs.declared.Counts.{Counts}
 use Rattle.node.specs.declared.Node.{Node}
 use Rattle.node.specs.Views.{nodeOf, Held, Within, Grown, opIn, Addable}
+use Rattle.node.proofs.Held.{wider}
 use Rattle.stand.specs.Stands.{dueTick, lastTick}
 use Rattle.registers.specs.Words.{wordIn, nodeIn, partIn, heldIn, Eight, Stored}
+use Rattle.registers.proofs.Frames.{part-alike, held-alike, same-trans, put-there, put-beside, put-node, put-others, put-eight, stored-eight}
 use Rattle.machine.specs.Running.{RowIs, readyAt, viewIn, NodeStands}
 use Rattle.machine.specs.Chosen.{opOf, Inside, NodePut, RowPassed, NodeMoved}
-use Rattle.machine.proofs.Placing.{put-here, put-beside, put-others, same-registers, same-part, same-held, same-then}
+use Rattle.machine.proofs.Lent.{lent, lent-is, lent-short}
 use Rattle.machine.proofs.Sleeps.{sleep-finished, work-finished, message-taken}
-
--- ## A node's part as the code lends it
-
-abbrev pub lent : List ℕ → ℕ → ℕ → List ℕ
-lent program base size = take (base + size - base) (drop base program)
-
-pub lent-is : (program l : List ℕ) (c base size : ℕ) → base ≡ wordIn l c 21 → size ≡ wordIn l c 22 → lent program base size ≡ partIn program l c
-lent-is program l c base size b s =
-    let e : base + size - base ≡ wordIn l c 22 = omega arith in
-    rw (e, b)
-
-pub lent-short : (program : List ℕ) (base size : ℕ) → size ≤ 65535 → length (lent program base size) ≤ 65535
-lent-short program base size h = simp length-take (omega arith)
 
 -- ## Put back
 
@@ -41,67 +29,48 @@ still-inside program l v c q l′ v′ s i =
     let size = s .beside 22 (omega arith) (omega arith) in
     record { inside = rw (base, size) (i .inside); short = rw size (i .short) }
 
+-- when the node is due, and when it is late, put beside its registers
 module _ (program rows : List ℕ) (n : ℕ) (l : List ℕ) (v : List ℤ) (c : ℕ) (q : Node) (l₁ : List ℕ) (v₁ : List ℤ) (due last : ℕ)
-    (e : Eight l v) (h : c < 8) (s : Stored l v c q l₁ v₁) where
-  long₁ : 256 ≤ length l₁
-  long₁ = omega (arith, e .words, s .length-l)
+    (e : Eight l v) (h : c < 8) (s : Stored l v c q l₁ v₁) (l₂ l₃ : List ℕ) (a : l₂ ≡ set l₁ (c * 32 + 26) due) (b : l₃ ≡ set l₂ (c * 32 + 27) last) where
+  eight₁ : Eight l₁ v₁
+  eight₁ = stored-eight s e
 
-  -- when the node is due, and when it is late, put beside its registers
-  abbrev l₂ : List ℕ
-  l₂ = set l₁ (c * 32 + 26) due
-
-  abbrev l₃ : List ℕ
-  l₃ = set l₂ (c * 32 + 27) last
+  eight₂ : Eight l₂ v₁
+  eight₂ = put-eight l₁ c 26 due a v₁ eight₁
 
   kept : (k : ℕ) → k < 26 → wordIn l₃ c k ≡ wordIn l₁ c k
-  kept k b = put-beside l₂ c 27 last k (λ z. omega arith) ∙ put-beside l₁ c 26 due k (λ z. omega arith)
+  kept k m = put-beside l₂ c 27 last b k (λ z. omega arith) ∙ put-beside l₁ c 26 due a k (λ z. omega arith)
 
   node : nodeIn l₃ v₁ c ≡ q
-  node = same-registers l₁ v₁ l₃ v₁ c (λ k b. kept k (omega arith)) (λ k b. refl) ∙ s .node
+  node = put-node l₂ c 27 last b v₁ (omega arith) ∙ put-node l₁ c 26 due a v₁ (omega arith) ∙ s .node
 
   view : viewIn program l₃ v₁ c ≡ nodeOf (partIn program l₁ c) (heldIn l₁ c) q
   view =
       ap₂ (λ (p : List ℕ) (held : Counts). nodeOf p held (nodeIn l₃ v₁ c))
-      (same-part program l₁ l₃ c (kept 21 (omega arith)) (kept 22 (omega arith)))
-      (same-held l₁ l₃ c (kept 23 (omega arith)) (kept 24 (omega arith)))
+      (part-alike program l₁ l₃ c (λ k i m. kept k (omega arith)))
+      (held-alike l₁ l₃ c (λ k i m. kept k (omega arith)))
       ∙ ap (nodeOf (partIn program l₁ c) (heldIn l₁ c)) node
 
-  put-all : (p : List ℕ) (held : Counts) (next : ℕ) → p ≡ partIn program l₁ c → held ≡ heldIn l₁ c → next ≡ readyAt (rowsOf rows n) (wordIn l₁ c 25)
+  pub node-put : (p : List ℕ) (held : Counts) (next : ℕ) → p ≡ partIn program l₁ c → held ≡ heldIn l₁ c → next ≡ readyAt (rowsOf rows n) (wordIn l₁ c 25)
       → due ≡ dueTick (nodeOf p held q) (standOf (nodeOf p held q)) → last ≡ lastTick (nodeOf p held q) next (standOf (nodeOf p held q))
       → NodePut program rows n l v c q l₃ v₁
-  put-all p held next ep eh en ed el =
+  node-put p held next ep eh en ed el =
       let same : nodeOf p held q ≡ viewIn program l₃ v₁ c = ap₂ (λ (x : List ℕ) (y : Counts). nodeOf x y q) ep eh ∙ sym view in
       let ready : next ≡ readyAt (rowsOf rows n) (wordIn l₃ c 25) = en ∙ ap (readyAt (rowsOf rows n)) (sym (kept 25 (omega arith))) in
-      let long₂ : 256 ≤ length l₂ = omega (arith, long₁, length-set l₁ (c * 32 + 26) due) in
       record {
         node = node;
-        beside = λ k a b. kept k b ∙ s .beside k a (omega arith);
+        beside = λ k i m. kept k m ∙ s .beside k i (omega arith);
         due =
-            put-beside l₂ c 27 last 26 (λ z. omega arith) ∙ put-here l₁ c 26 due long₁ h (omega arith) ∙ ed
+            put-beside l₂ c 27 last b 26 (λ z. omega arith) ∙ put-there l₁ c 26 due a (eight₁ .words) h (omega arith) ∙ ed
             ∙ ap (λ (x : Rattle.model.specs.Machine.Node). dueTick x (standOf x)) same;
         last =
-            put-here l₂ c 27 last long₂ h (omega arith) ∙ el
+            put-there l₂ c 27 last b (eight₂ .words) h (omega arith) ∙ el
             ∙ ap₂ (λ (x : Rattle.model.specs.Machine.Node) (m : ℕ). lastTick x m (standOf x)) same ready;
         others = λ i d.
-            same-then (s .others i d)
-            (record {
-              words = λ k b. put-others l₂ c 27 last i k (omega arith) d b ∙ put-others l₁ c 26 due i k (omega arith) d b;
-              values = λ k b. refl;
-            });
-        eight =
-            record {
-              words = omega (arith, long₂, length-set l₂ (c * 32 + 27) last);
-              values = omega (arith, e .values, s .length-v);
-            };
+            same-trans (s .others i d)
+            (same-trans (put-others l₁ c 26 due a v₁ i d (omega arith)) (put-others l₂ c 27 last b v₁ i d (omega arith)));
+        eight = put-eight l₂ c 27 last b v₁ eight₂;
       }
-
-  pub node-put : (l₄ l₅ : List ℕ) → l₄ ≡ l₂ → l₅ ≡ set l₄ (c * 32 + 27) last
-      → (p : List ℕ) (held : Counts) (next : ℕ) → p ≡ partIn program l₁ c → held ≡ heldIn l₁ c → next ≡ readyAt (rowsOf rows n) (wordIn l₁ c 25)
-      → due ≡ dueTick (nodeOf p held q) (standOf (nodeOf p held q)) → last ≡ lastTick (nodeOf p held q) next (standOf (nodeOf p held q))
-      → NodePut program rows n l v c q l₅ v₁
-  node-put l₄ l₅ a b p held next ep eh en ed el =
-      subst (λ (x : List ℕ). NodePut program rows n l v c q x v₁) (sym (b ∙ ap (λ (x : List ℕ). set x (c * 32 + 27) last) a))
-      (put-all p held next ep eh en ed el)
 
 -- ## Moved
 
@@ -129,10 +98,10 @@ module _ (program rows : List ℕ) (n : ℕ) (l : List ℕ) (v : List ℤ) (c : 
   fixed k a b = p .beside k a (omega arith) ∙ w .beside k (omega arith) (λ z. omega arith)
 
   held-same : heldIn l′ c ≡ heldIn l c
-  held-same = same-held l l′ c (fixed 23 (omega arith) (omega arith)) (fixed 24 (omega arith) (omega arith))
+  held-same = held-alike l l′ c fixed
 
   part-same : partIn program l′ c ≡ partIn program l c
-  part-same = same-part program l l′ c (fixed 21 (omega arith) (omega arith)) (fixed 22 (omega arith) (omega arith))
+  part-same = part-alike program l l′ c fixed
 
   row-now : RowIs (rowsOf rows n) c (nodeIn l v c .sleeps) (wordIn l c 25) → RowIs (rowsOf rows n) c (nodeIn l′ v′ c .sleeps) (wordIn l′ c 25)
   row-now r =
@@ -162,15 +131,11 @@ module _ (program rows : List ℕ) (n : ℕ) (l : List ℕ) (v : List ℤ) (c : 
             ∙ ap (nodeOf (partIn program l c) (heldIn l c)) (p .node) ∙ e;
         stands = stands-now;
         fixed = fixed;
-        others = λ i d. same-then (record { words = λ k b. w .others i k d b; values = λ k b. refl }) (p .others i d);
+        others = λ i d. same-trans (record { words = λ k b. w .others i k d b; values = λ k b. refl }) (p .others i d);
         eight = p .eight;
       }
 
 -- ## What is asked before
-
-within-more : (m k : ℕ) (r : Node) → m ≤ k → Within m r → Within k r
-within-more m k r h w =
-    record { t = omega (arith, w .t); clocks = all-then (λ x b. omega arith) (w .clocks); sleeps = omega (arith, w .sleeps) }
 
 -- what a move of node c asks of its part as lent, its counts and its registers
 pub record Asked (program l : List ℕ) (v : List ℤ) (c base size : ℕ) (counts : Counts) (r : Node) : Type 0 where
@@ -193,13 +158,13 @@ asks program rows n l v c base size held r b z k e s =
       held = subst Held (sym k) (s .held);
       within =
           subst (Within 4000000000000000000) (sym e)
-          (within-more 3000000000000000000 4000000000000000000 (nodeIn l v c) (omega arith) (s .within));
+          (wider 3000000000000000000 4000000000000000000 (omega arith) (s .within));
       addable = λ a.
           subst (λ (x : List ℕ). Addable (drop (r .pc) x) held r) (sym part)
           (subst (λ (x : Counts). Addable (drop (r .pc) (partIn program l c)) x r) (sym k) a);
       op = λ o. ap₂ (λ (x : Node) (y : List ℕ). opIn (drop (x .pc) y)) e part ∙ o;
       put = λ q g.
-          within-more 3000000000000131070 4000000000000000000 q (omega arith)
+          wider 3000000000000131070 4000000000000000000 (omega arith)
           (g 3000000000000000000 (subst (Within 3000000000000000000) (sym e) (s .within)));
     }
 

@@ -11,11 +11,8 @@ use lib.Seq.{ext-getD, getD-set-same, getD-set-other}
 use Rattle.model.specs.Lists.{only, from, below, _∈_, here, there}
 use Rattle.model.proofs.Bools.{clash}
 use Rattle.model.proofs.Members.{not-in, only-is}
+use Rattle.model.proofs.ProgramSize.{length-from}
 use Rattle.machine.specs.Chosen.{IsFirst}
-
-length-from : (i n : ℕ) → length (from i n) ≡ n
-length-from i zero = refl
-length-from i (suc n) = ap suc (length-from (suc i) n)
 
 module _ {A : Type 0} where
   -- as many as the numbers

@@ -1,22 +1,20 @@
 -- From the op at a place to what the node stands at there. Assumes nothing.
 use mathlib.Core.Path.{_≡_, refl, sym, ap, _∙_}
-use mathlib.Core.Bool.{Bool, true, false, not}
-use mathlib.Core.List.{List, [], _∷_}
-use mathlib.Core.Option.{Option, none}
-use Prim.Native.Nat.{ℕ, zero, suc}
-use borrow.Author.Tests.{not-true}
-use lib.ListN.{drop, getD}
-use Rattle.model.specs.Lists.{all}
+use mathlib.Core.Bool.{Bool, true, false}
+use mathlib.Core.List.{List}
+use Prim.Native.Nat.{ℕ}
+use borrow.Author.Tests.{eqb-true, eqb-false}
+use lib.Dec.{eqb}
+use lib.ListN.{drop}
 use Rattle.model.specs.Reader.{byte}
-use Rattle.model.specs.Program.{Statement}
-use Rattle.model.specs.Machine.{decodings}
 use Rattle.model.specs.Run.{Stand, sleeping, sending, listening, finishing, adding, working, taking, elsewhere, nowhere, standAt, standOf, names}
-use Rattle.model.proofs.Bools.{clash, and-is}
+use Rattle.model.proofs.Bools.{clash}
 use Rattle.node.specs.declared.Counts.{Counts}
 use Rattle.node.specs.declared.Node.{Node}
 use Rattle.node.specs.Views.{restAt, opIn, nodeOf, Addable}
-use Rattle.node.proofs.Ops.{stood, stand-op, stand-any}
+use Rattle.node.proofs.Ops.{stand-op}
 use Rattle.stand.specs.Stands.{mayFinish}
+use Rattle.stand.proofs.ByOp.{Sort, sleeps, works, adds, ends, sends, listens, takes, between, lost, sort-is, unnamed}
 
 -- it neither sleeps nor sends
 abbrev pub plain : Stand → Bool
@@ -30,42 +28,30 @@ plain taking = true
 plain elsewhere = true
 plain nowhere = true
 
--- what holds of each, and of what an index past the end reads, holds at any index
-at-any : {A : Type 0} (t : A → Bool) (xs : List A) (d : A) (k : ℕ) → all t xs ≡ true → t d ≡ true → t (getD xs k d) ≡ true
-at-any t [] d k h e = e
-at-any t (x ∷ xs) d zero h e = and-is (t x) (all t xs) .0 h .0
-at-any t (x ∷ xs) d (suc k) h e = at-any t xs d k (and-is (t x) (all t xs) .0 h .1) e
-
 -- op by op
-plain-at : (bs : List ℕ) (k : ℕ) → (k ≡ 0 → ⊥) → (k ≡ 4 → ⊥) → plain (stood (getD (decodings bs) k none)) ≡ true
-plain-at bs zero z f = absurd (z refl)
-plain-at bs (suc zero) z f = refl
-plain-at bs (suc (suc zero)) z f = refl
-plain-at bs (suc (suc (suc zero))) z f = refl
-plain-at bs (suc (suc (suc (suc zero)))) z f = absurd (f refl)
-plain-at bs (suc (suc (suc (suc (suc k))))) z f = at-any (λ (m : Option Statement). plain (stood m)) (drop 5 (decodings bs)) none k refl refl
-
--- only a listen names a channel
-names-at : (bs : List ℕ) (c k : ℕ) → names c (stood (getD (decodings bs) k none)) ≡ true → k ≡ 5
-names-at bs c zero e = clash e
-names-at bs c (suc zero) e = clash e
-names-at bs c (suc (suc zero)) e = clash e
-names-at bs c (suc (suc (suc zero))) e = clash e
-names-at bs c (suc (suc (suc (suc zero)))) e = clash e
-names-at bs c (suc (suc (suc (suc (suc zero))))) e = refl
-names-at bs c (suc (suc (suc (suc (suc (suc k)))))) e =
-    let others = drop 6 (decodings bs) in
-    let no : Option Statement → Bool = (λ m. not (names c (stood m))) in
-    clash (sym (not-true (names c (stood (getD others k none))) (at-any no others none k refl refl)) ∙ e)
+plain-at : {bs : List ℕ} {k : ℕ} {s : Stand} → Sort bs k s → (k ≡ 0 → ⊥) → (k ≡ 4 → ⊥) → plain s ≡ true
+plain-at (sleeps a e) z f = absurd (z a)
+plain-at (works a e) z f = rw e
+plain-at (adds a e) z f = rw e
+plain-at (ends a e) z f = rw e
+plain-at (sends a e) z f = absurd (f a)
+plain-at (listens a e) z f = rw e
+plain-at (takes a e) z f = rw e
+plain-at (between a b c e) z f = rw e
+plain-at (lost a e) z f = rw e
 
 module _ (p : List ℕ) (at : ℕ) where
   -- neither a sleep nor a send
   pub stands-plain : (opIn (drop at p) ≡ 0 → ⊥) → (opIn (drop at p) ≡ 4 → ⊥) → plain (standAt (restAt p at)) ≡ true
-  stands-plain z f = rw (stand-any p at) (plain-at (drop at p) (opIn (drop at p)) z f)
+  stands-plain = plain-at (sort-is p at (opIn (drop at p)) refl)
 
   -- what names a channel is a listen
   pub stands-listening : (c : ℕ) → names c (standAt (restAt p at)) ≡ true → opIn (drop at p) ≡ 5
-  stands-listening c e = names-at (drop at p) c (opIn (drop at p)) (rw (stand-any p at) at e)
+  stands-listening c e = go (eqb (opIn (drop at p)) 5) refl
+    where
+      go : (t : Bool) → eqb (opIn (drop at p)) 5 ≡ t → opIn (drop at p) ≡ 5
+      go true q = eqb-true (opIn (drop at p)) 5 q
+      go false q = clash (unnamed c (sort-is p at (opIn (drop at p)) refl) (eqb-false (opIn (drop at p)) 5 q) ∙ e)
 
   -- a sleep
   pub stands-sleeping : opIn (drop at p) ≡ 0 → standAt (restAt p at) ≡ sleeping

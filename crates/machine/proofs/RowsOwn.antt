@@ -7,7 +7,7 @@ use native.Mathlib.Nat.{add-zero}
 use native.Mathlib.Numerals.{add-one}
 use native.Mathlib.Omega.{arith}
 use borrow.Author.Tests.{lt-ltb, le-ltb}
-use lib.ListN.{length, drop, set, length-set, drop-of-length-le}
+use lib.ListN.{length, drop, set, drop-of-length-le}
 use lib.Seq.{drop-cons, drop-drop}
 use Rattle.model.specs.Schedule.{Visit, own}
 use Rattle.model.specs.Checks.{noVisit, visitAt}
@@ -15,9 +15,9 @@ use Rattle.model.proofs.Own.{own-here, own-other}
 use Rattle.rows.specs.Rows.{num, rowVisit, rowsFrom, rowsOf}
 use Rattle.stand.specs.Stands.{never}
 use Rattle.registers.specs.Words.{wordIn}
+use Rattle.registers.proofs.Frames.{put-there, put-beside, put-length, put-others}
 use Rattle.machine.specs.Running.{RowIs, readyAt}
 use Rattle.machine.specs.Chosen.{RowPassed}
-use Rattle.machine.proofs.Placing.{put-here, put-beside, put-others}
 
 -- ## The rows as a list
 
@@ -114,15 +114,14 @@ pub next-put : (rows : List ℕ) (n : ℕ) (l : List ℕ) (c row next : ℕ) (l�
     → own c (drop next (rowsOf rows n)) ≡ own c (drop (row + 1) (rowsOf rows n)) → (next < n → num rows next 0 ≡ c)
     → l′ ≡ set l (c * 32 + 25) next → RowPassed rows n l c l′
 next-put rows n l c row next l′ long h e b m o t s =
-    subst (RowPassed rows n l c) (sym s)
-    (record {
+    record {
       row = λ k r.
-          subst (RowIs (rowsOf rows n) c (suc k)) (sym (put-here l c 25 next long h (omega arith)))
+          subst (RowIs (rowsOf rows n) c (suc k)) (sym (put-there l c 25 next s long h (omega arith)))
           (row-passed rows n c k row next b m o t (subst (RowIs (rowsOf rows n) c k) (sym e) r));
-      beside = λ k a d. put-beside l c 25 next k d;
-      others = λ i k d a. put-others l c 25 next i k (omega arith) d a;
-      same = length-set l (c * 32 + 25) next;
-    })
+      beside = λ k a d. put-beside l c 25 next s k d;
+      others = λ i k d a. put-others l c 25 next s [] i d (omega arith) .words k a;
+      same = put-length l c 25 next s;
+    }
 
 -- there is no next passage
 pub none-put : (rows : List ℕ) (n : ℕ) (l : List ℕ) (c row : ℕ) → row ≡ wordIn l c 25 → n ≤ row → RowPassed rows n l c l

@@ -6,8 +6,9 @@ use native.Mathlib.Omega.{arith}
 use lib.ListN.{take, getD, set, length-take, List·getD-eq-default}
 use lib.Seq.{set-out}
 use Rattle.model.specs.Lists.{All, empty, more}
+use Rattle.model.proofs.Own.{all-then}
 use Rattle.node.specs.declared.Node.{Node}
-use Rattle.node.specs.Views.{Grown}
+use Rattle.node.specs.Views.{Within, Grown}
 
 -- past the first n there is nothing to read
 pub past : {A : Type 0} (n : ℕ) (l : List A) (i : ℕ) (d : A) → n ≤ i → getD (take n l) i d ≡ d
@@ -21,8 +22,10 @@ set-past n l i v h = set-out (take n l) i v (simp length-take (omega arith))
 
 -- a higher bound holds too
 pub raise : (m n : ℕ) {l : List ℕ} → m ≤ n → All (λ x. x ≤ m) l → All (λ x. x ≤ n) l
-raise m n h empty = empty
-raise m n h (more {x} k a) = more {x = x} (omega arith) (raise m n h a)
+raise m n h = all-then (λ x k. omega arith)
+
+pub wider : (m n : ℕ) {r : Node} → m ≤ n → Within m r → Within n r
+wider m n h w = record { t = omega (arith, w .t); clocks = raise m n h (w .clocks); sleeps = omega (arith, w .sleeps) }
 
 -- each is below the bound, also where there is none
 pub each-within : (m : ℕ) {l : List ℕ} (i : ℕ) → All (λ x. x ≤ m) l → getD l i 0 ≤ m

@@ -67,13 +67,13 @@ fn wide16(x: u8) -> u16
     x as u16
 }
 
-fn wide64(x: u16) -> u64
+pub fn wide64(x: u16) -> u64
     ensures { λ r. ⌜ (r ≡ x) × (r < 65536) ⌝ }
 {
     x as u64
 }
 
-fn wide32(x: i16) -> i32
+pub fn wide32(x: i16) -> i32
     ensures { λ r. ⌜ r ≡ x ⌝ }
 {
     x as i32

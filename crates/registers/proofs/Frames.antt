@@ -44,10 +44,10 @@ node-alike l l′ v v′ i w x =
     )
 
 -- where its part stands, words 21 and 22; what it holds, words 23 and 24
-pub part-alike : (program l l′ : List ℕ) (i : ℕ) → ((k : ℕ) → 21 ≤ k → k < 32 → wordIn l′ i k ≡ wordIn l i k) → partIn program l′ i ≡ partIn program l i
+pub part-alike : (program l l′ : List ℕ) (i : ℕ) → ((k : ℕ) → 21 ≤ k → k < 25 → wordIn l′ i k ≡ wordIn l i k) → partIn program l′ i ≡ partIn program l i
 part-alike program l l′ i w = rw (w 21 (omega arith) (omega arith), w 22 (omega arith) (omega arith))
 
-pub held-alike : (l l′ : List ℕ) (i : ℕ) → ((k : ℕ) → 21 ≤ k → k < 32 → wordIn l′ i k ≡ wordIn l i k) → heldIn l′ i ≡ heldIn l i
+pub held-alike : (l l′ : List ℕ) (i : ℕ) → ((k : ℕ) → 21 ≤ k → k < 25 → wordIn l′ i k ≡ wordIn l i k) → heldIn l′ i ≡ heldIn l i
 held-alike l l′ i w = rw (w 23 (omega arith) (omega arith), w 24 (omega arith) (omega arith))
 
 module _ {l : List ℕ} {v : List ℤ} {l′ : List ℕ} {v′ : List ℤ} {i : ℕ} (s : SameNode l v l′ v′ i) where
@@ -55,10 +55,10 @@ module _ {l : List ℕ} {v : List ℤ} {l′ : List ℕ} {v′ : List ℤ} {i : 
   same-node = node-alike l l′ v v′ i (λ k h. s .words k (omega arith)) (s .values)
 
   pub same-part : (program : List ℕ) → partIn program l′ i ≡ partIn program l i
-  same-part program = part-alike program l l′ i (λ k h b. s .words k b)
+  same-part program = part-alike program l l′ i (λ k h b. s .words k (omega arith))
 
   pub same-held : heldIn l′ i ≡ heldIn l i
-  same-held = held-alike l l′ i (λ k h b. s .words k b)
+  same-held = held-alike l l′ i (λ k h b. s .words k (omega arith))
 
 pub same-refl : {l : List ℕ} {v : List ℤ} {i : ℕ} → SameNode l v l v i
 same-refl = record { words = λ k h. refl; values = λ k h. refl }
@@ -104,7 +104,7 @@ module _ {l : List ℕ} {v : List ℤ} {c : ℕ} {r : Node} {l′ : List ℕ} {v
   stored-eight g = record { words = omega (arith, s .length-l, g .words); values = omega (arith, s .length-v, g .values) }
 
   pub stored-part : (program : List ℕ) → partIn program l′ c ≡ partIn program l c
-  stored-part program = part-alike program l l′ c (s .beside)
+  stored-part program = part-alike program l l′ c (λ k h b. s .beside k h (omega arith))
 
   pub stored-held : heldIn l′ c ≡ heldIn l c
-  stored-held = held-alike l l′ c (s .beside)
+  stored-held = held-alike l l′ c (λ k h b. s .beside k h (omega arith))

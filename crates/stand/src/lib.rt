@@ -1,7 +1,7 @@
 // What a node stands at: the channels it listens on, whether it may finish its statement, when it is due and when it is late
 // (document 01, 'The run').
 ghost use mathlib.Core.Path.{_≡_};
-ghost use Prim.Native.Nat.{_+_, _≤_, _<_};
+ghost use Prim.Native.Nat.{_+_, _≤_};
 ghost use lib.Dec.{eqb};
 ghost use lib.IntN.{_+ℤ_};
 ghost use lib.ListN.{length, take, drop};
@@ -18,18 +18,6 @@ use node::Counts;
 use node::Kept;
 use node::Node;
 use node::Trial;
-
-fn wide64(x: u16) -> u64
-    ensures { λ r. ⌜ (r ≡ x) × (r < 65536) ⌝ }
-{
-    x as u64
-}
-
-fn wide32(x: i16) -> i32
-    ensures { λ r. ⌜ r ≡ x ⌝ }
-{
-    x as i32
-}
 
 // Whether one of n pairs from a place on has that channel.
 fn lists_channel(p: &[u8], from: usize, n: u8, k: u8) -> bool
@@ -96,7 +84,7 @@ fn adds_in_range(h: &[u8], held: Counts, r: Node) -> bool
 {
     let values = r.values;
     let value = node::value_at(values, held.variables, h[1]);
-    let sum = wide32(value) + wide32(decoder::signed_at(h, 2));
+    let sum = node::wide32(value) + node::wide32(decoder::signed_at(h, 2));
     parts::both(-32768 <= sum, sum <= 32767)
 }
 
@@ -105,7 +93,7 @@ fn window_end(r: Node) -> u64
     requires { ⌜ Within 4000000000000000000 r ⌝ }
     ensures { λ e. ⌜ e ≡ r .t + r .d ⌝ }
 {
-    r.t + wide64(r.d)
+    r.t + node::wide64(r.d)
 }
 
 // Whether the node may finish its statement at that tick without another node.

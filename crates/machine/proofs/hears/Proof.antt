@@ -1,6 +1,4 @@
 -- `machine::hears` meets its contract. Assumes nothing.
-use mathlib.Core.Path.{ap}
-use Prim.Native.Nat.{ℕ, _+_}
 use native.Mathlib.Omega.{arith}
 use borrow.Author.Needs.{needs}
 use Rattle.machine.proofs.Hearing.{deaf-late, deaf-taken, heard}
@@ -51,7 +49,7 @@ returns-3 : tie.Need-returns-3
 returns-3 c v =
     let f = c .before .before .before in
     let a = f .before .before .before .before .before .before .before .before .args in
-    heard (a .program .now) (a .l .now) v (a .k) (a .t) (a .i) _ _ _ (c .names .result) (f .before .word3 .ensures) (ap (λ (x : ℕ). f .before .word3 .result + x) (f .word4 .ensures)) (c .before .before .word5 .ensures) (c .names .ensures) (omega arith) (λ e. omega arith)
+    heard (a .program .now) (a .l .now) v (a .k) (a .t) (a .i) _ _ _ (c .names .result) (f .before .word3 .ensures) (f .word4 .ensures) (c .before .before .word5 .ensures) (c .names .ensures) (omega arith) (λ e. omega arith)
 
 pub hears-spec : {M : Type 1} → statement M
 hears-spec =

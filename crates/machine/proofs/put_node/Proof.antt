@@ -4,7 +4,8 @@ use native.Mathlib.Omega.{arith}
 use borrow.Author.Needs.{needs}
 use Rattle.rows.specs.Rows.{rowsOf}
 use Rattle.machine.specs.Running.{readyAt}
-use Rattle.machine.proofs.NodeMoves.{lent, lent-is, lent-short, still-inside, node-put}
+use Rattle.machine.proofs.Lent.{lent, lent-is, lent-short}
+use Rattle.machine.proofs.NodeMoves.{still-inside, node-put}
 use Rattle.machine.proofs.put_node.Statement.{statement}
 use Rattle.machine.proofs.put_node.Tie as tie
 

@@ -1,6 +1,6 @@
 -- `stand::adds_in_range` meets its contract. Assumes nothing.
 use mathlib.Core.Path.{_∙_}
-use Rattle.stand.proofs.Sums.{sum-held, sum-read}
+use Rattle.node.proofs.Sums.{wide-fits, wide-back}
 use borrow.Author.Needs.{needs, sfits-of}
 use Rattle.stand.proofs.adds_in_range.Statement.{statement}
 use Rattle.stand.proofs.adds_in_range.Tie as tie
@@ -24,7 +24,7 @@ add-sum : tie.Need-add-sum
 add-sum c =
     let x = c .before .before .before .value-at in
     let k = c .before .signed-at in
-    sum-held (x .result) (k .result) _ _ (sfits-of (x .ok)) (sfits-of (k .ok)) (c .before .before .wide32 .ensures) (c .wide322 .ensures)
+    wide-fits {x = x .result} {z = k .result} (sfits-of (x .ok)) (sfits-of (k .ok)) (c .before .before .wide32 .ensures) (c .wide322 .ensures)
 
 both-requires : tie.Need-both-requires
 both-requires c κs = search needs
@@ -33,7 +33,7 @@ returns : tie.Need-returns
 returns c =
     let x = c .before .before .before .before .value-at in
     let k = c .before .before .signed-at in
-    c .both .ensures ∙ rw (sum-read (x .result) (k .result) _ _ (sfits-of (x .ok)) (sfits-of (k .ok)) (c .before .before .before .wide32 .ensures) (c .before .wide322 .ensures), x .ensures, k .ensures)
+    c .both .ensures ∙ rw (wide-back {x = x .result} {z = k .result} (sfits-of (x .ok)) (sfits-of (k .ok)) (c .before .before .before .wide32 .ensures) (c .before .wide322 .ensures), x .ensures, k .ensures)
 
 pub adds-in-range-spec : {M : Type 1} → statement M
 adds-in-range-spec =
