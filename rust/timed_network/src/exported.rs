@@ -174,6 +174,20 @@ mod tests {
         0, 0, 0, 0, 0, 0, 0, // edge
     ];
 
+    /// As a C compiler lays the header's structs out on x86-64.
+    #[test]
+    fn the_answers_have_the_sizes_of_the_header() {
+        use std::mem::{offset_of, size_of};
+        assert_eq!(size_of::<VerdictNumbers>(), 2);
+        assert_eq!(size_of::<CallNumbers>(), 8);
+        assert_eq!(size_of::<PartNumbers>(), 16);
+        assert_eq!(size_of::<RunNumbers>(), 16);
+        assert_eq!(offset_of!(CallNumbers, size), 4);
+        assert_eq!(offset_of!(PartNumbers, length), 8);
+        assert_eq!(offset_of!(RunNumbers, tick), 4);
+        assert_eq!(offset_of!(RunNumbers, size), 12);
+    }
+
     #[test]
     fn an_accepted_table_gives_0_and_255() {
         let (number, component) = (0, 255);

@@ -7,6 +7,12 @@
 //! [`program`] gives it as bytes of its own, [`part`] finds one node's part in
 //! it, [`run`] carries out choices. The declarations of the library stand in
 //! one private module; each call gets its safe form here.
+//!
+//! Every slice may be lent: an empty one, one of any length (a slice never
+//! has more than `isize::MAX` bytes), one that starts anywhere. What a call
+//! asks of a C caller, a slice has by itself: pointer and length belong
+//! together, a list of `u32` is aligned, and a slice that is lent to be
+//! changed overlaps no other.
 #![deny(unsafe_code)]
 #![warn(missing_docs)]
 

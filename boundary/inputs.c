@@ -1,0 +1,80 @@
+#include "inputs.h"
+
+#include <string.h>
+
+uint8_t table_bytes[MAX_TABLE];
+uint8_t choices_bytes[MAX_CHOICES + 1];
+uint8_t program_bytes[MAX_PROGRAM];
+
+struct bytes of(uint8_t *at, size_t length) {
+    struct bytes bytes = {at, length};
+    return bytes;
+}
+
+void state_length(uint8_t *table, size_t length) {
+    if (length >= 3) {
+        table[1] = (uint8_t)(length >> 8);
+        table[2] = (uint8_t)length;
+    }
+}
+
+struct bytes random_table(void) {
+    const struct stored *base = &cases[random_below(case_count)];
+    while (base->request == PART || base->table.length > 2000)
+        base = &cases[random_below(case_count)];
+    size_t length = base->table.length;
+    if (length > 0)
+        memcpy(table_bytes, base->table.at, length);
+    size_t kind = random_below(8);
+    if (kind == 0) {
+        length = random_below(200);
+        for (size_t i = 0; i < length; i++)
+            table_bytes[i] = (uint8_t)random_below(random_below(2) ? 256 : 4);
+        if (length > 0 && random_below(8) > 0)
+            table_bytes[0] = 1;
+        if (length > 3 && random_below(8) > 0)
+            table_bytes[3] = (uint8_t)(1 + random_below(8));
+    } else if (kind == 1) {
+        length = random_below(length + 1);
+    } else if (kind == 2) {
+        for (size_t more = random_below(20); more > 0; more--)
+            table_bytes[length++] = (uint8_t)random_number();
+    } else if (kind <= 6 && length > 0) {
+        for (size_t more = 1 + random_below(3); more > 0; more--) {
+            uint8_t *byte = &table_bytes[random_below(length)];
+            *byte = (uint8_t)(kind < 5 ? *byte + random_below(3) - 1 : random_number());
+        }
+    }
+    if (random_below(8) > 0)
+        state_length(table_bytes, length);
+    return of(table_bytes, length);
+}
+
+size_t random_choices(struct bytes table, size_t from, size_t more) {
+    size_t nodes = table.length > 3 && table.at[3] > 0 ? table.at[3] : 1;
+    for (size_t i = from; i < from + more; i++) {
+        size_t kind = random_below(100);
+        choices_bytes[i] = (uint8_t)(kind == 0  ? random_number()
+                                     : kind < 8 ? 255
+                                                : random_below(nodes));
+    }
+    return from + more;
+}
+
+struct bytes random_program(size_t length) {
+    if (length > 0)
+        memcpy(program_bytes, program, length);
+    if (length == 0 || random_below(4) == 0) {
+        length = random_below(60);
+        for (size_t i = 0; i < length; i++)
+            program_bytes[i] = (uint8_t)random_below(12);
+    } else {
+        program_bytes[random_below(length)] = (uint8_t)random_number();
+        length -= random_below(2) ? random_below(length) : 0;
+    }
+    return of(program_bytes, length);
+}
+
+uint8_t random_node(void) {
+    return (uint8_t)(random_below(4) ? random_below(9) : random_number());
+}

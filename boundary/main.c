@@ -1,0 +1,195 @@
+/*
+ * Tries the five exported calls with every buffer next to memory that allows
+ * no access.
+ *
+ *   boundary ROOT ROUNDS SEED
+ *
+ * First the cases of vectors/ and corpus/ with their answers; then lent
+ * memory of every length about the one needed; then tables cut at every
+ * length; then random rounds from the seed. Ends at the first fault, with
+ * status 1.
+ */
+#include <stdio.h>
+#include <stdlib.h>
+#include <string.h>
+
+#include "inputs.h"
+
+static const struct stored *find(const char *name, enum request request) {
+    for (size_t i = 0; i < case_count; i++)
+        if (cases[i].request == request && strcmp(cases[i].name, name) == 0)
+            return &cases[i];
+    fail("a case is missing");
+    return NULL;
+}
+
+static void same(int condition, const char *what) {
+    if (!condition)
+        fail(what);
+}
+
+/* The three calls that write, with as much lent as they need plus `more`. */
+static void lend(enum where where, struct bytes table, struct bytes choices, long more) {
+    size_t rows = guarded_schedule(where, table, MAX_LIST).size;
+    size_t length = guarded_translate(where, table, MAX_PROGRAM).size;
+    size_t needed[3] = {FIELDS * rows, length, OBSERVATION * rows};
+    size_t most[3] = {MAX_LIST, MAX_PROGRAM, MAX_OBSERVATIONS};
+    size_t lent[3];
+    for (int i = 0; i < 3; i++) {
+        long sum = (long)needed[i] + more;
+        lent[i] = sum < 0 ? 0 : (size_t)sum > most[i] ? most[i] : (size_t)sum;
+    }
+    same(guarded_schedule(where, table, lent[0]).number == (lent[0] < needed[0] ? 13 : 0),
+         "a list is refused or taken wrongly");
+    same(guarded_translate(where, table, lent[1]).number == (lent[1] < needed[1] ? 13 : 0),
+         "program bytes are refused or taken wrongly");
+    same(guarded_run(where, table, choices, lent[2]).number == (lent[2] < needed[2] ? 13 : 0),
+         "observations are refused or taken wrongly");
+}
+
+static void stored_cases(void) {
+    for (size_t i = 0; i < case_count; i++)
+        for (int where = 0; where < PLACES; where++)
+            stored_try(&cases[i], (enum where)where);
+}
+
+static void lent_lengths(void) {
+    struct bytes none = {NULL, 0};
+    for (size_t i = 0; i < case_count; i++) {
+        if (cases[i].request != SCHEDULE || strncmp(cases[i].answer, "refused", 7) == 0)
+            continue;
+        trying("lent lengths", cases[i].name);
+        int example = strcmp(cases[i].name, "probe_and_hub") == 0;
+        for (long more = example ? -260 : -2; more <= 2; more++)
+            for (int where = 0; where < PLACES; where++)
+                lend((enum where)where, cases[i].table, none, more);
+    }
+}
+
+static void all_calls(enum where where, struct bytes table, struct bytes choices,
+                      size_t lent) {
+    VerdictNumbers verdict = guarded_check(where, table);
+    CallNumbers planned = guarded_schedule(where, table, lent);
+    CallNumbers translated = guarded_translate(where, table, lent);
+    RunNumbers ran = guarded_run(where, table, choices, lent);
+    if (verdict.number != 0) {
+        same(planned.number == verdict.number && translated.number == verdict.number &&
+                 ran.number == verdict.number,
+             "another refusal than that of the check");
+        same(planned.component == verdict.component &&
+                 translated.component == verdict.component &&
+                 ran.component == verdict.component,
+             "another component than that of the check");
+    }
+}
+
+/* Each table cut at each length, as it is and with the length stated. */
+static void cuts(void) {
+    for (size_t i = 0; i < case_count; i++) {
+        struct bytes table = cases[i].table;
+        if (cases[i].request != SCHEDULE || table.length > 400)
+            continue;
+        trying("a cut table", cases[i].name);
+        for (size_t length = 0; length <= table.length; length++) {
+            if (length > 0)
+                memcpy(table_bytes, table.at, length);
+            for (int where = 0; where < PLACES; where++)
+                all_calls((enum where)where, of(table_bytes, length), of(NULL, 0), 500);
+            state_length(table_bytes, length);
+            all_calls(AT_END, of(table_bytes, length), of(NULL, 0), 500);
+        }
+    }
+}
+
+/* The program of the worked example cut at each length, and every node. */
+static void cut_programs(void) {
+    const struct stored *example = find("probe and hub", PROGRAM);
+    trying("a cut program", example->name);
+    size_t length = guarded_translate(AT_END, example->table, MAX_PROGRAM).size;
+    memcpy(program_bytes, program, length);
+    for (size_t cut = 0; cut <= length; cut++)
+        for (unsigned node = 0; node < 256; node += node < 9 ? 1 : 13)
+            for (int where = 0; where < PLACES; where++)
+                guarded_part((enum where)where, of(program_bytes, cut), (uint8_t)node);
+}
+
+/* As many choices as a run takes, and one more. */
+static void many_choices(void) {
+    struct bytes table = find("probe_and_hub", CHECK)->table;
+    memset(choices_bytes, 0, sizeof choices_bytes);
+    for (int where = 0; where < PLACES; where++) {
+        trying("many choices", "probe_and_hub");
+        RunNumbers taken = guarded_run((enum where)where, table,
+                                       of(choices_bytes, MAX_CHOICES), 256);
+        same(taken.number == 0 && taken.end == 3, "a million choices");
+        RunNumbers refused = guarded_run((enum where)where, table,
+                                         of(choices_bytes, MAX_CHOICES + 1), 256);
+        same(refused.number == 14, "a million choices and one");
+    }
+}
+
+/* A run carried on: a choice that is not allowed, or a late tick, is given up. */
+static void grown_run(enum where where, struct bytes table) {
+    size_t length = 0;
+    for (int turn = 0; turn < 200; turn++) {
+        length = random_choices(table, length, 1 + random_below(20));
+        RunNumbers ran = guarded_run(where, table, of(choices_bytes, length),
+                                     MAX_OBSERVATIONS);
+        if (ran.number != 0 || ran.end == 0)
+            return;
+        length = ran.used - (ran.end == 2);
+    }
+}
+
+static void rounds(unsigned long count) {
+    unsigned long accepted = 0, grown = 0;
+    char name[40];
+    for (unsigned long round = 0; round < count; round++) {
+        snprintf(name, sizeof name, "round %lu", round);
+        trying("random", name);
+        enum where where = (enum where)random_below(PLACES);
+        struct bytes table = random_table();
+        size_t chosen = random_choices(table, 0, random_below(300));
+        all_calls(where, table, of(choices_bytes, chosen), random_below(MAX_LIST));
+        size_t length = 0;
+        if (guarded_check(where, table).number == 0) {
+            accepted++;
+            lend(where, table, of(choices_bytes, chosen), (long)random_below(5) - 2);
+            length = guarded_translate(where, table, MAX_PROGRAM).size;
+            if (random_below(4) == 0) {
+                grown++;
+                grown_run(where, table);
+            }
+        }
+        struct bytes bytes = random_program(length);
+        guarded_part(where, bytes, random_node());
+    }
+    printf("boundary: %lu random rounds, %lu tables accepted, %lu runs carried on\n",
+           count, accepted, grown);
+}
+
+int main(int count, char **words) {
+    if (count != 4) {
+        fputs("usage: boundary ROOT ROUNDS SEED\n", stderr);
+        return 2;
+    }
+    catch_faults();
+    random_start(strtoull(words[3], NULL, 10));
+    calls_start();
+    stored_read(words[1]);
+    stored_cases();
+    lent_lengths();
+    cuts();
+    cut_programs();
+    many_choices();
+    unsigned long before = 0, all = 0;
+    for (int i = 0; i < 5; i++)
+        before += made[i];
+    rounds(strtoul(words[2], NULL, 10));
+    for (int i = 0; i < 5; i++)
+        all += made[i];
+    printf("boundary: %zu stored cases; %lu calls with them, %lu with random bytes; "
+           "check %lu, schedule %lu, translate %lu, part %lu, run %lu\n",
+           case_count, before, all - before, made[0], made[1], made[2], made[3], made[4]);
+    return 0;
+}

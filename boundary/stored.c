@@ -1,0 +1,205 @@
+#include "stored.h"
+
+#include <stdio.h>
+#include <stdlib.h>
+#include <string.h>
+
+struct stored *cases;
+size_t case_count;
+
+static void *demand(void *memory) {
+    if (memory == NULL)
+        fail("no memory");
+    return memory;
+}
+
+/* A whole file, with a zero byte behind it. */
+static struct bytes read_file(const char *root, const char *path) {
+    char full[1024];
+    snprintf(full, sizeof full, "%s/%s", root, path);
+    trying("reading", full);
+    FILE *file = fopen(full, "rb");
+    if (file == NULL || fseek(file, 0, SEEK_END) != 0)
+        fail("the file cannot be read");
+    long size = ftell(file);
+    rewind(file);
+    struct bytes bytes = {demand(malloc((size_t)size + 1)), (size_t)size};
+    if (fread(bytes.at, 1, bytes.length, file) != bytes.length)
+        fail("the file cannot be read");
+    bytes.at[bytes.length] = 0;
+    fclose(file);
+    return bytes;
+}
+
+static unsigned digit(char c) {
+    const char *digits = "0123456789abcdef";
+    const char *found = c == 0 ? NULL : strchr(digits, c);
+    if (found == NULL)
+        fail("no hexadecimal digit");
+    return (unsigned)(found - digits);
+}
+
+/* The bytes of a hexadecimal text, - for none. */
+static struct bytes from_hex(const char *text) {
+    size_t length = strcmp(text, "-") == 0 ? 0 : strlen(text) / 2;
+    struct bytes bytes = {demand(malloc(length + 1)), length};
+    for (size_t i = 0; i < length; i++)
+        bytes.at[i] = (uint8_t)(16 * digit(text[2 * i]) + digit(text[2 * i + 1]));
+    return bytes;
+}
+
+static struct stored *add(char *name, enum request request, char *answer) {
+    cases = demand(realloc(cases, (case_count + 1) * sizeof cases[0]));
+    struct stored *stored = &cases[case_count++];
+    memset(stored, 0, sizeof *stored);
+    stored->name = name;
+    stored->request = request;
+    stored->answer = answer;
+    return stored;
+}
+
+/* Cuts the text at the next `end` and gives what is behind it. */
+static char *cut(char *text, char end) {
+    char *at = strchr(text, end);
+    if (at == NULL)
+        fail("a line is not understood");
+    *at = 0;
+    return at + 1;
+}
+
+static void read_vectors(const char *root, const char *path) {
+    static const char *const words[] = {"check", "schedule", "program", "part", "run"};
+    char *line = (char *)read_file(root, path).at;
+    while (*line != 0) {
+        char *next = cut(line, '\n');
+        char *request = cut(line, '\t');
+        char *answer = cut(request, '\t');
+        char *table = cut(request, ' ');
+        size_t word = 0;
+        while (word < 5 && strcmp(words[word], request) != 0)
+            word++;
+        if (word == 5)
+            fail("a request is not understood");
+        struct stored *stored = add(line, (enum request)word, answer);
+        char *more = word >= PART ? cut(table, ' ') : NULL;
+        stored->table = from_hex(table);
+        if (word == RUN)
+            stored->choices = from_hex(more);
+        else if (word == PART)
+            stored->node = (uint8_t)atoi(more);
+        line = next;
+    }
+}
+
+/* A table of the corpus: its verdict, and its schedule if accepted. */
+static void read_corpus(const char *root) {
+    char *line = (char *)read_file(root, "corpus/answers.tsv").at;
+    while (*line != 0) {
+        char *next = cut(line, '\n');
+        char *answer = cut(line, '\t');
+        char path[300];
+        snprintf(path, sizeof path, "corpus/%s.bin", line);
+        struct bytes table = read_file(root, path);
+        add(line, CHECK, answer)->table = table;
+        if (strcmp(answer, "accepted") == 0) {
+            snprintf(path, sizeof path, "corpus/%s.schedule", line);
+            struct bytes text = read_file(root, path);
+            for (size_t i = 0; i < text.length; i++)
+                if (text.at[i] == '\n')
+                    text.at[i] = i + 1 < text.length ? '|' : 0;
+            add(line, SCHEDULE, (char *)text.at)->table = table;
+        }
+        line = next;
+    }
+}
+
+void stored_read(const char *root) {
+    read_vectors(root, "vectors/named.tsv");
+    read_vectors(root, "vectors/random.tsv");
+    read_corpus(root);
+}
+
+/* The text of an answer as it grows. */
+static char text[400000];
+static size_t used;
+
+static void write_number(const char *before, unsigned long number) {
+    used += (size_t)snprintf(text + used, sizeof text - used, "%s%lu", before, number);
+}
+
+static void write_text(const char *more) {
+    used += (size_t)snprintf(text + used, sizeof text - used, "%s", more);
+}
+
+static void write_hex(const uint8_t *at, size_t length) {
+    for (size_t i = 0; i < length; i++)
+        used += (size_t)snprintf(text + used, sizeof text - used, "%02x", (unsigned)at[i]);
+}
+
+/* 1 for a refusal, which is written. */
+static int write_refusal(uint8_t number, uint8_t component) {
+    if (number == 0)
+        return 0;
+    write_number("refused ", number);
+    write_number(" ", component);
+    return 1;
+}
+
+static void write_check(const struct stored *stored, enum where where) {
+    VerdictNumbers answer = guarded_check(where, stored->table);
+    if (!write_refusal(answer.number, answer.component))
+        write_text("accepted");
+}
+
+static void write_schedule(const struct stored *stored, enum where where) {
+    CallNumbers answer = guarded_schedule(where, stored->table, MAX_LIST);
+    if (write_refusal(answer.number, answer.component))
+        return;
+    write_text("c e l entry ready end msg");
+    for (size_t i = 0; i < (size_t)answer.size * FIELDS; i++) {
+        size_t field = i % FIELDS;
+        if (field == FIELDS - 1 && list[i] == 255)
+            write_text(" -");
+        else
+            write_number(field == 0 ? "|" : " ", list[i]);
+    }
+}
+
+static void write_program(const struct stored *stored, enum where where) {
+    CallNumbers answer = guarded_translate(where, stored->table, MAX_PROGRAM);
+    if (!write_refusal(answer.number, answer.component))
+        write_hex(program, answer.size);
+}
+
+static void write_part(const struct stored *stored, enum where where) {
+    PartNumbers answer = guarded_part(where, stored->table, stored->node);
+    write_hex(stored->table.at + answer.start, answer.length);
+    if (answer.length == 0)
+        write_text("-");
+}
+
+static void write_run(const struct stored *stored, enum where where) {
+    RunNumbers answer =
+        guarded_run(where, stored->table, stored->choices, MAX_OBSERVATIONS);
+    if (write_refusal(answer.number, answer.component))
+        return;
+    write_number("", answer.end);
+    write_number(" ", answer.node);
+    write_number(" ", answer.tick);
+    write_number(" ", answer.used);
+    for (size_t i = 0; i < answer.size; i++) {
+        write_text("|");
+        write_hex(observations + OBSERVATION * i, OBSERVATION);
+    }
+}
+
+void stored_try(const struct stored *stored, enum where where) {
+    static void (*const writers[])(const struct stored *, enum where) = {
+        write_check, write_schedule, write_program, write_part, write_run};
+    trying("a stored case", stored->name);
+    used = 0;
+    text[0] = 0;
+    writers[stored->request](stored, where);
+    if (strcmp(text, stored->answer) != 0)
+        fail("another answer than the stored one");
+}

@@ -1,0 +1,27 @@
+/* The cases of vectors/ and corpus/, with their answers. */
+#ifndef STORED_H
+#define STORED_H
+
+#include "calls.h"
+
+enum request { CHECK, SCHEDULE, PROGRAM, PART, RUN };
+
+struct stored {
+    char *name;
+    enum request request;
+    struct bytes table;   /* for PART the program */
+    struct bytes choices; /* for RUN */
+    uint8_t node;         /* for PART */
+    char *answer;
+};
+
+extern struct stored *cases;
+extern size_t case_count;
+
+/* Reads all cases; `root` is the folder of the repository. */
+void stored_read(const char *root);
+
+/* Makes the request at this place and holds it to the answer. */
+void stored_try(const struct stored *stored, enum where where);
+
+#endif

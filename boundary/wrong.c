@@ -1,0 +1,103 @@
+/*
+ * Wrong versions of the five calls, to see that the trial finds them. The
+ * linker puts these in front of the library's own (--wrap). The variable
+ * WRONG names the fault; with 0 or none there is no fault.
+ */
+#include <stdlib.h>
+
+#include "../include/timed_network.h"
+
+VerdictNumbers __real_timed_network_check(const uint8_t *, size_t);
+CallNumbers __real_timed_network_schedule(const uint8_t *, size_t, uint32_t *, size_t);
+CallNumbers __real_timed_network_translate(const uint8_t *, size_t, uint8_t *, size_t);
+PartNumbers __real_timed_network_part(const uint8_t *, size_t, uint8_t);
+RunNumbers __real_timed_network_run(const uint8_t *, size_t, const uint8_t *,
+                                    size_t, uint8_t *, size_t);
+
+VerdictNumbers __wrap_timed_network_check(const uint8_t *, size_t);
+CallNumbers __wrap_timed_network_schedule(const uint8_t *, size_t, uint32_t *, size_t);
+CallNumbers __wrap_timed_network_translate(const uint8_t *, size_t, uint8_t *, size_t);
+PartNumbers __wrap_timed_network_part(const uint8_t *, size_t, uint8_t);
+RunNumbers __wrap_timed_network_run(const uint8_t *, size_t, const uint8_t *,
+                                    size_t, uint8_t *, size_t);
+
+static int wrong(int fault) {
+    static int chosen = -1;
+    if (chosen < 0) {
+        const char *word = getenv("WRONG");
+        chosen = word == NULL ? 0 : atoi(word);
+    }
+    return chosen == fault;
+}
+
+static void touch(const uint8_t *at) {
+    (void)*(const volatile uint8_t *)at;
+}
+
+VerdictNumbers __wrap_timed_network_check(const uint8_t *table, size_t length) {
+    VerdictNumbers answer = __real_timed_network_check(table, length);
+    if (wrong(1))
+        touch(table + length); /* reads the byte behind the table */
+    if (wrong(2) && length > 0)
+        touch(table - 1); /* reads the byte before it */
+    if (wrong(3) && length > 0)
+        *(volatile uint8_t *)table = *table; /* writes to it, the same byte */
+    if (wrong(4) && answer.number == 1)
+        answer.component = 0; /* names a component with refusal 1 */
+    return answer;
+}
+
+CallNumbers __wrap_timed_network_schedule(const uint8_t *table, size_t length,
+                                          uint32_t *list, size_t list_length) {
+    CallNumbers answer = __real_timed_network_schedule(table, length, list, list_length);
+    if (wrong(5) && list_length > 0)
+        list[list_length] = 1; /* writes the number behind the list */
+    if (wrong(6) && answer.number == 0 && 7 * answer.size < list_length)
+        list[7 * answer.size] = 255; /* writes past the result */
+    if (wrong(7) && answer.number != 0 && list_length > 0)
+        list[0] = 0; /* writes after a refusal */
+    if (wrong(8) && answer.number == 0 && 7 * answer.size == list_length) {
+        answer.number = 13; /* refuses a list of exactly the needed length */
+        answer.size = 0;
+    }
+    return answer;
+}
+
+CallNumbers __wrap_timed_network_translate(const uint8_t *table, size_t length,
+                                           uint8_t *program, size_t program_length) {
+    if (wrong(9) && length == 0)
+        touch(table); /* reads a table of no bytes */
+    CallNumbers answer =
+        __real_timed_network_translate(table, length, program, program_length);
+    if (wrong(10) && program_length > 0)
+        program[-1] = 0; /* writes the byte before the program */
+    if (wrong(11) && answer.number == 0)
+        answer.size += 1; /* says one byte too many */
+    return answer;
+}
+
+PartNumbers __wrap_timed_network_part(const uint8_t *program, size_t program_length,
+                                      uint8_t node) {
+    PartNumbers answer = __real_timed_network_part(program, program_length, node);
+    if (wrong(12) && program_length < 6)
+        touch(program + 5); /* reads the header without its length */
+    if (wrong(13) && answer.length > 0)
+        answer.start = program_length; /* gives a part outside */
+    return answer;
+}
+
+RunNumbers __wrap_timed_network_run(const uint8_t *table, size_t length,
+                                    const uint8_t *choices, size_t choices_length,
+                                    uint8_t *observations, size_t observations_length) {
+    RunNumbers answer = __real_timed_network_run(table, length, choices, choices_length,
+                                                 observations, observations_length);
+    if (wrong(14))
+        touch(choices + choices_length); /* reads the choice behind the last */
+    if (wrong(15) && answer.number == 13 && observations_length > 0)
+        observations[0] = 0; /* writes where too little is lent */
+    if (wrong(16) && answer.number == 0)
+        observations[32 * answer.size] = 7; /* writes one observation more */
+    if (wrong(17) && answer.end == 3)
+        answer.used += 1; /* counts a choice that is not allowed */
+    return answer;
+}
