@@ -11,10 +11,10 @@
  * written only where the call says so, and never after a refusal.
  *
  * What the caller sees to: a pointer leads to as many bytes or numbers as its
- * length says, and to more than 2^63 - 1 bytes never; what is lent to be
- * written overlaps nothing else that is lent; a pointer to uint32_t is aligned
- * as uint32_t is (a list that is not aligned is not allowed). Bytes may start
- * anywhere. The stack that a call takes stands in docs/LINKING.md.
+ * length says (2^63 - 1 bytes at most); what is lent to be written overlaps
+ * nothing else that is lent; a list of uint32_t is aligned as uint32_t is, one
+ * that is not aligned is not allowed. Bytes may start anywhere. The stack that
+ * a call takes stands in docs/LINKING.md.
  */
 #ifndef TIMED_NETWORK_H
 #define TIMED_NETWORK_H
