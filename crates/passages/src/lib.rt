@@ -2,10 +2,10 @@
 // definition in specs/Passages.antt, for all inputs. The work is done by value; two thin functions write to the list.
 ghost use mathlib.Core.Path.{_≡_};
 ghost use Prim.Native.Nat.{ℕ, _+_, _*_, _≤_, _<_};
-ghost use lib.ListN.{length, getD};
+ghost use lib.ListN.{length};
 ghost use Rattle.model.specs.Calls.{numberOf, concernedOf};
 ghost use Rattle.passages.specs.Passages.{passagesCall};
-ghost use Rattle.passages.specs.Copied.{blank, copied};
+ghost use Rattle.passages.specs.Copied.{copied};
 ghost use Rattle.passages.specs.Planned.{passageAt, Small, SmallRows, Laid, Plans};
 use model::Verdict;
 use timed_network::CallNumbers;
@@ -119,12 +119,11 @@ pub fn plan(table: &[u8], places: usize) -> Planned
     }
 }
 
-// One of the items.
-pub fn item(p: Planned, i: usize) -> Passage
-    requires { ⌜ i < 1024 ⌝ }
-    ensures { λ r. ⌜ r ≡ getD (p .items) i blank ⌝ }
+// The items, as an array.
+pub fn items_of(p: Planned) -> [Passage; 1024]
+    ensures { λ r. ⌜ r ≡ p .items ⌝ }
 {
-    p.items[i]
+    p.items
 }
 
 pub fn count_of(p: Planned) -> usize
@@ -147,13 +146,13 @@ pub fn answer_of(p: Planned) -> CallNumbers
 }
 
 // The first n items are stored in the lent list.
-pub fn fill(list: &mut [Passage], p: Planned, n: usize)
+pub fn fill(list: &mut [Passage], items: [Passage; 1024], n: usize)
     requires { ⌜ (n ≤ length (now list)) × (n ≤ 1024) ⌝ }
-    ensures { λ _. ⌜ now (list .exit) ≡ copied (now (list .entry)) (p .items) n ⌝ }
+    ensures { λ _. ⌜ now (list .exit) ≡ copied (now (list .entry)) items n ⌝ }
 {
     let mut i: usize = 0;
     while i < n {
-        list[i] = item(p, i);
+        list[i] = items[i];
         i += 1;
     }
 }
@@ -165,6 +164,7 @@ pub extern "C" fn timed_network_passages(table: &[u8], list: &mut [Passage]) -> 
 {
     let p = plan(table, list.len());
     let n = count_of(p);
-    fill(list, p, n);
+    let items = items_of(p);
+    fill(list, items, n);
     answer_of(p)
 }
