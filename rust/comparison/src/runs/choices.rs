@@ -1,7 +1,8 @@
 //! Lists of choices: allowed ones in several manners, and such lists spoilt.
 
 use crate::random::Random;
-use demand::walk::{Refusal, Ticked, Walk};
+use choices::List;
+use demand::walk::{Refusal, Ticked};
 use demand::{Demand, TICK};
 
 /// The nodes that can be chosen, whether they are there or not.
@@ -33,116 +34,67 @@ impl Manner {
     ];
 }
 
-/// A list that is drawn: the nodes on their way, and their choices so far.
-struct Draw<'a> {
-    walk: Walk<'a>,
-    choices: Vec<u8>,
-    most: usize,
-}
-
 /// A list of at most so many choices, about, drawn in this manner.
 pub fn draw(random: &mut Random, demand: &Demand, manner: Manner, most: usize) -> Vec<u8> {
     let mut draw = Draw {
-        walk: demand.walk(),
-        choices: Vec::new(),
-        most,
+        list: List::new(demand.walk(), most),
     };
     match manner {
         Manner::Early => draw.early(random),
         Manner::Late => draw.late(random),
         Manner::Any => draw.any(random),
         Manner::Stopped => draw.stopped(random),
-        Manner::Hostile => return hostile(random, draw.walk.nodes()),
+        Manner::Hostile => return hostile(random, draw.nodes()),
     }
-    draw.choices
+    draw.list.into_choices()
+}
+
+/// A list that is drawn.
+struct Draw<'a> {
+    list: List<'a>,
 }
 
 impl Draw<'_> {
-    fn is_full(&self) -> bool {
-        self.choices.len() >= self.most
-    }
-
-    /// A node finishes a statement, if it may.
-    fn finish(&mut self, node: u8) -> bool {
-        self.try_finish(node).is_ok()
-    }
-
-    /// The same, and why it may not.
-    fn try_finish(&mut self, node: u8) -> Result<(), Refusal> {
-        self.walk.finish(node)?;
-        self.choices.push(node);
-        Ok(())
-    }
-
-    /// A tick that is allowed passes; whether the run goes on after it.
-    fn tick(&mut self) -> bool {
-        self.choices.push(TICK);
-        matches!(self.walk.tick(), Ticked::Passed { horizon: false })
+    fn nodes(&self) -> usize {
+        self.list.walk().nodes()
     }
 
     /// Lets nodes finish what they can at this tick, in this order. Whether
     /// the run goes on: a node that finds nothing to take may try all the
     /// same.
     fn finish_all(&mut self, random: &mut Random, order: &[u8]) -> bool {
-        let mut moved = true;
-        while moved && !self.is_full() {
-            moved = false;
-            for &node in order {
-                let mut tried = self.try_finish(node);
-                while tried.is_ok() {
-                    moved = true;
-                    tried = self.try_finish(node);
-                }
-                if tried == Err(Refusal::NothingKept) && random.once_in(9) {
-                    self.choices.push(node);
-                    return false;
-                }
-            }
-        }
-        !self.is_full()
+        self.list
+            .finish_all(order, |refusal| tries_again(random, refusal))
     }
 
     /// A tick passes after all that can be finished; whether the run goes on.
     fn pass_early(&mut self, random: &mut Random, order: &mut [u8]) -> bool {
         random.shuffle(order);
-        self.finish_all(random, order)
-            && matches!(self.walk.look(), Ticked::Passed { .. })
-            && self.tick()
+        self.list
+            .pass_early(order, |refusal| tries_again(random, refusal))
     }
 
     fn early(&mut self, random: &mut Random) {
-        let mut order: Vec<u8> = (0..self.walk.nodes() as u8).collect();
+        let mut order: Vec<u8> = (0..self.nodes() as u8).collect();
         while self.pass_early(random, &mut order) {}
     }
 
     fn late(&mut self, random: &mut Random) {
-        while !self.is_full() {
-            let goes_on = match self.walk.look() {
-                Ticked::Passed { .. } => self.tick(),
-                Ticked::Due(node) => self.finish(node),
-                Ticked::Late { work, sleep } => {
-                    let node = any_bit(random, work | sleep);
-                    self.finish(node)
-                }
-            };
-            if !goes_on {
-                return;
-            }
-        }
+        while self.list.pass_late(|nodes| any_bit(random, nodes)) {}
     }
 
     /// Ticks once in some times, is careless now and then, makes a mistake
     /// seldom.
     fn any(&mut self, random: &mut Random) {
-        let nodes = self.walk.nodes();
+        let nodes = self.nodes();
         let lazy = random.within(2..=20);
         let careful = random.pick(&[5, 50, 500, usize::MAX]);
         let right = random.pick(&[50, 1000, usize::MAX]);
         let mut failed = 0;
-        while !self.is_full() {
+        while !self.list.is_full() {
             if failed < 3 * nodes && !random.once_in(lazy) {
                 let node = random.below(nodes) as u8;
-                let mistake = match self.try_finish(node) {
+                let mistake = match self.list.try_finish(node) {
                     Ok(()) => {
                         failed = 0;
                         continue;
@@ -152,22 +104,22 @@ impl Draw<'_> {
                 };
                 failed += 1;
                 if mistake {
-                    self.choices.push(node);
+                    self.list.end_with(node);
                     return;
                 }
                 continue;
             }
             failed = 0;
-            let (ticks, mistake) = match self.walk.look() {
+            let (ticks, mistake) = match self.list.walk().look() {
                 Ticked::Passed { .. } => (true, false),
                 Ticked::Late { .. } => (random.once_in(careful), false),
                 Ticked::Due(_) => (false, random.once_in(right)),
             };
             if mistake {
-                self.choices.push(TICK);
+                self.list.end_with(TICK);
                 return;
             }
-            if ticks && !self.tick() {
+            if ticks && !self.list.tick() {
                 return;
             }
         }
@@ -176,7 +128,7 @@ impl Draw<'_> {
     /// From a tick on, some nodes finish only what is due, others only what
     /// comes before their work, until a tick makes one of them late.
     fn stopped(&mut self, random: &mut Random) {
-        let nodes = self.walk.nodes() as u8;
+        let nodes = self.nodes() as u8;
         let mut order: Vec<u8> = (0..nodes).collect();
         let calm = random.pick(&[1, 3, 10, 50]);
         while random.below(calm) > 0 {
@@ -186,24 +138,30 @@ impl Draw<'_> {
         }
         for node in &order {
             for _ in 0..random.below(12) {
-                self.finish(*node);
+                self.list.finish(*node);
             }
         }
         let stopped = order.split_off(random.below(order.len()));
         let at_work = random.below(stopped.len() + 1);
         while self.finish_all(random, &order) {
             for &node in &stopped[..at_work] {
-                while !self.walk.is_working(node) && self.finish(node) {}
+                while !self.list.walk().is_working(node) && self.list.finish(node) {}
             }
-            match self.walk.look() {
+            match self.list.walk().look() {
                 Ticked::Due(node) => {
-                    self.finish(node);
+                    self.list.finish(node);
                 }
-                _ if !self.tick() => return,
+                _ if !self.list.tick() => return,
                 _ => {}
             }
         }
     }
+}
+
+/// Whether a node goes on where it may not: now and then, where it finds
+/// nothing to take.
+fn tries_again(random: &mut Random, refusal: Refusal) -> bool {
+    refusal == Refusal::NothingKept && random.once_in(9)
 }
 
 /// One of the bits that are set.

@@ -1,0 +1,111 @@
+//! The program: the list of the worked example byte by byte, standard input
+//! and files, exit status and messages.
+
+use std::io::Write;
+use std::path::{Path, PathBuf};
+use std::process::{Command, Output, Stdio};
+
+const T: u8 = 255;
+
+/// Probe and hub, each as early as it can.
+const EARLY: [u8; 110] = [
+    0, 0, 0, 0, 0, 1, 1, 1, 1, 1, // both take their first edge
+    T, T, 1, // the hub listens
+    T, 0, 0, // the probe wakes and sends
+    0, 0, 0, 0, 0, 0, 0, 0, 1, 1, 1, 1, 1, 1, 1, 1, // and both go on to their next sleep
+    T, T, T, T, T, 0, 0, 0, 0, 0, 0, 0, 0, 0, 0, // the probe works at 8
+    T, 1, 1, 1, 1, 1, 1, 1, 1, 1, 1, 1, // the hub at 9
+    T, T, T, 1, T, 0, 0, 0, 0, 0, 0, 0, 0, 0, 0, 1, 1, 1, 1, 1, 1, 1, 1, // once more
+    T, T, T, T, T, 0, 0, 0, 0, 0, 0, 0, 0, 0, 0, //
+    T, 1, 1, 1, 1, 1, 1, 1, 1, 1, 1, 1, T,
+];
+
+/// The same until tick 10, each as late as it may.
+const LATE_TO_10: [u8; 47] = [
+    T, T, 1, 1, 1, 1, 1, 1, // the hub wakes at 2
+    T, 0, 0, 0, 0, 0, 0, // the probe at 3
+    T, T, 0, // it sends at 5, the end of its window
+    T, T, T, 0, 0, 0, 0, 0, 0, 0, 0, 0, // it finishes the rest when it has to sleep, at 8
+    T, 1, 1, 1, 1, 1, 1, 1, 1, 1, // the hub likewise, at 9
+    T, 0, 1, 1, // both finish their work at 10
+    T, T, 1,
+];
+
+fn corpus(name: &str) -> PathBuf {
+    let folder = Path::new(env!("CARGO_MANIFEST_DIR")).join("../../corpus");
+    folder.join(name)
+}
+
+fn make(words: &[&str], input: &[u8]) -> Output {
+    let mut program = Command::new(env!("CARGO_BIN_EXE_make_choices"))
+        .args(words)
+        .stdin(Stdio::piped())
+        .stdout(Stdio::piped())
+        .stderr(Stdio::piped())
+        .spawn()
+        .unwrap();
+    // A program that does not read its input may be gone by now.
+    let _ = program.stdin.take().unwrap().write_all(input);
+    program.wait_with_output().unwrap()
+}
+
+fn made(words: &[&str], input: &[u8]) -> Vec<u8> {
+    let output = make(words, input);
+    assert_eq!((output.status.code(), output.stderr), (Some(0), Vec::new()));
+    output.stdout
+}
+
+/// The exit status and the message; nothing else is written.
+fn failed(words: &[&str], input: &[u8]) -> (Option<i32>, String) {
+    let output = make(words, input);
+    assert_eq!(output.stdout, []);
+    let message = String::from_utf8(output.stderr).unwrap();
+    (output.status.code(), message)
+}
+
+#[test]
+fn the_worked_example() {
+    let table = std::fs::read(corpus("probe_and_hub.bin")).unwrap();
+    assert_eq!(made(&[], &table), EARLY);
+    assert_eq!(made(&["--early"], &table), EARLY);
+    let late = made(&["--late"], &table);
+    assert_eq!(late[..LATE_TO_10.len()], LATE_TO_10);
+    assert_eq!(late.iter().filter(|choice| **choice == T).count(), 20);
+}
+
+#[test]
+fn a_table_from_a_file() {
+    let file = corpus("probe_and_hub.bin");
+    let file = file.to_str().unwrap();
+    let table = std::fs::read(file).unwrap();
+    assert_eq!(made(&[file], b""), EARLY);
+    assert_eq!(made(&["--late", file], b""), made(&["--late"], &table));
+}
+
+#[test]
+fn refused_tables() {
+    let refused = |words: &str| (Some(1), format!("refused {words}\n"));
+    assert_eq!(failed(&[], b""), refused("1 255"));
+    assert_eq!(failed(&["--late"], &[1, 0, 7]), refused("2 255"));
+    assert_eq!(failed(&[], &[1; 9000]), refused("2 255"));
+    let file = corpus("check10_shared_tick.bin");
+    assert_eq!(failed(&[file.to_str().unwrap()], b""), refused("10 0"));
+}
+
+#[test]
+fn wrong_use() {
+    let all = [
+        &["--early", "--late"][..],
+        &["--soon"],
+        &["one", "two"],
+        &["--late", "one", "two"],
+    ];
+    for words in all {
+        let (status, message) = failed(words, b"");
+        assert_eq!(status, Some(2));
+        assert!(message.starts_with("usage: make_choices"), "{message}");
+    }
+    let (status, message) = failed(&["/absent/table.bin"], b"");
+    assert_eq!(status, Some(2));
+    assert!(message.starts_with("/absent/table.bin: "), "{message}");
+}
