@@ -1,0 +1,78 @@
+# Builds what a command of `vanillatarn` needs, where that is absent or older than its sources.
+# shellcheck shell=bash
+# shellcheck disable=SC2154 # root, scratch and broken are set by vanillatarn
+
+# Whether a file is there and not older than any of its sources.
+is_newer() {
+    local built=$1
+    shift
+    [[ -e $built && -z "$(find "$@" -newer "$built" -print -quit)" ]]
+}
+
+# Runs a tool in the root. Of what it says the lines of this pattern are shown; after a failure all of them.
+build() {
+    local name=$1 shown=$2 log="$scratch/log"
+    shift 2
+    command -v "$1" >/dev/null || stop "$broken" "$name has to be built, and '$1' is not installed"
+    say "building $name, once; that can take some minutes ..."
+    if ! (cd "$root" && "$@" 2>&1) | tee "$log" | { grep --line-buffered "$shown" || true; } >&2; then
+        cat "$log" >&2
+        stop "$broken" "$name could not be built: $*"
+    fi
+}
+
+# The sources of verified code, and of Rust code.
+verified=("$root/crates" "$root/crates.txt")
+plain=("$root"/rust/*/{src,Cargo.toml} "$root"/rust/Cargo.{toml,lock})
+
+# The file that says when a file was last found current. A tool that finds nothing to do leaves a file as old as it was.
+stamp_of() {
+    echo "$root/target/command/$(basename "$1")"
+}
+
+# Whether a file is current: the file, its sources.
+is_current() {
+    local built=$1
+    shift
+    [[ -e $built ]] && { is_newer "$built" "$@" || is_newer "$(stamp_of "$built")" "$@"; }
+}
+
+# Makes a file with a tool: the file, the pattern of the lines to be shown, the tool with its words.
+make_current() {
+    local built=$1 shown=$2 name stamp
+    shift 2
+    name="$(basename "$built")"
+    stamp="$(stamp_of "$built")"
+    build "$name" "$shown" "$@"
+    [[ -e $built ]] || stop "$broken" "$name was not built by: $* (remove target/ to build all from nothing)"
+    mkdir -p "$(dirname "$stamp")"
+    touch "$stamp"
+}
+
+# A Rust tool of a package.
+make_rust() {
+    make_current "$tool" '^ *Compiling ' \
+        cargo build --manifest-path rust/Cargo.toml --target-dir rust/target --release --offline --package "$1"
+}
+
+# A verified program.
+need_program() {
+    tool="$root/target/bin/$1"
+    is_current "$tool" "${verified[@]}" || make_current "$tool" '^rt: ' rt check "$1"
+}
+
+# A Rust tool, and its package.
+need_rust() {
+    tool="$root/rust/target/release/$1"
+    is_current "$tool" "${plain[@]}" || make_rust "$2"
+}
+
+# The Rust tool that has the verified library in it.
+need_part() {
+    local library="$root/target/staticlib/libtimed_network.a"
+    tool="$root/rust/target/release/program_part"
+    if ! is_current "$tool" "${verified[@]}" "${plain[@]}"; then
+        is_current "$library" "${verified[@]}" || make_current "$library" '^rt: ' rt staticlib timed_network
+        make_rust timed_network
+    fi
+}

@@ -1,0 +1,116 @@
+# What `vanillatarn --help` and `vanillatarn COMMAND --help` say.
+# shellcheck shell=bash
+
+general_help() {
+    cat <<'TEXT'
+usage: vanillatarn COMMAND ...
+
+  verdict TABLE                             whether the table is accepted; if not, why
+  schedule TABLE                            its schedule, a line a passage
+  translate TABLE [-o FILE]                 the program of its nodes
+  list PROGRAM                              a program, a statement a line
+  part PROGRAM NODE [-o FILE]               the part of a program that belongs to one node
+  run TABLE CHOICES                         how a run ends, and what is observed
+  choices [--early|--late] TABLE [-o FILE]  choices that take a run to the horizon
+  text TABLE                                a table as text
+  table TEXTFILE [-o FILE]                  a text as a table
+
+vanillatarn COMMAND --help says more. A file may be - for standard input.
+
+Bytes (programs, parts, choices, tables) go to FILE, without -o or with -o - to
+standard output. Without -o a terminal gets none. Where the answer is no, the
+file of -o is left as it was.
+
+Exit status
+  0  fine
+  1  the answer is no: a table is refused, a run ends late or with a choice that
+     is not allowed, a program is damaged or has no such part, a text has a fault
+  2  wrong use; a file that cannot be read or written, is empty or too long
+  3  a tool is missing, could not be built or failed
+
+What is needed is built on first use (with rt and cargo); its progress goes to
+standard error. That takes minutes, once; the very first time, when the whole
+library is proved, it takes longest.
+TEXT
+}
+
+command_help() {
+    case $1 in
+        verdict) cat <<'TEXT' ;;
+usage: vanillatarn verdict TABLE
+
+Says whether the table is accepted. If it is not: `refused`, the number of the
+check, the component; the question in words; after 10, 11 or 12 also which
+windows met. docs/REFUSALS.md lists the numbers.
+
+Exit status: 0 accepted, 1 refused.
+TEXT
+        schedule) cat <<'TEXT' ;;
+usage: vanillatarn schedule TABLE
+
+Prints the schedule, a line a passage: component, edge, location, entry, ready,
+end, message (- for none).
+
+Exit status: 0 printed, 1 the table is refused.
+TEXT
+        translate) cat <<'TEXT' ;;
+usage: vanillatarn translate TABLE [-o FILE]
+
+Writes the program of the table's nodes, as bytes.
+
+Exit status: 0 written, 1 the table is refused.
+TEXT
+        list) cat <<'TEXT' ;;
+usage: vanillatarn list PROGRAM
+
+Prints a program, a statement a line. Any bytes are taken: where a program
+states what it does not hold, a line says so.
+
+Exit status: 0 printed, 1 printed, and the program is damaged.
+TEXT
+        part) cat <<'TEXT' ;;
+usage: vanillatarn part PROGRAM NODE [-o FILE]
+
+Writes the part of a program that belongs to one node (a number, from 0 on), as
+bytes: what is loaded on that node.
+
+Exit status: 0 written, 1 the program has no part for this node.
+TEXT
+        run) cat <<'TEXT' ;;
+usage: vanillatarn run TABLE CHOICES
+
+Runs the programs of the table's nodes together under a list of choices, a byte
+each (0 to 7: that node finishes its statement; 255: a tick passes). Prints how
+the run ended, the tick, the choices used, and each observation.
+
+Exit status: 0 at the horizon, or with all choices used up; 1 late, or with a
+choice that is not allowed, or the table is refused, or there are more than
+1,000,000 choices. The first line tells which.
+TEXT
+        choices) cat <<'TEXT' ;;
+usage: vanillatarn choices [--early|--late] TABLE [-o FILE]
+
+Writes a list of choices that takes a run of the table to its horizon. --early
+(the default): each node finishes everything as early as it can. --late: each
+node finishes everything as late as it may, its work at the end of the window.
+
+Exit status: 0 written, 1 the table is refused.
+TEXT
+        text) cat <<'TEXT' ;;
+usage: vanillatarn text TABLE
+
+Prints a table in its text form (docs/TABLE-TEXT.md). A table that is refused
+has a text too, if its parts fit.
+
+Exit status: 0 printed, 1 the bytes have no text form.
+TEXT
+        table) cat <<'TEXT' ;;
+usage: vanillatarn table TEXTFILE [-o FILE]
+
+Writes the bytes of a table from its text form (docs/TABLE-TEXT.md). Whether
+the table is good is not asked here: vanillatarn verdict does.
+
+Exit status: 0 written, 1 the text has a fault, told with its line.
+TEXT
+    esac
+}

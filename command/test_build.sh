@@ -1,0 +1,77 @@
+# What is built on first use, tried in a root of its own with an `rt` that only says that it was called. Part of test.sh.
+# shellcheck shell=bash
+# shellcheck disable=SC2034,SC2154 # test.sh sets root and work, and looks at what and status
+
+mkdir -p "$work/root/crates" "$work/tools"
+cp -r "$root/vanillatarn" "$root/command" "$work/root"
+: >"$work/root/crates.txt"
+for name in bash cat head wc find basename dirname readlink mktemp rm mkdir touch tee grep env; do
+    ln -s "$(command -v "$name")" "$work/tools/$name"
+done
+
+# The command of that root with these tools alone.
+call_there() {
+    what="in an empty root: vanillatarn $*"
+    status=0
+    PATH="$work/tools" "$work/root/vanillatarn" "$@" >out 2>err || status=$?
+}
+
+cp "$root/corpus/probe_and_hub.bin" cellar.bin
+call_there verdict cellar.bin
+says 3
+complains "verdict_printer has to be built, and 'rt' is not installed"
+
+# An rt that fails.
+cat >"$work/tools/rt" <<'TEXT'
+#!/usr/bin/env bash
+echo 'a reason'
+exit 1
+TEXT
+chmod +x "$work/tools/rt"
+call_there verdict cellar.bin
+says 3
+complains 'a reason'
+complains 'verdict_printer could not be built: rt check verdict_printer'
+
+# An rt that builds nothing.
+printf '#!/usr/bin/env bash\n' >"$work/tools/rt"
+call_there verdict cellar.bin
+says 3
+complains 'verdict_printer was not built by: rt check verdict_printer'
+
+# An rt that leaves a program as it is, if there is one.
+cat >"$work/tools/rt" <<'TEXT'
+#!/usr/bin/env bash
+mkdir -p target/bin
+echo "rt: $2 proved"
+echo 'a detail'
+[[ -e target/bin/$2 ]] || printf '#!/usr/bin/env bash\necho accepted\n' >"target/bin/$2"
+TEXT
+call_there verdict cellar.bin
+says 3
+check 'a program that cannot be run is told' grep -q 'verdict_printer failed' err
+chmod +x "$work/root/target/bin/verdict_printer"
+call_there verdict cellar.bin
+says 0
+starts accepted
+check 'nothing is built twice' test ! -s err
+
+# A source that is newer than the program: rt is asked once more, and then no longer, though the program stays as old as it is.
+touch -d '2 hours ago' "$work/root/target/bin/verdict_printer" "$work/root/target/command/verdict_printer"
+touch -d '1 hour ago' "$work/root/crates/source"
+for folder in crates crates.txt; do
+    touch -d '1 hour ago' "$work/root/$folder"
+done
+call_there verdict cellar.bin
+says 0
+starts accepted
+check 'its progress is shown' grep -q '^rt: verdict_printer proved$' err
+check 'its details are not' test -z "$(grep detail err || true)"
+call_there verdict cellar.bin
+check 'nothing is built twice' test ! -s err
+
+# A program that writes something else.
+printf '#!/usr/bin/env bash\necho perhaps\n' >"$work/root/target/bin/verdict_printer"
+call_there verdict cellar.bin
+says 3
+check 'an answer that is none is told' grep -q 'verdict_printer failed' err
