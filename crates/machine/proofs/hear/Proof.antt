@@ -63,7 +63,9 @@ put-node-requires c κs =
     (held .ensures)
     (r .ensures)
     (pre .3) in
-    (pre .0, pre .1, pre .2, asked .inside, asked .put (q .result) (q .ensures .1))
+    let before = asked .within in
+    let after = asked .put (q .result) (q .ensures .1) in
+    (pre .0, pre .1, pre .2, asked .inside, search needs)
 
 same-length : tie.Need-same-length
 same-length c = search needs
