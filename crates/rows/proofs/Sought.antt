@@ -7,14 +7,12 @@ use Prim.Native.Nat.{ℕ, zero, suc, _+_, _-_, _≤_, _<_}
 use native.Mathlib.Numerals.{add-one}
 use native.Mathlib.Omega.{arith}
 use borrow.Author.Count.{below-more}
-use borrow.Author.Tests.{le-ltb}
+use borrow.Author.Tests.{lt-ltb, le-ltb}
 use lib.Dec.{ltb, eqb}
 use Rattle.model.specs.Table.{Table}
 use Rattle.model.specs.Window.{channelOf, listens}
 use Rattle.model.specs.Places.{readOf}
 use Rattle.model.specs.Schedule.{Visit, visitArc, names, others, heardBy, endsSooner, sooner, earliest, carried, messageIn}
-use Rattle.rows.specs.declared.Best.{Best}
-use Rattle.rows.specs.declared.Best.the-variants.{Nothing, Row}
 use Rattle.rows.specs.Rows.{num, inTime, rowVisit, rowsFrom, rowsOf, RowsPlaced, bestOf, heardRow}
 
 -- ## Tests
@@ -98,15 +96,24 @@ module _ (bs l : List ℕ) (H i j : ℕ) (b : Option Visit) where
 
 -- ## The best so far and row j
 
-module _ (l : List ℕ) (best : Best) where
-  pub first-best : (j : ℕ) → best ≡ Nothing → bestOf l (Row j) ≡ sooner (bestOf l best) (rowVisit l j)
-  first-best j e = rw e
+module _ (l : List ℕ) (n best j : ℕ) (h : j < n) where
+  -- the first one heard
+  pub first-best : n ≤ best → bestOf l n j ≡ sooner (bestOf l n best) (rowVisit l j)
+  first-best k = rw (lt-ltb j n h, le-ltb best n k)
 
-  pub sooner-best : (b j : ℕ) → best ≡ Row b → endsSooner (rowVisit l j) (rowVisit l b) ≡ true → bestOf l (Row j) ≡ sooner (bestOf l best) (rowVisit l j)
-  sooner-best b j e q = rw e (sym (ap (λ (t : Bool). cond t (some (rowVisit l j)) (some (rowVisit l b))) q))
+  -- one that ends sooner, or not
+  pub sooner-best : best < n → endsSooner (rowVisit l j) (rowVisit l best) ≡ true → bestOf l n j ≡ sooner (bestOf l n best) (rowVisit l j)
+  sooner-best k e = rw (lt-ltb j n h, lt-ltb best n k, e)
 
-  pub kept-best : (b j : ℕ) → best ≡ Row b → endsSooner (rowVisit l j) (rowVisit l b) ≡ false → bestOf l (Row b) ≡ sooner (bestOf l best) (rowVisit l j)
-  kept-best b j e q = rw e (sym (ap (λ (t : Bool). cond t (some (rowVisit l j)) (some (rowVisit l b))) q))
+  pub kept-best : best < n → endsSooner (rowVisit l j) (rowVisit l best) ≡ false → bestOf l n best ≡ sooner (bestOf l n best) (rowVisit l j)
+  kept-best k e = rw (lt-ltb best n k, e)
+
+-- none yet; one that is there
+pub none-best : (l : List ℕ) (n best : ℕ) → n ≤ best → bestOf l n best ≡ none
+none-best l n best k = rw (le-ltb best n k)
+
+pub some-best : (l : List ℕ) (n best : ℕ) → best < n → bestOf l n best ≡ some (rowVisit l best)
+some-best l n best k = rw (lt-ltb best n k)
 
 -- ## What row i hears
 

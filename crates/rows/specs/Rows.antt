@@ -6,8 +6,6 @@ use mathlib.Core.Option.{Option, none, some}
 use Prim.Native.Nat.{ℕ, zero, suc, _+_, _*_, _≤_, _<_}
 use lib.Dec.{eqb, ltb}
 use lib.ListN.{length, getD}
-use Rattle.rows.specs.declared.Best.{Best}
-use Rattle.rows.specs.declared.Best.the-variants.{Nothing, Row}
 use Rattle.model.specs.Table.{size}
 use Rattle.model.specs.Reader.{byte}
 use Rattle.model.specs.Places.{itemsPlace, arcLength, arcPlace, startOf, Valid, readOf, componentIn}
@@ -87,13 +85,8 @@ abbrev pub inTime : ℕ → Visit → Visit → Bool
 inTime H v s = others v s && (ltb (v .ready) (s .ready) && ltb (s .ready) H && ltb (s .end) (v .end))
 
 -- the best so far: a row of the first n
-abbrev pub bestOf : List ℕ → Best → Option Visit
-bestOf l Nothing = none
-bestOf l (Row b) = some (rowVisit l b)
-
-abbrev pub BestBelow : ℕ → Best → Type 0
-BestBelow n Nothing = Unit {0}
-BestBelow n (Row b) = b < n
+abbrev pub bestOf : List ℕ → ℕ → ℕ → Option Visit
+bestOf l n b = cond (ltb b n) (some (rowVisit l b)) none
 
 -- row j is looked at for row i: one turn of `earliest`
 abbrev pub heardRow : List ℕ → List ℕ → ℕ → ℕ → ℕ → Option Visit → Option Visit

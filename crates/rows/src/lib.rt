@@ -8,13 +8,7 @@ ghost use lib.Seq.{sets};
 ghost use Rattle.model.specs.Window.{channelOf, listens};
 ghost use Rattle.model.specs.Places.{arcAt, readOf};
 ghost use Rattle.model.specs.Schedule.{visitArc, names, heardBy, endsSooner, sooner, earliest, messageIn};
-ghost use Rattle.rows.specs.Rows.{num, messageOf, rowVisit, rowsOf, RowsPlaced, MessagesPut, EdgeStands, RowKnown, inTime, bestOf, BestBelow, heardRow};
-
-// The row of the best message so far.
-pub enum Best {
-    Nothing,
-    Row(usize),
-}
+ghost use Rattle.rows.specs.Rows.{num, messageOf, rowVisit, rowsOf, RowsPlaced, MessagesPut, EdgeStands, RowKnown, inTime, bestOf, heardRow};
 
 fn wide(x: u8) -> u32
     ensures { λ r. ⌜ (r ≡ x) × (r < 256) ⌝ }
@@ -175,27 +169,21 @@ fn ends_sooner(l: &[u32], j: usize, b: usize) -> bool
     parts::either(end < other, parts::both(end == other, lower))
 }
 
-// The best so far, or row j where that ends sooner.
-fn nearer(l: &[u32], best: Best, j: usize, n: usize) -> Best
-    requires { ⌜ (n * 9 ≤ length (now l)) × (j < n) × BestBelow n best ⌝ }
-    ensures { λ r. ⌜ (bestOf (now (l .entry)) r ≡ sooner (bestOf (now (l .entry)) best) (rowVisit (now (l .entry)) j)) × BestBelow n r ⌝ }
+// The row best so far (n where there is none), or row j where that ends sooner.
+fn nearer(l: &[u32], best: usize, j: usize, n: usize) -> usize
+    requires { ⌜ (n * 9 ≤ length (now l)) × (j < n) ⌝ }
+    ensures { λ r. ⌜ bestOf (now (l .entry)) n r ≡ sooner (bestOf (now (l .entry)) n best) (rowVisit (now (l .entry)) j) ⌝ }
 {
-    match best {
-        Best::Nothing => Best::Row(j),
-        Best::Row(b) => {
-            if ends_sooner(l, j, b) {
-                Best::Row(j)
-            } else {
-                Best::Row(b)
-            }
-        }
+    if n <= best {
+        return j;
     }
+    if ends_sooner(l, j, best) { j } else { best }
 }
 
 // The best so far, or row j where row i hears it and it ends sooner.
-fn heard(s: &[u8], l: &[u32], best: Best, i: usize, j: usize, n: usize, h: u32) -> Best
-    requires { ⌜ RowsPlaced (now s) (now l) n × (i < n) × (j < n) × BestBelow n best ⌝ }
-    ensures { λ r. ⌜ (bestOf (now (l .entry)) r ≡ heardRow (now (s .entry)) (now (l .entry)) h i j (bestOf (now (l .entry)) best)) × BestBelow n r ⌝ }
+fn heard(s: &[u8], l: &[u32], best: usize, i: usize, j: usize, n: usize, h: u32) -> usize
+    requires { ⌜ RowsPlaced (now s) (now l) n × (i < n) × (j < n) ⌝ }
+    ensures { λ r. ⌜ bestOf (now (l .entry)) n r ≡ heardRow (now (s .entry)) (now (l .entry)) h i j (bestOf (now (l .entry)) n best) ⌝ }
 {
     if hears(s, l, i, j, h) {
         nearer(l, best, j, n)
@@ -204,13 +192,14 @@ fn heard(s: &[u8], l: &[u32], best: Best, i: usize, j: usize, n: usize, h: u32) 
     }
 }
 
-// The row whose message row i hears. Rows before its sweep end too early, rows that open at its end or later end too late.
-fn seek(s: &[u8], l: &[u32], n: usize, i: usize, h: u32) -> Best
+// The row whose message row i hears, n where there is none. Rows before its sweep end too early, rows that open at its end or later end
+// too late.
+fn seek(s: &[u8], l: &[u32], n: usize, i: usize, h: u32) -> usize
     requires { ⌜ RowsPlaced (now s) (now l) n × (i < n) ⌝ }
-    ensures { λ r. ⌜ (bestOf (now (l .entry)) r ≡ earliest (heardBy (readOf (now (s .entry)) .table) h (rowVisit (now (l .entry)) i)) (rowsOf (now (l .entry)) n) none) × BestBelow n r ⌝ }
+    ensures { λ r. ⌜ bestOf (now (l .entry)) n r ≡ earliest (heardBy (readOf (now (s .entry)) .table) h (rowVisit (now (l .entry)) i)) (rowsOf (now (l .entry)) n) none ⌝ }
 {
     let until = number(l, i, 5);
-    let mut best = Best::Nothing;
+    let mut best = n;
     let mut j = index(l, i, 8);
     while j < n {
         if until <= number(l, j, 3) {
@@ -231,10 +220,10 @@ pub fn message(s: &[u8], l: &[u32], n: usize, i: usize, h: u32) -> u8
         return row_sent(s, l, i);
     }
     let best = seek(s, l, n, i, h);
-    match best {
-        Best::Nothing => 255,
-        Best::Row(j) => row_sent(s, l, j),
+    if best < n {
+        return row_sent(s, l, best);
     }
+    255
 }
 
 // Gives each of n rows its message. (The other numbers stay.)

@@ -15,18 +15,17 @@ hears-requires c κs =
 nearer-requires : tie.Need-nearer-requires
 nearer-requires c κs =
     let e = c .before .before .before .before in
-    (e .pre .0 .fits, e .pre .2, e .pre .3)
+    (e .pre .0 .fits, e .pre .2)
 
 returns : tie.Need-returns
 returns c =
     let a = c .before .before .before .before .before .args in
-    (row-heard (a .s .now) (a .l .now) (a .h) (a .i) (a .j) (bestOf (a .l .now) (a .best)) _ (sym (c .before .before .hears .ensures) ∙ c .before .if1 .taken) (c .nearer .ensures .0), c .nearer .ensures .1)
+    row-heard (a .s .now) (a .l .now) (a .h) (a .i) (a .j) (bestOf (a .l .now) (a .n) (a .best)) _ (sym (c .before .before .hears .ensures) ∙ c .before .if1 .taken) (c .nearer .ensures)
 
 returns-2 : tie.Need-returns-2
 returns-2 c =
-    let e = c .before .before .before .before in
-    let a = e .args in
-    (row-unheard (a .s .now) (a .l .now) (a .h) (a .i) (a .j) (bestOf (a .l .now) (a .best)) (sym (c .before .hears .ensures) ∙ c .if1 .left), e .pre .3)
+    let a = c .before .before .before .before .args in
+    row-unheard (a .s .now) (a .l .now) (a .h) (a .i) (a .j) (bestOf (a .l .now) (a .n) (a .best)) (sym (c .before .hears .ensures) ∙ c .if1 .left)
 
 pub heard-spec : {M : Type 1} → statement M
 heard-spec = tie.close (tie.spec hears-requires nearer-requires returns returns-2)

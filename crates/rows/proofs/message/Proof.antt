@@ -1,13 +1,12 @@
 -- `rows::message` meets its contract. Assumes nothing.
 use mathlib.Core.Option.{none}
-use mathlib.Core.Path.{refl, sym, ap, subst, _∙_}
-use Prim.Native.Nat.{_<_}
-use borrow.Author.Needs.{needs}
+use mathlib.Core.Path.{refl, sym, _∙_}
 use borrow.Author.Tests.{not-true, not-false}
 use Rattle.model.specs.Places.{readOf}
-use Rattle.rows.specs.Rows.{rowVisit, rowsOf, bestOf, BestBelow, messageOf}
+use Rattle.rows.specs.Rows.{rowVisit, rowsOf, messageOf}
 use Rattle.rows.proofs.Placed.{row-known}
-use Rattle.rows.proofs.Sought.{own-message, heard-message}
+use Rattle.rows.proofs.Sought.{some-best, none-best, own-message, heard-message}
+use borrow.Author.Needs.{needs}
 use Rattle.rows.proofs.message.Statement.{statement}
 use Rattle.rows.proofs.message.Tie as tie
 
@@ -31,28 +30,23 @@ returns c =
 seek-requires : tie.Need-seek-requires
 seek-requires c κs = search needs
 
-enum-told : tie.Need-enum-told
-enum-told c = search needs
-
-enum-known-best : tie.Need-enum-known-best
-enum-known-best c = search needs
-
 row-sent-requires-2 : tie.Need-row-sent-requires-2
 row-sent-requires-2 c κs =
-    let e = c .before .before .before .before .before .before .before .before in
+    let e = c .before .before .before .before .before .before in
     let a = e .args in
-    let b : c .before .best .given .0 .0 < a .n = subst (BestBelow (a .n)) (c .before .best .given .1) (c .before .before .before .seek .ensures .1) in
-    row-known (a .s .now) (a .l .now) (a .n) (c .before .best .given .0 .0) (e .pre .0) b
+    row-known (a .s .now) (a .l .now) (a .n) (c .before .seek .result) (e .pre .0) (c .if2 .taken)
 
 returns-2 : tie.Need-returns-2
 returns-2 c =
     let a = c .before .before .before .before .before .before .before .args in
-    heard-message (readOf (a .s .now) .table) (a .h) (rowsOf (a .l .now) (a .n)) (rowVisit (a .l .now) (a .i)) none none (sym (c .before .before .before .before .row-receives .ensures) ∙ not-false _ (c .before .before .before .if1 .left)) (sym (ap (bestOf (a .l .now)) (c .enum-told .given .1)) ∙ c .before .before .seek .ensures .0) refl
+    let best = some-best (a .l .now) (a .n) (c .before .before .seek .result) (c .before .if2 .taken) in
+    heard-message (readOf (a .s .now) .table) (a .h) (rowsOf (a .l .now) (a .n)) (rowVisit (a .l .now) (a .i)) (messageOf (c .row-sent2 .result)) _ (sym (c .before .before .before .before .row-receives .ensures) ∙ not-false _ (c .before .before .before .if1 .left)) (sym best ∙ c .before .before .seek .ensures) (c .row-sent2 .ensures)
 
 returns-3 : tie.Need-returns-3
 returns-3 c =
-    let a = c .before .before .before .before .before .before .before .before .before .args in
-    heard-message (readOf (a .s .now) .table) (a .h) (rowsOf (a .l .now) (a .n)) (rowVisit (a .l .now) (a .i)) (messageOf (c .row-sent2 .result)) _ (sym (c .before .before .before .before .before .before .row-receives .ensures) ∙ not-false _ (c .before .before .before .before .before .if1 .left)) (sym (ap (bestOf (a .l .now)) (c .before .before .best .given .1)) ∙ c .before .before .before .before .seek .ensures .0) (c .row-sent2 .ensures)
+    let a = c .before .before .before .before .before .before .args in
+    let best = none-best (a .l .now) (a .n) (c .before .seek .result) (c .if2 .left) in
+    heard-message (readOf (a .s .now) .table) (a .h) (rowsOf (a .l .now) (a .n)) (rowVisit (a .l .now) (a .i)) none none (sym (c .before .before .before .row-receives .ensures) ∙ not-false _ (c .before .before .if1 .left)) (sym best ∙ c .before .seek .ensures) refl
 
 pub message-spec : {M : Type 1} → statement M
 message-spec =
@@ -62,8 +56,6 @@ message-spec =
     row-sent-requires
     returns
     seek-requires
-    enum-told
-    enum-known-best
     row-sent-requires-2
     returns-2
     returns-3)

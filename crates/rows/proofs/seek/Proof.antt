@@ -6,15 +6,15 @@ use native.Mathlib.Omega.{arith}
 use borrow.Author.Needs.{needs}
 use Rattle.model.specs.Places.{readOf}
 use Rattle.model.specs.Schedule.{heardBy, earliest}
-use Rattle.rows.specs.Rows.{rowVisit, rowsFrom, rowsOf, bestOf, BestBelow}
-use Rattle.rows.proofs.Sought.{from-low, turn, stop, done}
+use Rattle.rows.specs.Rows.{rowVisit, rowsFrom, rowsOf, bestOf}
+use Rattle.rows.proofs.Sought.{none-best, from-low, turn, stop, done}
 use Rattle.rows.proofs.seek.Statement.{statement}
 use Rattle.rows.proofs.seek.Tie as tie
 
 abbrev Inv-loop : tie.InvT-loop
 Inv-loop s l n i h until best₀ j₀ best j =
-    (j ≤ n) × BestBelow n best
-    × (earliest (heardBy (readOf s .table) h (rowVisit l i)) (rowsFrom l j (n - j)) (bestOf l best)
+    (j ≤ n)
+    × (earliest (heardBy (readOf s .table) h (rowVisit l i)) (rowsFrom l j (n - j)) (bestOf l n best)
     ≡ earliest (heardBy (readOf s .table) h (rowVisit l i)) (rowsOf l n) none)
 
 abbrev μ-loop : tie.MeasureT-loop
@@ -30,7 +30,7 @@ loop-holds : tie.Need-loop-holds Inv-loop μ-loop
 loop-holds c =
     let e = c .before .before .before .before in
     let a = e .args in
-    (omega (arith, c .index .ensures, e .pre .0 .low (a .i) (e .pre .1)), tt, from-low (a .s .now) (a .l .now) (a .n) (a .i) (a .h) (e .pre .0) (e .pre .1) (c .index .result) (c .index .ensures))
+    (omega (arith, c .index .ensures, e .pre .0 .low (a .i) (e .pre .1)), rw (none-best (a .l .now) (a .n) (a .n) (omega arith)) (from-low (a .s .now) (a .l .now) (a .n) (a .i) (a .h) (e .pre .0) (e .pre .1) (c .index .result) (c .index .ensures)))
 
 number-requires-2 : tie.Need-number-requires-2 Inv-loop μ-loop
 number-requires-2 c κs =
@@ -42,12 +42,12 @@ returns c =
     let e = c .before .before .before .before .before .before .before .before in
     let a = e .args in
     let l = c .before .before .before .loop in
-    (stop (a .s .now) (a .l .now) (a .n) (a .i) (a .h) (e .pre .0) (e .pre .1) (l .j) (bestOf (a .l .now) (l .best)) _ (omega (arith, e .pre .1)) (omega (arith, c .before .before .before .before .before .number .ensures, c .before .number2 .ensures)) (l .inv .2), l .inv .1)
+    stop (a .s .now) (a .l .now) (a .n) (a .i) (a .h) (e .pre .0) (e .pre .1) (l .j) (bestOf (a .l .now) (a .n) (l .best)) _ (omega (arith, e .pre .1)) (omega (arith, c .before .before .before .before .before .number .ensures, c .before .number2 .ensures)) (l .inv .1)
 
 heard-requires : tie.Need-heard-requires Inv-loop μ-loop
 heard-requires c κs =
     let e = c .before .before .before .before .before .before .before .before in
-    (e .pre .0, e .pre .1, omega (arith, e .pre .1), c .before .before .before .loop .inv .1)
+    (e .pre .0, e .pre .1, omega (arith, e .pre .1))
 
 add-j : tie.Need-add-j Inv-loop μ-loop
 add-j c =
@@ -62,14 +62,14 @@ loop-again c =
     let e = c .before .before .before .before .before .before .before .before .before in
     let a = e .args in
     let l = c .before .before .before .before .loop in
-    (omega (arith, e .pre .1), c .heard .ensures .1, turn (a .s .now) (a .l .now) (a .n) (a .i) (a .h) (e .pre .0) (e .pre .1) (l .j) (bestOf (a .l .now) (l .best)) (bestOf (a .l .now) (c .heard .result)) _ (omega (arith, e .pre .1)) (c .heard .ensures .0) (l .inv .2))
+    (omega (arith, e .pre .1), turn (a .s .now) (a .l .now) (a .n) (a .i) (a .h) (e .pre .0) (e .pre .1) (l .j) (bestOf (a .l .now) (a .n) (l .best)) (bestOf (a .l .now) (a .n) (c .heard .result)) _ (omega (arith, e .pre .1)) (c .heard .ensures) (l .inv .1))
 
 returns-2 : tie.Need-returns-2 Inv-loop μ-loop
 returns-2 c =
     let e = c .before .before .before .before .before .before in
     let a = e .args in
     let l = c .before .loop in
-    (done (a .s .now) (a .l .now) (a .n) (a .i) (a .h) (e .pre .0) (e .pre .1) (l .j) (bestOf (a .l .now) (l .best)) _ (omega arith) (l .inv .2), l .inv .1)
+    done (a .s .now) (a .l .now) (a .n) (a .i) (a .h) (e .pre .0) (e .pre .1) (l .j) (bestOf (a .l .now) (a .n) (l .best)) _ (omega arith) (l .inv .1)
 
 pub seek-spec : {M : Type 1} → statement M
 seek-spec =
