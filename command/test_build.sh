@@ -2,9 +2,9 @@
 # shellcheck shell=bash
 # shellcheck disable=SC2034,SC2154 # test.sh sets root and work, and looks at what and status
 
-mkdir -p "$work/root/crates" "$work/tools"
-cp -r "$root/vanillatarn" "$root/command" "$work/root"
-: >"$work/root/crates.txt"
+mkdir -p "$work/tree/crates" "$work/tools"
+cp -r "$root/vanillatarn" "$root/command" "$work/tree"
+: >"$work/tree/crates.txt"
 for name in bash cat head wc find basename dirname readlink mktemp rm mkdir touch tee grep env; do
     ln -s "$(command -v "$name")" "$work/tools/$name"
 done
@@ -13,7 +13,7 @@ done
 call_there() {
     what="in an empty root: vanillatarn $*"
     status=0
-    PATH="$work/tools" "$work/root/vanillatarn" "$@" >out 2>err || status=$?
+    PATH="$work/tools" "$work/tree/vanillatarn" "$@" >out 2>err || status=$?
 }
 
 cp "$root/corpus/probe_and_hub.bin" cellar.bin
@@ -50,17 +50,17 @@ TEXT
 call_there verdict cellar.bin
 says 3
 check 'a program that cannot be run is told' grep -q 'verdict_printer failed' err
-chmod +x "$work/root/target/bin/verdict_printer"
+chmod +x "$work/tree/target/bin/verdict_printer"
 call_there verdict cellar.bin
 says 0
 starts accepted
 check 'nothing is built twice' test ! -s err
 
 # A source that is newer than the program: rt is asked once more, and then no longer, though the program stays as old as it is.
-touch -d '2 hours ago' "$work/root/target/bin/verdict_printer" "$work/root/target/command/verdict_printer"
-touch -d '1 hour ago' "$work/root/crates/source"
+touch -d '2 hours ago' "$work/tree/target/bin/verdict_printer" "$work/tree/target/command/verdict_printer"
+touch -d '1 hour ago' "$work/tree/crates/source"
 for folder in crates crates.txt; do
-    touch -d '1 hour ago' "$work/root/$folder"
+    touch -d '1 hour ago' "$work/tree/$folder"
 done
 call_there verdict cellar.bin
 says 0
@@ -71,7 +71,7 @@ call_there verdict cellar.bin
 check 'nothing is built twice' test ! -s err
 
 # A program that writes something else.
-printf '#!/usr/bin/env bash\necho perhaps\n' >"$work/root/target/bin/verdict_printer"
+printf '#!/usr/bin/env bash\necho perhaps\n' >"$work/tree/target/bin/verdict_printer"
 call_there verdict cellar.bin
 says 3
 check 'an answer that is none is told' grep -q 'verdict_printer failed' err
