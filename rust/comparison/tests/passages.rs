@@ -4,7 +4,7 @@
 use comparison::classes::Extent;
 use comparison::compare;
 use comparison::random::Random;
-use comparison::readers::{second_schedule, Reader, Readers};
+use comparison::readers::{second_schedule, Readers};
 use comparison::stored::{corpus, vectors};
 use timed_network::{schedule_into, Call, Passage, Verdict, FIELDS};
 
@@ -47,12 +47,9 @@ fn through_passages(table: &[u8], list: &mut [u32]) -> Call {
 }
 
 fn readers() -> Readers {
-    let library = Reader {
-        check: timed_network::check,
-        schedule: through_passages,
-    };
-    let second = Reader::second();
-    Readers { library, second }
+    let mut readers = Readers::real();
+    readers.library.schedule = through_passages;
+    readers
 }
 
 #[test]
