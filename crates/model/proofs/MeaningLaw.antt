@@ -15,7 +15,7 @@ use Rattle.model.specs.Table.{Table, Read, size, componentOf, arcOf}
 use Rattle.model.specs.Limits.{InLimits}
 use Rattle.model.specs.Window.{Entry, channelOf, listens}
 use Rattle.model.specs.Schedule.{Visit, visitArc, own, names, others}
-use Rattle.model.specs.Checks.{isSend, mayHear, planOf, limit, visitAt}
+use Rattle.model.specs.Checks.{isSend, mayHear, planOf, visitAt}
 use Rattle.model.specs.Network.{State, Place, Taken, Label, together, placeOf, start, mayStepIn, mayJoin, step, waits, withPlace}
 use Rattle.model.specs.Demand3.{TakenAs, PassAs, SteppedBefore}
 use Rattle.model.specs.Progress.{presentOf, OnSchedule, Sending, meet, mayMeet, OnePartner, Means}
@@ -40,14 +40,10 @@ use Rattle.model.proofs.MeaningStays.{pass-put, stepped-put, leads-on, 
 free-place : {p : Place} (v : Visit) → p .entry ≡ v .entry → p .waiting ≡ none → p ≡ placeIn v false
 free-place v e f = ap₂ (λ (x : Entry) (o : Option Taken). record { entry = x; waiting = o }) e f
 
-module _ {t : Read} {S : List Visit} (G : Given t S) {path : List Label} {s : State} (O : OnSchedule (t .table) S path s) {a : ℕ} (Z : Sending (t .table) (t .horizon) S path s a) where
+module _ {t : Read} {H : ℕ} {S : List Visit} (G : Given t H S) {path : List Label} {s : State} (O : OnSchedule (t .table) S path s) {a : ℕ} (Z : Sending (t .table) H S path s a) where
   -- the table
   abbrev T : Table
   T = t .table
-
-  -- the horizon
-  abbrev H : ℕ
-  H = t .horizon
 
   -- the present passage of each component
   abbrev N : ℕ → Visit
@@ -79,7 +75,7 @@ module _ {t : Read} {S : List Visit} (G : Given t S) {path : List Label} {s : St
 
   -- it is there
   there : b < size T
-  there = component-there limit T H S (G .sched) (R .visit) (R .listed)
+  there = component-there (G .most) T H S (G .sched) (R .visit) (R .listed)
 
   -- where it stands
   B : Present t S path s b (N b)
@@ -90,7 +86,7 @@ module _ {t : Read} {S : List Visit} (G : Given t S) {path : List Label} {s : St
   is-now = go (B .others (R .visit) (in-own (R .listed)))
     where
       f : Fits (componentOf T b) (R .visit)
-      f = fits-in limit T H S (G .sched) (R .visit) (R .listed)
+      f = fits-in (G .most) T H S (G .sched) (R .visit) (R .listed)
 
       go : (R .visit .end ≤ N b .entry .tick) ⊎ ((R .visit ≡ N b) ⊎ (N b .end ≤ R .visit .entry .tick)) → R .visit ≡ N b
       go (inl i) = absurd (omega (arith, B .since, A .before, R .later))
@@ -139,14 +135,14 @@ module _ {t : Read} {S : List Visit} (G : Given t S) {path : List Label} {s : St
       same : (y : Visit) → y ∈ own c S → Beside (p .place) y → N a ≡ y
       same y m k =
           let o = own-in c S m in
-          let f : Fits (componentOf T c) y = subst (λ (n : ℕ). Fits (componentOf T n) y) (o .1) (fits-in limit T H S (G .sched) y (o .0)) in
+          let f : Fits (componentOf T c) y = subst (λ (n : ℕ). Fits (componentOf T n) y) (o .1) (fits-in (G .most) T H S (G .sched) y (o .0)) in
           let q : TakenAs (some (p .taken)) y = subst (λ (x : Option Taken). TakenAs x y) (p .waiting) (k .taken) in
           let i = within-passage f (k .entry) (q .0) (p .sending) in
           let j = within-passage (B .fits) (B .beside .entry) we (p .hearing) in
           let ch : channelOf (arcOf (componentOf T c) (y .edge)) ≡ some (Z .channel) =
           subst (λ (n : ℕ). channelOf (arcOf (componentOf T c) n) ≡ some (Z .channel)) (q .0) (p .channel) in
           let n =
-          hears-now limit T H S (G .sched) (G .checks) (p .at) c b (Z .channel) y (N b) (o .0) (yours .0) (o .1) (yours .1) (p .differ) ch receives named (i .0) (i .1) (j .0) (j .1)
+          hears-now (G .most) T H S (G .sched) (G .checks) (p .at) c b (Z .channel) y (N b) (o .0) (yours .0) (o .1) (yours .1) (p .differ) ch receives named (i .0) (i .1) (j .0) (j .1)
           (omega (arith, p .before, Z .below)) in
           single-law T H S (G .checks) (N b) (N a) y (yours .0) (mine .0) (o .0) sends (n .0) hears (n .1)
 
@@ -177,7 +173,7 @@ module _ {t : Read} {S : List Visit} (G : Given t S) {path : List Label} {s : St
           q = subst (λ (x : Option Taken). TakenAs x (N b)) e (B .beside .taken)
 
           message : w .message ≡ some (Z .channel)
-          message = q .1 ∙ (heard-message limit T H S (G .sched) (G .checks) (N a) (N b) (mine .0) (yours .0) sends hears ∙ Z .sends)
+          message = q .1 ∙ (heard-message (G .most) T H S (G .sched) (G .checks) (N a) (N b) (mine .0) (yours .0) sends hears ∙ Z .sends)
 
           listening : listens (arcOf (componentOf T b) (w .edge)) ≡ true
           listening = subst (λ (n : ℕ). listens (arcOf (componentOf T b) n) ≡ true) (sym (q .0)) receives
@@ -223,7 +219,7 @@ module _ {t : Read} {S : List Visit} (G : Given t S) {path : List Label} {s : St
           let o = own-in c S (K .listed) in
           let i = within-passage (K .fits) (K .beside .entry) refl (steps-within (sound G O .since c hc) kc none) in
           let m =
-          hears-now limit T H S (G .sched) (G .checks) (s .tick) a c k (N a) (N c) (mine .0) (o .0) (mine .1) (o .1) n ch li na (Z .ready) (A .before) (i .0) (i .1) (Z .below) in
+          hears-now (G .most) T H S (G .sched) (G .checks) (s .tick) a c k (N a) (N c) (mine .0) (o .0) (mine .1) (o .1) n ch li na (Z .ready) (A .before) (i .0) (i .1) (Z .below) in
           sym (o .1) ∙ ap (λ (x : Visit). x .component) (R .unique (N c) (o .0) (m .1))
 
   -- ## The path with it
@@ -281,7 +277,7 @@ module _ {t : Read} {S : List Visit} (G : Given t S) {path : List Label} {s : St
       said = sym (A .fits .said (sends-only (arcOf (componentOf T a) (N a .edge)) (Z .channel) channel))
 
       heard : sent ≡ N b .message
-      heard = channel ∙ (sym (Z .sends) ∙ sym (heard-message limit T H S (G .sched) (G .checks) (N a) (N b) (mine .0) (yours .0) sends hears))
+      heard = channel ∙ (sym (Z .sends) ∙ sym (heard-message (G .most) T H S (G .sched) (G .checks) (N a) (N b) (mine .0) (yours .0) sends hears))
 
       go : (x : Bool) → eqb c b ≡ x → (y : Bool) → eqb c a ≡ y → Kept c (placeOf after c)
       go true q y r =

@@ -14,7 +14,7 @@ use Rattle.model.specs.Lists.{_∈_, here, there}
 use Rattle.model.specs.Table.{Read, Component, size, componentOf}
 use Rattle.model.specs.Window.{Entry}
 use Rattle.model.specs.Schedule.{Visit, own}
-use Rattle.model.specs.Checks.{visitAt, limit}
+use Rattle.model.specs.Checks.{visitAt}
 use Rattle.model.specs.Network.{State, Place, Taken, Label, placeOf, start, passagesOn}
 use Rattle.model.specs.Demand3.{TakenAs, PassAs, IsStepped, SteppedBefore, Demand3}
 use Rattle.model.specs.Progress.{presentOf, OnSchedule}
@@ -48,7 +48,7 @@ inside-before {C} {v} now p f e (some w) k i l =
     (subst (λ (x : Entry). Inside C now (record { entry = x; waiting = p .waiting }) (some w)) e i) in
     inl (omega (arith, f .end, a, ap (λ (x : Entry). x .tick) e))
 
-module _ {t : Read} {S : List Visit} (G : Given t S) {path : List Label} {s : State} (O : OnSchedule (t .table) S path s) where
+module _ {t : Read} {H : ℕ} {S : List Visit} (G : Given t H S) {path : List Label} {s : State} (O : OnSchedule (t .table) S path s) where
   -- the path step by step
   pub steps : Along (t .table) (start (t .table)) path s
   steps = along (t .table) (start (t .table)) path s (O .valid)
@@ -76,8 +76,8 @@ module _ {t : Read} {S : List Visit} (G : Given t S) {path : List Label} {s : St
       is : presentOf (t .table) S path c ≡ v
       is = ap (λ (ps : List Place). visitAt (own c S) (pred (length ps))) are ∙ split-at k
 
-      L : Linked (t .table) (t .horizon) S c
-      L = schedule-linked limit (t .table) (t .horizon) S (G .sched) c h
+      L : Linked (t .table) H S c
+      L = schedule-linked (G .most) (t .table) H S (G .sched) c h
 
       line : L .head ∷ L .tail ≡ k .past ++ (v ∷ k .next)
       line = sym (L .is) ∙ k .is
@@ -131,5 +131,5 @@ module _ {t : Read} {S : List Visit} (G : Given t S) {path : List Label} {s : St
       stands = record { beside = k .beside; listed = mine; fits = fit; since = begun; before = ends; others = place; passed = gone }
 
 -- the path of every run is one that keeps to the schedule
-pub run-keeps : {t : Read} {S : List Visit} {cs : List ℕ} → (d : Demand3 t S cs) → OnSchedule (t .table) S (d .path) (d .last)
+pub run-keeps : {t : Read} {H : ℕ} {S : List Visit} {cs : List ℕ} → (d : Demand3 t H S cs) → OnSchedule (t .table) S (d .path) (d .last)
 run-keeps d = record { valid = d .valid; scheduled = d .scheduled; kept = d .kept }

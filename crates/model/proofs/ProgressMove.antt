@@ -15,7 +15,7 @@ use Rattle.model.specs.Window.{inRange, valueAt}
 use Rattle.model.specs.Schedule.{Visit, own}
 use Rattle.model.specs.Program.{programBytes}
 use Rattle.model.specs.Machine.{Node, partBytes}
-use Rattle.model.specs.Run.{Setting, settingOf, Run, noNode, nodeOf, Stand, sleeping, sending, listening, finishing, adding, working, taking, elsewhere, nowhere, standOf, windowEnd, names, hears, listeners, takesMessage, forbidden, on, finished, sent, finishes, choose1}
+use Rattle.model.specs.Run.{Setting, settingTo, Run, noNode, nodeOf, Stand, sleeping, sending, listening, finishing, adding, working, taking, elsewhere, nowhere, standOf, windowEnd, names, hears, listeners, takesMessage, forbidden, on, finished, sent, finishes, choose1}
 use Rattle.model.proofs.Bools.{clash, and-is}
 use Rattle.model.proofs.Members.{only-is}
 use Rattle.model.proofs.WholeTied.{Given, Tied}
@@ -139,53 +139,53 @@ toilAt S s d = toil (length (own d S)) (nodeOf s d)
 abbrev pub toilOf : Read → List Visit → Run → ℕ
 toilOf t S s = total (size (t .table)) (toilAt S s)
 
-module _ {t : Read} {S : List Visit} (G : Given t S) {s : Run} (k : Tied G s) where
+module _ {t : Read} {H : ℕ} {S : List Visit} (G : Given t H S) {s : Run} (k : Tied G s) where
   -- the nodes of a choice carried out
-  pub carried : (c : ℕ) → c < size (t .table) → (u : Run) → choose1 (settingOf t S) s c ≡ on u → Carried (settingOf t S) s c u
+  pub carried : (c : ℕ) → c < size (t .table) → (u : Run) → choose1 (settingTo t H S) s c ≡ on u → Carried (settingTo t H S) s c u
   unfolding choose1
   carried c h u e =
-      finishes-carried (settingOf t S) s c u (standOf (nodeOf s c)) refl
+      finishes-carried (settingTo t H S) s c u (standOf (nodeOf s c)) refl
       (rw (ne-eqb c 255 (λ i. omega (arith, G .limits .mostComponents)), lt-ltb c (length (s .nodes)) (omega (arith, k .full))) at e)
 
   -- a node that finished its statement has less to do
-  less : (d : ℕ) → d < size (t .table) → (standOf (nodeOf s d) ≡ taking → isNone (nodeOf s d .kept) ≡ false) → toil (length (own d S)) (finished (settingOf t S) s d) < toilAt S s d
+  less : (d : ℕ) → d < size (t .table) → (standOf (nodeOf s d) ≡ taking → isNone (nodeOf s d .kept) ≡ false) → toil (length (own d S)) (finished (settingTo t H S) s d) < toilAt S s d
   less d h kept = node-falls G h (k .ties d h) kept
 
   -- so has node d, if that is the node
   less-at : (c d : ℕ) → d < size (t .table) → (standOf (nodeOf s c) ≡ taking → isNone (nodeOf s c .kept) ≡ false) → d ≡ c
-      → toil (length (own d S)) (finished (settingOf t S) s c) < toilAt S s d
+      → toil (length (own d S)) (finished (settingTo t H S) s c) < toilAt S s d
   less-at c d h kept e =
-      subst (λ (j : ℕ). toil (length (own j S)) (finished (settingOf t S) s c) < toilAt S s j) (sym e) (less c (subst (λ (j : ℕ). j < size (t .table)) e h) kept)
+      subst (λ (j : ℕ). toil (length (own j S)) (finished (settingTo t H S) s c) < toilAt S s j) (sym e) (less c (subst (λ (j : ℕ). j < size (t .table)) e h) kept)
 
   -- a node at a listen is not at a take
   no-take : (a i : ℕ) → names a (standOf (nodeOf s i)) ≡ true → standOf (nodeOf s i) ≡ taking → isNone (nodeOf s i .kept) ≡ false
   no-take a i n e = clash (ap (names a) (sym e) ∙ n)
 
   -- what all nodes have yet to do falls with each choice of a node
-  pub choice-falls : (c : ℕ) → c < size (t .table) → (u : Run) → choose1 (settingOf t S) s c ≡ on u → toilOf t S u < toilOf t S s
+  pub choice-falls : (c : ℕ) → c < size (t .table) → (u : Run) → choose1 (settingTo t H S) s c ≡ on u → toilOf t S u < toilOf t S s
   choice-falls c h u e = go (carried c h u e .nodes)
     where
       kept : standOf (nodeOf s c) ≡ taking → isNone (nodeOf s c .kept) ≡ false
       kept = carried c h u e .kept
 
       one : List Node
-      one = set (s .nodes) c (finished (settingOf t S) s c)
+      one = set (s .nodes) c (finished (settingTo t H S) s c)
 
       there : (d : ℕ) → d < size (t .table) → d < length (s .nodes)
       there d b = omega (arith, k .full)
 
       there′ : (d : ℕ) → d < size (t .table) → d < length one
-      there′ d b = omega (arith, k .full, length-set (s .nodes) c (finished (settingOf t S) s c))
+      there′ d b = omega (arith, k .full, length-set (s .nodes) c (finished (settingTo t H S) s c))
 
       one-least : (d : ℕ) → d < size (t .table) → toil (length (own d S)) (getD one d noNode) ≤ toilAt S s d
       one-least d b =
-          put-at (λ (x : Node). toil (length (own d S)) x ≤ toilAt S s d) (s .nodes) c (finished (settingOf t S) s c) d (there d b)
+          put-at (λ (x : Node). toil (length (own d S)) x ≤ toilAt S s d) (s .nodes) c (finished (settingTo t H S) s c) d (there d b)
           (λ q. let f = less-at c d b kept q in omega arith)
           (omega arith)
 
       one-falls : toil (length (own c S)) (getD one c noNode) < toilAt S s c
       one-falls =
-          subst (λ (x : Node). toil (length (own c S)) x < toilAt S s c) (sym (getD-set-same (s .nodes) c (finished (settingOf t S) s c) noNode (there c h))) (less c h kept)
+          subst (λ (x : Node). toil (length (own c S)) x < toilAt S s c) (sym (getD-set-same (s .nodes) c (finished (settingTo t H S) s c) noNode (there c h))) (less c h kept)
 
       all-fall : (l : List Node) → u .nodes ≡ l → ((d : ℕ) → d < size (t .table) → toil (length (own d S)) (getD l d noNode) ≤ toilAt S s d)
           → toil (length (own c S)) (getD l c noNode) < toilAt S s c → toilOf t S u < toilOf t S s
@@ -196,7 +196,7 @@ module _ {t : Read} {S : List Visit} (G : Given t S) {s : Run} (k : Tied G s) wh
           h
           (subst (λ (x : List Node). toil (length (own c S)) (getD x c noNode) < toilAt S s c) (sym q) b)
 
-      go : Moves (settingOf t S) s c u → toilOf t S u < toilOf t S s
+      go : Moves (settingTo t H S) s c u → toilOf t S u < toilOf t S s
       go (moves q) = all-fall one q one-least one-falls
       go (speaks i a n q) =
           let m = takesMessage (partBytes (programBytes t) i) a (nodeOf s i) in

@@ -132,15 +132,15 @@ module _ {p : List ℕ} {channels : ℕ} {C : Component} (codes : Coded p C) (fi
 -- ## One node
 
 -- node c of a state that is the schedule's has less to do after its statement
-pub node-falls : {t : Read} {S : List Visit} (G : Given t S) {c τ : ℕ} {r : Node} {os : List Observation} {ahead : List Visit} → c < size (t .table)
-    → Tie (t .table) (t .horizon) S c τ r os ahead → (standOf r ≡ taking → isNone (r .kept) ≡ false)
+pub node-falls : {t : Read} {H : ℕ} {S : List Visit} (G : Given t H S) {c τ : ℕ} {r : Node} {os : List Observation} {ahead : List Visit} → c < size (t .table)
+    → Tie (t .table) H S c τ r os ahead → (standOf r ≡ taking → isNone (r .kept) ≡ false)
     → toil (length (own c S)) (finish (partBytes (programBytes t) c) r (r .rest)) < toil (length (own c S)) r
-node-falls {t} {S} G {c} {τ} {r} {os} {ahead} h k kept = go (k .held)
+node-falls {t} {H} {S} G {c} {τ} {r} {os} {ahead} h k kept = go (k .held)
   where
     few : k .count ≤ length (own c S)
     few = omega (arith, k .counts, ap length (k .whole), length-append (k .fin) ahead)
 
-    go : Held (t .horizon) (componentOf (t .table) c) τ (k .count) r ahead (k .more)
+    go : Held H (componentOf (t .table) c) τ (k .count) r ahead (k .more)
         → toil (length (own c S)) (finish (partBytes (programBytes t) c) r (r .rest)) < toil (length (own c S)) r
     go (coming v vs e m l p) = heading-falls (coded G c h) (component-in G c h) (length (own c S)) (k .count) p few kept
     go (waiting v vs e m l j p) = asleep-falls (coded G c h) (component-in G c h) (length (own c S)) (k .count) p

@@ -9,7 +9,7 @@ use borrow.Author.Tests.{eqb-true, eqb-false, ne-eqb}
 use lib.Dec.{eqb}
 use Rattle.model.specs.Table.{Read, size}
 use Rattle.model.specs.Schedule.{Visit}
-use Rattle.model.specs.Run.{settingOf, Run, ends, Outcome, forbidden, on, over, ticked, continue, choose1, runFrom}
+use Rattle.model.specs.Run.{settingTo, Run, ends, Outcome, forbidden, on, over, ticked, continue, choose1, runFrom}
 use Rattle.model.proofs.Bools.{clash}
 use Rattle.model.proofs.WholeTied.{Given, Tied}
 use Rattle.model.proofs.WholeTick.{Live, Leads, no, onward, arrives, breaks}
@@ -17,13 +17,13 @@ use Rattle.model.proofs.WholeSend.{choice-leads}
 use Rattle.model.proofs.ProgressMove.{toilOf, choice-falls}
 use Rattle.model.proofs.ProgressTick.{none-late, tick-allowed, tick-is}
 
-module _ {t : Read} {S : List Visit} (G : Given t S) where
+module _ {t : Read} {H : ℕ} {S : List Visit} (G : Given t H S) where
   -- a choice of a node that is allowed
   record Able (s : Run) : Type 0 where
     pub node : ℕ
     pub there : node < size (t .table)
     pub next : Run
-    pub is : choose1 (settingOf t S) s node ≡ on next
+    pub is : choose1 (settingTo t H S) s node ≡ on next
     pub live : Live G next
     pub tick : next .tick ≡ s .tick
 
@@ -33,17 +33,17 @@ module _ {t : Read} {S : List Visit} (G : Given t S) where
     pub before : Run
     pub live : Live G before
     pub tied : Tied G (ticked before)
-    pub tick : suc (before .tick) ≡ t .horizon
-    pub is : runFrom (settingOf t S) choices s ≡ ends (ticked before) 0 255
+    pub tick : suc (before .tick) ≡ H
+    pub is : runFrom (settingTo t H S) choices s ≡ ends (ticked before) 0 255
 
   -- one node: it can be chosen or not
-  can : {s : Run} → Live G s → (c : ℕ) → c < size (t .table) → Able s ⊎ (choose1 (settingOf t S) s c ≡ forbidden)
-  can {s} k c h = go (choose1 (settingOf t S) s c) refl (choice-leads G k c)
+  can : {s : Run} → Live G s → (c : ℕ) → c < size (t .table) → Able s ⊎ (choose1 (settingTo t H S) s c ≡ forbidden)
+  can {s} k c h = go (choose1 (settingTo t H S) s c) refl (choice-leads G k c)
     where
       no-tick : c ≡ 255 → ⊥
       no-tick e = omega (arith, G .limits .mostComponents)
 
-      go : (o : Outcome) → choose1 (settingOf t S) s c ≡ o → Leads G s c o → Able s ⊎ (choose1 (settingOf t S) s c ≡ forbidden)
+      go : (o : Outcome) → choose1 (settingTo t H S) s c ≡ o → Leads G s c o → Able s ⊎ (choose1 (settingTo t H S) s c ≡ forbidden)
       go forbidden e no = inr e
       go (on u) e (onward w l f i) =
           inl
@@ -59,29 +59,29 @@ module _ {t : Read} {S : List Visit} (G : Given t S) where
       go (over u x y) e (breaks d f p) = absurd (no-tick f)
 
   -- the nodes of low numbers: one can be chosen, or none
-  look : {s : Run} → Live G s → (n : ℕ) → n ≤ size (t .table) → Able s ⊎ ((c : ℕ) → c < n → choose1 (settingOf t S) s c ≡ forbidden)
+  look : {s : Run} → Live G s → (n : ℕ) → n ≤ size (t .table) → Able s ⊎ ((c : ℕ) → c < n → choose1 (settingTo t H S) s c ≡ forbidden)
   look k zero h = inr (λ c i. absurd (omega arith))
   look {s} k (suc n) h = go (can k n (omega arith)) (look k n (omega arith))
     where
-      go : Able s ⊎ (choose1 (settingOf t S) s n ≡ forbidden) → Able s ⊎ ((c : ℕ) → c < n → choose1 (settingOf t S) s c ≡ forbidden)
-          → Able s ⊎ ((c : ℕ) → c < suc n → choose1 (settingOf t S) s c ≡ forbidden)
+      go : Able s ⊎ (choose1 (settingTo t H S) s n ≡ forbidden) → Able s ⊎ ((c : ℕ) → c < n → choose1 (settingTo t H S) s c ≡ forbidden)
+          → Able s ⊎ ((c : ℕ) → c < suc n → choose1 (settingTo t H S) s c ≡ forbidden)
       go (inl a) b = inl a
       go (inr a) (inl b) = inl b
       go (inr a) (inr b) = inr each
         where
-          each : (c : ℕ) → c < suc n → choose1 (settingOf t S) s c ≡ forbidden
+          each : (c : ℕ) → c < suc n → choose1 (settingTo t H S) s c ≡ forbidden
           each c i = by (eqb c n) refl
             where
-              by : (x : Bool) → eqb c n ≡ x → choose1 (settingOf t S) s c ≡ forbidden
-              by true q = subst (λ (j : ℕ). choose1 (settingOf t S) s j ≡ forbidden) (sym (eqb-true c n q)) a
+              by : (x : Bool) → eqb c n ≡ x → choose1 (settingTo t H S) s c ≡ forbidden
+              by true q = subst (λ (j : ℕ). choose1 (settingTo t H S) s j ≡ forbidden) (sym (eqb-true c n q)) a
               by false q = b c (omega (arith, eqb-false c n q))
 
   -- what is left until the horizon
   abbrev pub left : Run → ℕ
-  left s = (t .horizon - s .tick) + toilOf t S s
+  left s = (H - s .tick) + toilOf t S s
 
   -- one choice more
-  further : {s u : Run} (b : ℕ) → choose1 (settingOf t S) s b ≡ on u → Arrival u → Arrival s
+  further : {s u : Run} (b : ℕ) → choose1 (settingTo t H S) s b ≡ on u → Arrival u → Arrival s
   unfolding runFrom
   further {s} {u} b e a =
       record {
@@ -90,11 +90,11 @@ module _ {t : Read} {S : List Visit} (G : Given t S) where
         live = a .live;
         tied = a .tied;
         tick = a .tick;
-        is = ap (λ (o : Outcome). continue s o (λ v. runFrom (settingOf t S) (a .choices) v)) e ∙ a .is;
+        is = ap (λ (o : Outcome). continue s o (λ v. runFrom (settingTo t H S) (a .choices) v)) e ∙ a .is;
       }
 
   -- the last tick
-  finally : {s : Run} → Live G s → choose1 (settingOf t S) s 255 ≡ over (ticked s) 0 255 → Tied G (ticked s) → suc (s .tick) ≡ t .horizon → Arrival s
+  finally : {s : Run} → Live G s → choose1 (settingTo t H S) s 255 ≡ over (ticked s) 0 255 → Tied G (ticked s) → suc (s .tick) ≡ H → Arrival s
   unfolding runFrom
   finally {s} k e p i =
       record {
@@ -103,7 +103,7 @@ module _ {t : Read} {S : List Visit} (G : Given t S) where
         live = k;
         tied = p;
         tick = i;
-        is = ap (λ (o : Outcome). continue s o (λ v. runFrom (settingOf t S) [] v)) e;
+        is = ap (λ (o : Outcome). continue s o (λ v. runFrom (settingTo t H S) [] v)) e;
       }
 
   -- Every node that can be chosen is, and where none can a tick is; so much is left at most.
@@ -111,18 +111,18 @@ module _ {t : Read} {S : List Visit} (G : Given t S) where
   arrive zero k l = absurd (omega (arith, k .below))
   arrive (suc n) {s} k l = go (look k (size (t .table)) (omega arith)) (λ u m i. arrive n m i)
     where
-      go : Able s ⊎ ((c : ℕ) → c < size (t .table) → choose1 (settingOf t S) s c ≡ forbidden) → ((u : Run) → Live G u → left u ≤ n → Arrival u) → Arrival s
+      go : Able s ⊎ ((c : ℕ) → c < size (t .table) → choose1 (settingTo t H S) s c ≡ forbidden) → ((u : Run) → Live G u → left u ≤ n → Arrival u) → Arrival s
       go (inl a) ih =
           further (a .node) (a .is)
           (ih (a .next) (a .live) (let f = choice-falls G (k .tied) (a .node) (a .there) (a .next) (a .is) in omega (arith, a .tick)))
-      go (inr still) ih = tick (choose1 (settingOf t S) s 255) refl (choice-leads G k 255)
+      go (inr still) ih = tick (choose1 (settingTo t H S) s 255) refl (choice-leads G k 255)
         where
-          tick : (o : Outcome) → choose1 (settingOf t S) s 255 ≡ o → Leads G s 255 o → Arrival s
+          tick : (o : Outcome) → choose1 (settingTo t H S) s 255 ≡ o → Leads G s 255 o → Arrival s
           tick forbidden e no = absurd (tick-allowed G k still e)
           tick (on u) e (onward w m f i) =
               further 255 e
               (ih w m
-              (let q = tick-is t S s w e in
+              (let q = tick-is t H S s w e in
               subst (λ (x : Run). left x ≤ n) (sym q) (let b = k .below in omega arith)))
           tick (over u x y) e (arrives f p i) = finally k e p i
           tick (over u x y) e (breaks d f p) = clash (sym (none-late G k still d (p .there)) ∙ p .late)
@@ -134,13 +134,13 @@ module _ {t : Read} {S : List Visit} (G : Given t S) where
     pub is : arrival .choices ≡ cs ++ more
 
   -- where choices are used up there are more
-  pub arrive-after : (cs : List ℕ) {s : Run} → Live G s → runFrom (settingOf t S) cs s .end ≡ 1 → Longer s cs
+  pub arrive-after : (cs : List ℕ) {s : Run} → Live G s → runFrom (settingTo t H S) cs s .end ≡ 1 → Longer s cs
   unfolding runFrom further
   arrive-after [] {s} k e = let a = arrive (left s) k (omega arith) in record { more = a .choices; arrival = a; is = refl }
-  arrive-after (b ∷ bs) {s} k e = go (choose1 (settingOf t S) s b) refl (choice-leads G k b) e (λ u l f. arrive-after bs l f)
+  arrive-after (b ∷ bs) {s} k e = go (choose1 (settingTo t H S) s b) refl (choice-leads G k b) e (λ u l f. arrive-after bs l f)
     where
-      go : (o : Outcome) → choose1 (settingOf t S) s b ≡ o → Leads G s b o → continue s o (λ v. runFrom (settingOf t S) bs v) .end ≡ 1
-          → ((u : Run) → Live G u → runFrom (settingOf t S) bs u .end ≡ 1 → Longer u bs) → Longer s (b ∷ bs)
+      go : (o : Outcome) → choose1 (settingTo t H S) s b ≡ o → Leads G s b o → continue s o (λ v. runFrom (settingTo t H S) bs v) .end ≡ 1
+          → ((u : Run) → Live G u → runFrom (settingTo t H S) bs u .end ≡ 1 → Longer u bs) → Longer s (b ∷ bs)
       go forbidden q no f ih = absurd (omega arith)
       go (on u) q (onward w l h i) f ih =
           let a = ih w l f in

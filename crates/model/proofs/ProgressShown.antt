@@ -14,7 +14,7 @@ use Rattle.model.specs.Table.{Read, size, componentOf}
 use Rattle.model.specs.Limits.{InLimits}
 use Rattle.model.specs.Schedule.{Visit, own}
 use Rattle.model.specs.Checks.{planOf}
-use Rattle.model.specs.Run.{settingOf, Run, Result, nodeOf, ticked, run, startRun}
+use Rattle.model.specs.Run.{settingTo, Run, Result, nodeOf, ticked, run, startRun}
 use Rattle.model.specs.Demand3.{observationsOf}
 use Rattle.model.specs.Progress.{readyPassages, dueOf, ReachesBy, Reaches, Continues, Happens}
 use Rattle.model.proofs.Words.{all-join}
@@ -51,60 +51,60 @@ only-front p xs ys zs e a h =
 
 -- ## The observations at the horizon
 
-module _ {t : Read} {S : List Visit} (G : Given t S) {s : Run} (k : Live G s) (p : Tied G (ticked s)) (e : suc (s .tick) ≡ t .horizon) (c : ℕ) (h : c < size (t .table)) where
+module _ {t : Read} {H : ℕ} {S : List Visit} (G : Given t H S) {s : Run} (k : Live G s) (p : Tied G (ticked s)) (e : suc (s .tick) ≡ H) (c : ℕ) (h : c < size (t .table)) where
   -- the node's tie before the last tick
-  abbrev K : Tie (t .table) (t .horizon) S c (s .tick) (nodeOf s c) (shownBy c (s .observations)) (k .tied .ahead c)
+  abbrev K : Tie (t .table) H S c (s .tick) (nodeOf s c) (shownBy c (s .observations)) (k .tied .ahead c)
   K = k .tied .ties c h
 
   -- the passages whose work is finished were ready before the horizon
-  fin-ready : All (λ v. ltb (v .ready) (t .horizon) ≡ true) (K .fin)
+  fin-ready : All (λ v. ltb (v .ready) H ≡ true) (K .fin)
   fin-ready =
-      let r = ahead-rest (t .table) (t .horizon) S (k .tied .going .passing) c h in
+      let r = ahead-rest (t .table) H S (k .tied .going .passing) c h in
       let same : r .0 ≡ K .fin = append-cancel-right (r .0) (K .fin) (k .tied .ahead c) (r .1 ∙ sym (K .whole)) in
-      subst (All (λ v. ltb (v .ready) (t .horizon) ≡ true)) same (all-then (λ v i. lt-ltb (v .ready) (t .horizon) (omega arith)) (r .2))
+      subst (All (λ v. ltb (v .ready) H ≡ true)) same (all-then (λ v i. lt-ltb (v .ready) H (omega arith)) (r .2))
 
   -- those that were observed: the first of the schedule, all ready before the horizon
-  front : (rest : List Visit) × ((K .fin ++ K .more) ++ rest ≡ own c S) × All (λ v. ltb (v .ready) (t .horizon) ≡ true) (K .fin ++ K .more)
+  front : (rest : List Visit) × ((K .fin ++ K .more) ++ rest ≡ own c S) × All (λ v. ltb (v .ready) H ≡ true) (K .fin ++ K .more)
   front = go (K .held)
     where
       Front : List Visit → Type 0
-      Front m = (rest : List Visit) × ((K .fin ++ m) ++ rest ≡ own c S) × All (λ v. ltb (v .ready) (t .horizon) ≡ true) (K .fin ++ m)
+      Front m = (rest : List Visit) × ((K .fin ++ m) ++ rest ≡ own c S) × All (λ v. ltb (v .ready) H ≡ true) (K .fin ++ m)
 
       none : K .more ≡ [] → Front (K .more)
       none m =
           subst Front (sym m)
           (k .tied .ahead c, ap (λ (l : List Visit). l ++ k .tied .ahead c) (append-nil (K .fin)) ∙ K .whole, all-join fin-ready empty)
 
-      go : Held (t .horizon) (componentOf (t .table) c) (s .tick) (K .count) (nodeOf s c) (k .tied .ahead c) (K .more) → Front (K .more)
+      go : Held H (componentOf (t .table) c) (s .tick) (K .count) (nodeOf s c) (k .tied .ahead c) (K .more) → Front (K .more)
       go (coming v vs a m l q) = none m
       go (waiting v vs a m l j q) = none m
       go (busy v vs a m l b j q) =
           subst Front (sym m)
-          (vs, append-snoc (K .fin) v vs ∙ (ap (λ (l : List Visit). K .fin ++ l) (sym a) ∙ K .whole), all-join fin-ready (more (lt-ltb (v .ready) (t .horizon) b) empty))
+          (vs, append-snoc (K .fin) v vs ∙ (ap (λ (l : List Visit). K .fin ++ l) (sym a) ∙ K .whole), all-join fin-ready (more (lt-ltb (v .ready) H b) empty))
       go (leaving at a m l q) = none m
       go (resting at a m l j q) = none m
 
   -- the observations are those of all passages with ready < H
-  due-shown : shownBy c (s .observations) ≡ dueOf t S c (t .horizon)
+  due-shown : shownBy c (s .observations) ≡ dueOf t S c H
   due-shown = K .shown ∙ ap (map (seen (componentOf (t .table) c) c)) (sym all)
     where
-      few : length (readyPassages S c (t .horizon)) ≤ length (K .fin ++ K .more)
+      few : length (readyPassages S c H) ≤ length (K .fin ++ K .more)
       few =
           let n = subst (λ (now : ℕ). length (readyPassages S c now) ≤ length (shownBy c (s .observations)) + 0) e (none-missing G (p .going) c h (p .ties c h)) in
           omega (arith, ap length (K .shown), length-map (K .fin ++ K .more) (seen (componentOf (t .table) c) c))
 
-      all : readyPassages S c (t .horizon) ≡ K .fin ++ K .more
-      all = let f = front in only-front (λ v. ltb (v .ready) (t .horizon)) (K .fin ++ K .more) (f .0) (own c S) (f .1) (f .2) few
+      all : readyPassages S c H ≡ K .fin ++ K .more
+      all = let f = front in only-front (λ v. ltb (v .ready) H) (K .fin ++ K .more) (f .0) (own c S) (f .1) (f .2) few
 
 -- ## The law
 
-module _ {t : Read} {S : List Visit} (G : Given t S) where
+module _ {t : Read} {H : ℕ} {S : List Visit} (G : Given t H S) where
   -- the start lies before the horizon
-  start-live : Live G (startRun (settingOf t S))
-  start-live = record { tied = tied-start G; below = omega (arith, G .limits .leastHorizon) }
+  start-live : Live G (startRun (settingTo t H S))
+  start-live = record { tied = tied-start G; below = omega (arith, G .least) }
 
   -- an arrival from the start
-  reaches-by : (A : Arrival G (startRun (settingOf t S))) → ReachesBy t S (A .choices)
+  reaches-by : (A : Arrival G (startRun (settingTo t H S))) → ReachesBy t H S (A .choices)
   unfolding run
   reaches-by A =
       record {
@@ -114,20 +114,20 @@ module _ {t : Read} {S : List Visit} (G : Given t S) where
       }
 
   -- some choices reach the horizon
-  reach : Reaches t S
-  reach = let a = arrive G (left G (startRun (settingOf t S))) start-live (omega arith) in (a .choices, reaches-by a)
+  reach : Reaches t H S
+  reach = let a = arrive G (left G (startRun (settingTo t H S))) start-live (omega arith) in (a .choices, reaches-by a)
 
   -- and so do some more of any that are used up
-  go-on : Continues t S
+  go-on : Continues t H S
   unfolding run
-  go-on cs e = let a = arrive-after G cs start-live e in (a .more, subst (ReachesBy t S) (a .is) (reaches-by (a .arrival)))
+  go-on cs e = let a = arrive-after G cs start-live e in (a .more, subst (ReachesBy t H S) (a .is) (reaches-by (a .arrival)))
 
 -- every accepted table reaches its horizon
-pub reaches : (t : Read) (S : List Visit) → InLimits t → planOf t ≡ accepted S → Reaches t S
+pub reaches : (t : Read) (S : List Visit) → InLimits t → planOf t ≡ accepted S → Reaches t (t .horizon) S
 reaches t S l a = reach (given t S l a)
 
 -- and no run of it gets stuck
-pub continues : (t : Read) (S : List Visit) → InLimits t → planOf t ≡ accepted S → Continues t S
+pub continues : (t : Read) (S : List Visit) → InLimits t → planOf t ≡ accepted S → Continues t (t .horizon) S
 continues t S l a = go-on (given t S l a)
 
 -- both, for every list of numbers that is read as a table and accepted

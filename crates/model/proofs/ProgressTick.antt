@@ -9,7 +9,7 @@ use lib.Dec.{eqb}
 use Rattle.model.specs.Table.{Read, size}
 use Rattle.model.specs.Schedule.{Visit, own}
 use Rattle.model.specs.Machine.{Node}
-use Rattle.model.specs.Run.{settingOf, Run, nodeOf, Stand, sleeping, sending, listening, finishing, adding, working, taking, elsewhere, nowhere, standOf, forbidden, on, over, ticked, someDue, lateNodes, afterTick, choose1}
+use Rattle.model.specs.Run.{settingTo, Run, nodeOf, Stand, sleeping, sending, listening, finishing, adding, working, taking, elsewhere, nowhere, standOf, forbidden, on, over, ticked, someDue, lateNodes, afterTick, choose1}
 use Rattle.model.specs.Demand3.{endBefore, lateIn, endIs, DueIn, NotDueIn, isLate}
 use Rattle.model.proofs.WholeTied.{Given}
 use Rattle.model.proofs.WholeNode.{never-ready}
@@ -51,7 +51,7 @@ late-never vs now r nowhere n l = absurd n
 
 -- ## All nodes
 
-module _ {t : Read} {S : List Visit} (G : Given t S) {s : Run} (k : Live G s) (still : (c : ℕ) → c < size (t .table) → choose1 (settingOf t S) s c ≡ forbidden) where
+module _ {t : Read} {H : ℕ} {S : List Visit} (G : Given t H S) {s : Run} (k : Live G s) (still : (c : ℕ) → c < size (t .table) → choose1 (settingTo t H S) s c ≡ forbidden) where
   -- no node is due
   not-due : (c : ℕ) → c < size (t .table) → NotDueIn (own c S) (s .tick) (nodeOf s c) (standOf (nodeOf s c))
   not-due c h = go (why-not G k c (still c h))
@@ -66,7 +66,7 @@ module _ {t : Read} {S : List Visit} (G : Given t S) {s : Run} (k : Live G s) (s
   none-late c h = late-never (own c S) (s .tick) (nodeOf s c) (standOf (nodeOf s c)) (not-due c h) (nobody-late G (k .tied) c h)
 
   -- so a tick is allowed
-  pub tick-allowed : choose1 (settingOf t S) s 255 ≡ forbidden → ⊥
+  pub tick-allowed : choose1 (settingTo t H S) s 255 ≡ forbidden → ⊥
   tick-allowed e = go (why-not G k 255 e)
     where
       go : WhyNot G k 255 → ⊥
@@ -75,15 +75,15 @@ module _ {t : Read} {S : List Visit} (G : Given t S) {s : Run} (k : Live G s) (s
       go (tickDue i d j n) = due-clash (own d S) (s .tick) (nodeOf s d) (standOf (nodeOf s d)) n (not-due d j)
 
 -- a tick changes no node
-pub tick-is : (t : Read) (S : List Visit) (s u : Run) → choose1 (settingOf t S) s 255 ≡ on u → u ≡ ticked s
+pub tick-is : (t : Read) (H : ℕ) (S : List Visit) (s u : Run) → choose1 (settingTo t H S) s 255 ≡ on u → u ≡ ticked s
 unfolding choose1
-tick-is t S s u e = go (someDue (settingOf t S) (s .tick) 0 (s .nodes)) (lateNodes (settingOf t S) (suc (s .tick)) 0 (s .nodes)) e
+tick-is t H S s u e = go (someDue (settingTo t H S) (s .tick) 0 (s .nodes)) (lateNodes (settingTo t H S) (suc (s .tick)) 0 (s .nodes)) e
   where
     last : (x : Bool) → cond x (over (ticked s) 0 255) (on (ticked s)) ≡ on u → u ≡ ticked s
     last true f = let z : _≡_ {A = ℕ} 0 1 = cc in absurd (omega arith)
     last false f = cc
 
-    go : (x : Bool) (l : List ℕ) → cond x forbidden (afterTick (settingOf t S) (ticked s) l) ≡ on u → u ≡ ticked s
+    go : (x : Bool) (l : List ℕ) → cond x forbidden (afterTick (settingTo t H S) (ticked s) l) ≡ on u → u ≡ ticked s
     go true l f = let z : _≡_ {A = ℕ} 0 1 = cc in absurd (omega arith)
     go false (d ∷ ds) f = let z : _≡_ {A = ℕ} 0 1 = cc in absurd (omega arith)
-    go false [] f = last (eqb (suc (s .tick)) (t .horizon)) f
+    go false [] f = last (eqb (suc (s .tick)) H) f

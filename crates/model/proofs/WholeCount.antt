@@ -12,7 +12,7 @@ use Rattle.model.specs.Table.{Component, Read, size, componentOf}
 use Rattle.model.specs.Schedule.{Visit, own}
 use Rattle.model.specs.Network.{Work, Observation}
 use Rattle.model.specs.Machine.{Node}
-use Rattle.model.specs.Run.{settingOf, standOf, due}
+use Rattle.model.specs.Run.{settingTo, standOf, due}
 use Rattle.model.specs.Demand3.{Begins, lateIn}
 use Rattle.model.proofs.Members.{only-append, only-none}
 use Rattle.model.proofs.NodeFacts.{heading-late-in, working-late-in}
@@ -77,8 +77,8 @@ two-most {H} {C} τ {v} {vs} k h = go vs k
 
 -- ## One node
 
-module _ {t : Read} {S : List Visit} (G : Given t S) {τ : ℕ} {A : ℕ → List Visit} {ws : List Work} (g : Along G τ A ws) (c : ℕ) (h : c < size (t .table)) {r : Node}
-    {os : List Observation} (k : Tie (t .table) (t .horizon) S c τ r os (A c)) where
+module _ {t : Read} {H : ℕ} {S : List Visit} (G : Given t H S) {τ : ℕ} {A : ℕ → List Visit} {ws : List Work} (g : Along G τ A ws) (c : ℕ) (h : c < size (t .table)) {r : Node}
+    {os : List Observation} (k : Tie (t .table) H S c τ r os (A c)) where
   -- as many observations as passages whose sleep is finished
   shown-count : length os ≡ length (k .fin) + length (k .more)
   shown-count = ap length (k .shown) ∙ (length-map (k .fin ++ k .more) (seen (componentOf (t .table) c) c) ∙ length-append (k .fin) (k .more))
@@ -96,8 +96,8 @@ module _ {t : Read} {S : List Visit} (G : Given t S) {τ : ℕ} {A : ℕ → Lis
       )
 
   -- what is ahead is linked
-  links : (v : Visit) (vs : List Visit) → A c ≡ v ∷ vs → Links (t .horizon) (componentOf (t .table) c) v vs
-  links v vs e = ahead-linked (t .table) (t .horizon) S (g .passing) c h v vs e
+  links : (v : Visit) (vs : List Visit) → A c ≡ v ∷ vs → Links H (componentOf (t .table) c) v vs
+  links v vs e = ahead-linked (t .table) H S (g .passing) c h v vs e
 
   -- no observation that is due is missing
   pub none-missing : length (readied τ (own c S)) ≤ length os + 0
@@ -106,15 +106,15 @@ module _ {t : Read} {S : List Visit} (G : Given t S) {τ : ℕ} {A : ℕ → Lis
       put : (x y : List Visit) → A c ≡ x → k .more ≡ y → length (readied τ x) ≤ length y → length (readied τ (A c)) ≤ length (k .more) + 0
       put x y e m l = omega (arith, ap (λ (z : List Visit). length (readied τ z)) e, ap length m)
 
-      go : Held (t .horizon) (componentOf (t .table) c) τ (k .count) r (A c) (k .more) → length (readied τ (A c)) ≤ length (k .more) + 0
+      go : Held H (componentOf (t .table) c) τ (k .count) r (A c) (k .more) → length (readied τ (A c)) ≤ length (k .more) + 0
       go (coming v vs e m l p) = put (v ∷ vs) [] e m (none-yet τ (links v vs e) l)
       go (waiting v vs e m l j p) = put (v ∷ vs) [] e m (none-yet τ (links v vs e) l)
-      go (busy v vs e m l b j p) = put (v ∷ vs) (v ∷ []) e m (one-most τ (links v vs e) (ahead-before (t .table) (t .horizon) S (g .passing) c h v vs e))
+      go (busy v vs e m l b j p) = put (v ∷ vs) (v ∷ []) e m (one-most τ (links v vs e) (ahead-before (t .table) H S (g .passing) c h v vs e))
       go (leaving at e m l p) = put [] [] e m (omega arith)
       go (resting at e m l j p) = put [] [] e m (omega arith)
 
   -- nor after a tick at which nothing was due, but one of a node that is late then
-  pub none-missing-then : due (settingOf t S) τ r (standOf r) ≡ false → length (readied (suc τ) (own c S)) ≤ length os + cond (lateIn (own c S) (suc τ) r (standOf r)) 1 0
+  pub none-missing-then : due (settingTo t H S) τ r (standOf r) ≡ false → length (readied (suc τ) (own c S)) ≤ length os + cond (lateIn (own c S) (suc τ) r (standOf r)) 1 0
   none-missing-then d = by-ahead (suc τ) (cond (lateIn (own c S) (suc τ) r (standOf r)) 1 0) (go (k .held))
     where
       put : (x y : List Visit) (n : ℕ) → A c ≡ x → k .more ≡ y → length (readied (suc τ) x) ≤ length y + n → length (readied (suc τ) (A c)) ≤ length (k .more) + n
@@ -126,7 +126,7 @@ module _ {t : Read} {S : List Visit} (G : Given t S) {τ : ℕ} {A : ℕ → Lis
       split x e l = subst (λ (y : Bool). length (readied (suc τ) (A c)) ≤ length (k .more) + cond y 1 0) (sym e) l
 
       before : (v : Visit) (vs : List Visit) → A c ≡ v ∷ vs → τ ≤ v .end
-      before v vs e = ahead-before (t .table) (t .horizon) S (g .passing) c h v vs e
+      before v vs e = ahead-before (t .table) H S (g .passing) c h v vs e
 
       comes : (v : Visit) (vs : List Visit) (e : A c ≡ v ∷ vs) → τ ≤ v .ready → (x : Bool) → ltb (v .ready) (suc τ) ≡ x → length (readied (suc τ) (v ∷ vs)) ≤ 0 + cond x 1 0
       comes v vs e l true q = omega (arith, one-most (suc τ) (links v vs e) (omega (arith, first-fits (links v vs e) .window)))
@@ -136,14 +136,14 @@ module _ {t : Read} {S : List Visit} (G : Given t S) {τ : ℕ} {A : ℕ → Lis
       works v vs e true q = omega (arith, two-most τ (links v vs e) (before v vs e))
       works v vs e false q = omega (arith, one-most (suc τ) (links v vs e) (ltb-false (v .end) (suc τ) q))
 
-      go : Held (t .horizon) (componentOf (t .table) c) τ (k .count) r (A c) (k .more)
+      go : Held H (componentOf (t .table) c) τ (k .count) r (A c) (k .more)
           → length (readied (suc τ) (A c)) ≤ length (k .more) + cond (lateIn (own c S) (suc τ) r (standOf r)) 1 0
       go (coming v vs e m l p) =
           split (ltb (v .ready) (suc τ)) (heading-late-in (own c S) (suc τ) p ∙ ready-before-nth (nth-ahead G g c h k v vs e) (suc τ))
           (put (v ∷ vs) [] (cond (ltb (v .ready) (suc τ)) 1 0) e m (comes v vs e l (ltb (v .ready) (suc τ)) refl))
       go (waiting v vs e m l j p) =
           let o = opened-first G g c h v vs e in
-          let x = eqb-false τ (r .t) (sym (asleep-due (settingOf t S) τ p ∙ ap (eqb τ) (sym (p .t))) ∙ d) in
+          let x = eqb-false τ (r .t) (sym (asleep-due (settingTo t H S) τ p ∙ ap (eqb τ) (sym (p .t))) ∙ d) in
           let y : length (readied (suc τ) (v ∷ vs)) ≤ 0 = none-yet (suc τ) (links v vs e) (omega (arith, asleep-passage o p .ready, x)) in
           put (v ∷ vs) [] (cond (lateIn (own c S) (suc τ) r (standOf r)) 1 0) e m (omega arith)
       go (busy v vs e m l b j p) =
@@ -162,7 +162,7 @@ module _ {t : Read} {S : List Visit} (G : Given t S) {τ : ℕ} {A : ℕ → Lis
       alone : k .more ≡ [] → Goal (k .fin ++ k .more)
       alone m = subst Goal (sym (ap (λ (l : List Visit). k .fin ++ l) m ∙ append-nil (k .fin))) (w .showsFinished c h (k .fin) (k .whole))
 
-      go : Held (t .horizon) (componentOf (t .table) c) τ (k .count) r (A c) (k .more) → Goal (k .fin ++ k .more)
+      go : Held H (componentOf (t .table) c) τ (k .count) r (A c) (k .more) → Goal (k .fin ++ k .more)
       go (coming v vs e m l p) = alone m
       go (waiting v vs e m l j p) = alone m
       go (busy v vs e m l b j p) =

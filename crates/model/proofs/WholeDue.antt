@@ -13,7 +13,7 @@ use Rattle.model.specs.Table.{Component, Read, size, componentOf, arcOf}
 use Rattle.model.specs.Window.{Entry, Pick, listens}
 use Rattle.model.specs.Schedule.{Visit, own}
 use Rattle.model.specs.Machine.{Node}
-use Rattle.model.specs.Run.{settingOf, Run, nodeOf, Stand, sleeping, sending, listening, finishing, adding, working, taking, elsewhere, nowhere, standOf, listeners, forbidden, on, over, ticked, finishes, due, someDue, lateNodes, afterTick, choose1}
+use Rattle.model.specs.Run.{settingTo, Run, nodeOf, Stand, sleeping, sending, listening, finishing, adding, working, taking, elsewhere, nowhere, standOf, listeners, forbidden, on, over, ticked, finishes, due, someDue, lateNodes, afterTick, choose1}
 use Rattle.model.specs.Demand3.{DueIn, NotDueIn}
 use Rattle.model.proofs.Bools.{clash}
 use Rattle.model.proofs.NodeChoosing.{Asleep, asleep-sleeping}
@@ -48,7 +48,7 @@ heading-idle {r = r} p w = way-no-work (standOf r) (heading-stand p) (working-st
 asleep-idle : {C : Component} {i : ℕ} {at at′ : Entry} {j k : Pick} {r : Node} → Asleep C i at k r → Working C i at′ j r → ⊥
 asleep-idle p w = clash (sym (ap isWork (asleep-sleeping p)) ∙ working-stand w)
 
-module _ {t : Read} {S : List Visit} (G : Given t S) {s : Run} (k : Live G s) where
+module _ {t : Read} {H : ℕ} {S : List Visit} (G : Given t H S) {s : Run} (k : Live G s) where
   module _ (c : ℕ) (h : c < size (t .table)) where
     -- its component
     abbrev C : Component
@@ -59,11 +59,11 @@ module _ {t : Read} {S : List Visit} (G : Given t S) {s : Run} (k : Live G s) wh
     r = nodeOf s c
 
     -- its tie
-    abbrev K : Tie (t .table) (t .horizon) S c (s .tick) r (shownBy c (s .observations)) (k .tied .ahead c)
+    abbrev K : Tie (t .table) H S c (s .tick) r (shownBy c (s .observations)) (k .tied .ahead c)
     K = k .tied .ties c h
 
     -- due by the run is due by the schedule
-    due-in : due (settingOf t S) (s .tick) r (standOf r) ≡ true → DueIn (own c S) (s .tick) r (standOf r)
+    due-in : due (settingTo t H S) (s .tick) r (standOf r) ≡ true → DueIn (own c S) (s .tick) r (standOf r)
     due-in d = go (K .held)
       where
         listen : (v : Visit) (vs : List Visit) → k .tied .ahead c ≡ v ∷ vs → (j : Pick) → Working C (K .count) (v .entry) j r → (x : Bool) → listens (arcOf C (j .edge)) ≡ x
@@ -74,22 +74,22 @@ module _ {t : Read} {S : List Visit} (G : Given t S) {s : Run} (k : Live G s) wh
             (ap (eqb (s .tick)) (working-end p) ∙ f)
         listen v vs e j p false l f = clash f
 
-        go : Held (t .horizon) C (s .tick) (K .count) r (k .tied .ahead c) (K .more) → DueIn (own c S) (s .tick) r (standOf r)
-        go (coming v vs e m l p) = clash (sym (heading-due (settingOf t S) (s .tick) p) ∙ d)
+        go : Held H C (s .tick) (K .count) r (k .tied .ahead c) (K .more) → DueIn (own c S) (s .tick) r (standOf r)
+        go (coming v vs e m l p) = clash (sym (heading-due (settingTo t H S) (s .tick) p) ∙ d)
         go (waiting v vs e m l j p) =
             asleep-due-in (own c S) (s .tick) (opened-first G (k .tied .going) c h v vs e) (nth-ahead G (k .tied .going) c h K v vs e) p
-            (ap (eqb (s .tick)) (p .t) ∙ (sym (asleep-due (settingOf t S) (s .tick) p) ∙ d))
-        go (busy v vs e m l b j p) = listen v vs e j p (listens (arcOf C (j .edge))) refl (sym (working-due (settingOf t S) (s .tick) p) ∙ d)
-        go (leaving at e m l p) = clash (sym (heading-due (settingOf t S) (s .tick) p) ∙ d)
+            (ap (eqb (s .tick)) (p .t) ∙ (sym (asleep-due (settingTo t H S) (s .tick) p) ∙ d))
+        go (busy v vs e m l b j p) = listen v vs e j p (listens (arcOf C (j .edge))) refl (sym (working-due (settingTo t H S) (s .tick) p) ∙ d)
+        go (leaving at e m l p) = clash (sym (heading-due (settingTo t H S) (s .tick) p) ∙ d)
         go (resting at e m l j p) =
-            absurd (omega (arith, k .below, eqb-true (s .tick) (at .tick + j .ready) (sym (asleep-due (settingOf t S) (s .tick) p) ∙ d)))
+            absurd (omega (arith, k .below, eqb-true (s .tick) (at .tick + j .ready) (sym (asleep-due (settingTo t H S) (s .tick) p) ∙ d)))
 
     -- not allowed by the run is not due by the schedule
-    not-due-in : finishes (settingOf t S) s c (standOf r) ≡ forbidden → NotDueIn (own c S) (s .tick) r (standOf r)
+    not-due-in : finishes (settingTo t H S) s c (standOf r) ≡ forbidden → NotDueIn (own c S) (s .tick) r (standOf r)
     not-due-in f = go (K .held)
       where
         why : (at : Entry) → Phase C (K .count) at r → NotAllowed C (K .count) at s c
-        why at p = not-allowed (settingOf t S) s c (coded G c h) (component-in G c h) p f
+        why at p = not-allowed (settingTo t H S) s c (coded G c h) (component-in G c h) p f
 
         -- in a passage
         within : (v : Visit) (vs : List Visit) → k .tied .ahead c ≡ v ∷ vs
@@ -120,7 +120,7 @@ module _ {t : Read} {S : List Visit} (G : Given t S) {s : Run} (k : Live G s) wh
             let z : _≡_ {A = ℕ} 0 1 = cc in
             omega arith
 
-        go : Held (t .horizon) C (s .tick) (K .count) r (k .tied .ahead c) (K .more) → NotDueIn (own c S) (s .tick) r (standOf r)
+        go : Held H C (s .tick) (K .count) r (k .tied .ahead c) (K .more) → NotDueIn (own c S) (s .tick) r (standOf r)
         go (coming v vs e m l p) = within v vs e (λ j a w act n. heading-idle p w) (why (v .entry) (isHeading p))
         go (waiting v vs e m l j p) = within v vs e (λ i a w act n. asleep-idle p w) (why (v .entry) (isAsleep j p))
         go (busy v vs e m l b j p) = within v vs e (listener v vs e l) (why (v .entry) (isWorking j p))
@@ -134,30 +134,30 @@ module _ {t : Read} {S : List Visit} (G : Given t S) {s : Run} (k : Live G s) wh
     tickDue : b ≡ 255 → (c : ℕ) → c < size (t .table) → DueIn (own c S) (s .tick) (nodeOf s c) (standOf (nodeOf s c)) → WhyNot b
 
   -- a tick is not allowed only where somebody is due
-  tick-due : (x : Bool) (l : List ℕ) → cond x forbidden (afterTick (settingOf t S) (ticked s) l) ≡ forbidden → x ≡ true
+  tick-due : (x : Bool) (l : List ℕ) → cond x forbidden (afterTick (settingTo t H S) (ticked s) l) ≡ forbidden → x ≡ true
   tick-due true l e = refl
   tick-due false (d ∷ ds) e = let z : _≡_ {A = ℕ} 0 1 = cc in absurd (omega arith)
-  tick-due false [] e = go (eqb (suc (s .tick)) (t .horizon)) e
+  tick-due false [] e = go (eqb (suc (s .tick)) H) e
     where
       go : (x : Bool) → cond x (over (ticked s) 0 255) (on (ticked s)) ≡ forbidden → false ≡ true
       go true f = let z : _≡_ {A = ℕ} 0 1 = cc in absurd (omega arith)
       go false f = let z : _≡_ {A = ℕ} 0 1 = cc in absurd (omega arith)
 
   -- the law
-  pub why-not : (b : ℕ) → choose1 (settingOf t S) s b ≡ forbidden → WhyNot b
+  pub why-not : (b : ℕ) → choose1 (settingTo t H S) s b ≡ forbidden → WhyNot b
   unfolding choose1
   why-not b e = go (eqb b 255) refl (ltb b (length (s .nodes))) refl e
     where
       l : List ℕ
-      l = lateNodes (settingOf t S) (suc (s .tick)) 0 (s .nodes)
+      l = lateNodes (settingTo t H S) (suc (s .tick)) 0 (s .nodes)
 
       x : Bool
-      x = someDue (settingOf t S) (s .tick) 0 (s .nodes)
+      x = someDue (settingTo t H S) (s .tick) 0 (s .nodes)
 
       go : (y : Bool) → eqb b 255 ≡ y → (z : Bool) → ltb b (length (s .nodes)) ≡ z
-          → cond y (cond x forbidden (afterTick (settingOf t S) (ticked s) l)) (cond z (finishes (settingOf t S) s b (standOf (nodeOf s b))) forbidden) ≡ forbidden → WhyNot b
+          → cond y (cond x forbidden (afterTick (settingTo t H S) (ticked s) l)) (cond z (finishes (settingTo t H S) s b (standOf (nodeOf s b))) forbidden) ≡ forbidden → WhyNot b
       go true p z q f =
-          let d = due-some (settingOf t S) (s .tick) 0 (s .nodes) (tick-due x l f) in
+          let d = due-some (settingTo t H S) (s .tick) 0 (s .nodes) (tick-due x l f) in
           let i : d .0 < size (t .table) = omega (arith, d .1, k .tied .full) in
           tickDue (eqb-true b 255 p) (d .0) i (due-in (d .0) i (d .2))
       go false p true q f = let i : b < size (t .table) = omega (arith, ltb-true b (length (s .nodes)) q, k .tied .full) in notDue i (not-due-in b i f)

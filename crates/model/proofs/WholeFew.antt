@@ -156,7 +156,7 @@ pass-few (p ∷ ps) (v ∷ vs) h = omega (arith, pass-few ps vs (h .2))
 -- ## All of them
 
 module _ (t : Read) (S : List Visit) (cs : List ℕ) where
-  node-few : Demand3 t S cs → (c : ℕ) → c < size (t .table) → length (observationsOf c (run (settingOf t S) cs)) ≤ length (own c S)
+  node-few : Demand3 t (t .horizon) S cs → (c : ℕ) → c < size (t .table) → length (observationsOf c (run (settingOf t S) cs)) ≤ length (own c S)
   node-few d c h =
       let ps = passagesOn (t .table) c (start (t .table)) (d .path) in
       omega (

@@ -14,7 +14,6 @@ use Rattle.model.specs.Lists.{any, only, from}
 use Rattle.model.specs.Table.{Component, Read, size, componentOf, arcOf}
 use Rattle.model.specs.Window.{Pick, sends, receives, channelOf, listens}
 use Rattle.model.specs.Schedule.{Visit, names}
-use Rattle.model.specs.Checks.{limit}
 use Rattle.model.specs.Network.{hearsOn}
 use Rattle.model.specs.Run.{Run, nodeOf, hears, listeners}
 use Rattle.model.proofs.Bools.{clash, and-is}
@@ -61,7 +60,7 @@ receives-only Receive e = refl
 
 -- ## The listener
 
-module _ {t : Read} {S : List Visit} (G : Given t S) {s : Run} (k : Live G s) (c : ℕ) (h : c < size (t .table)) (v : Visit) (vs : List Visit) (e : k .tied .ahead c ≡ v ∷ vs)
+module _ {t : Read} {H : ℕ} {S : List Visit} (G : Given t H S) {s : Run} (k : Live G s) (c : ℕ) (h : c < size (t .table)) (v : Visit) (vs : List Visit) (e : k .tied .ahead c ≡ v ∷ vs)
     (ready : v .ready ≤ s .tick) {i : ℕ} {j : Pick} (p : Working (componentOf (t .table) c) i (v .entry) j (nodeOf s c)) (a : ℕ)
     (action : actionOf (componentOf (t .table) c) j ≡ Send a) where
   -- the passage's edge sends on that channel
@@ -69,8 +68,8 @@ module _ {t : Read} {S : List Visit} (G : Given t S) {s : Run} (k : Live G s) (c
   sends-on = ap sends (ap (λ (n : ℕ). arcOf (componentOf (t .table) c) n .edge .action) (edge-same G (k .tied .going) c h v vs e (p .chosen)) ∙ action)
 
   -- the partner
-  pub partner : Partner limit (t .table) (t .horizon) S (G .sched) (G .checks) (s .tick) (k .tied .ahead) c v a
-  partner = going-partner limit (t .table) (t .horizon) S (G .sched) (G .checks) (k .tied .going) c h v vs e ready (k .below) a sends-on
+  pub partner : Partner (G .most) (t .table) H S (G .sched) (G .checks) (s .tick) (k .tied .ahead) c v a
+  partner = going-partner (G .most) (t .table) H S (G .sched) (G .checks) (k .tied .going) c h v vs e ready (k .below) a sends-on
 
   -- its number
   abbrev pub other : ℕ
@@ -103,7 +102,7 @@ module _ {t : Read} {S : List Visit} (G : Given t S) {s : Run} (k : Live G s) (c
       early : (x : Visit) (xs : List Visit) → k .tied .ahead other ≡ x ∷ xs → s .tick ≤ x .ready → ⊥
       early x xs f l = omega (arith, partner .earlier, ap (λ (y : Visit). y .ready) (same x xs f))
 
-      go : Held (t .horizon) D (s .tick) (k .tied .ties other (partner .there) .count) (nodeOf s other) (k .tied .ahead other) (k .tied .ties other (partner .there) .more) → Listens
+      go : Held H D (s .tick) (k .tied .ties other (partner .there) .count) (nodeOf s other) (k .tied .ahead other) (k .tied .ties other (partner .there) .more) → Listens
       go (coming x xs f m l q) = absurd (early x xs f l)
       go (waiting x xs f m l n q) = absurd (early x xs f l)
       go (busy x xs f m l b n q) =
@@ -152,7 +151,7 @@ module _ {t : Read} {S : List Visit} (G : Given t S) {s : Run} (k : Live G s) (c
       D : Component
       D = componentOf (t .table) d
 
-      go : Held (t .horizon) D (s .tick) (k .tied .ties d l .count) (nodeOf s d) (k .tied .ahead d) (k .tied .ties d l .more) → d ≡ other
+      go : Held H D (s .tick) (k .tied .ties d l .count) (nodeOf s d) (k .tied .ahead d) (k .tied .ties d l .more) → d ≡ other
       go (coming x xs f m b y) = clash (sym (heading-hears a (nodeOf s c) y) ∙ q)
       go (waiting x xs f m b z y) = clash (sym (asleep-hears a (nodeOf s c) y) ∙ q)
       go (busy x xs f m b u z y) =

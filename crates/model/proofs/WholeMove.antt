@@ -9,7 +9,7 @@ use borrow.Author.Tests.{eqb-true, eqb-false, ne-eqb}
 use lib.Dec.{eqb}
 use lib.ListN.{length, getD, set, length-append, length-set}
 use lib.Seq.{append-snoc, getD-set-same, getD-set-other}
-use Rattle.model.specs.Table.{Read, size, componentOf, arcOf}
+use Rattle.model.specs.Table.{Table, Read, size, componentOf, arcOf}
 use Rattle.model.specs.Window.{Entry, Pick, choice, leaves}
 use Rattle.model.specs.Schedule.{Visit}
 use Rattle.model.specs.Network.{Work, Observation}
@@ -26,15 +26,15 @@ use Rattle.model.proofs.WholeTick.{Live, Leads, onward}
 
 -- ## The frame
 
-module _ {t : Read} {S : List Visit} where
+module _ {T : Table} {H : ℕ} {S : List Visit} where
   -- the same tie, of equal things
   pub same-tie : {c τ : ℕ} {r r′ : Node} {os os′ : List Observation} {as′ bs : List Visit} → r ≡ r′ → os ≡ os′ → as′ ≡ bs
-      → Tie (t .table) (t .horizon) S c τ r os as′ → Tie (t .table) (t .horizon) S c τ r′ os′ bs
+      → Tie T H S c τ r os as′ → Tie T H S c τ r′ os′ bs
   same-tie {c} {τ} {r} {r′} {os} {os′} {as′} {bs} e f i k =
-      subst (λ (q : Node). Tie (t .table) (t .horizon) S c τ q os′ bs) e
-      (subst (λ (q : List Observation). Tie (t .table) (t .horizon) S c τ r q bs) f (subst (λ (q : List Visit). Tie (t .table) (t .horizon) S c τ r os q) i k))
+      subst (λ (q : Node). Tie T H S c τ q os′ bs) e
+      (subst (λ (q : List Observation). Tie T H S c τ r q bs) f (subst (λ (q : List Visit). Tie T H S c τ r os q) i k))
 
-module _ {t : Read} {S : List Visit} (G : Given t S) {s : Run} (k : Live G s) where
+module _ {t : Read} {H : ℕ} {S : List Visit} (G : Given t H S) {s : Run} (k : Live G s) where
   -- node c's number is not that of a tick
   no-tick : (c : ℕ) → c < size (t .table) → c ≡ 255 → ⊥
   no-tick c h e = omega (arith, G .limits .mostComponents)
@@ -47,7 +47,7 @@ module _ {t : Read} {S : List Visit} (G : Given t S) {s : Run} (k : Live G s) wh
   -- one node moved: the others are as before
   pub tied-moved : (c : ℕ) → c < size (t .table) → (r : Node) (os : List Observation) (ws : List Work) (B : ℕ → List Visit) → Along G (s .tick) B (s .works ++ ws)
       → ((d : ℕ) → d < size (t .table) → (d ≡ c → ⊥) → B d ≡ k .tied .ahead d) → ((d : ℕ) → (d ≡ c → ⊥) → shownBy d os ≡ [])
-      → Tie (t .table) (t .horizon) S c (s .tick) r (shownBy c (s .observations) ++ shownBy c os) (B c) → Tied G (moved s c r os ws)
+      → Tie (t .table) H S c (s .tick) r (shownBy c (s .observations) ++ shownBy c os) (B c) → Tied G (moved s c r os ws)
   tied-moved c h r os ws B g others none′ tie =
       record { ahead = B; going = g; full = length-set (s .nodes) c r ∙ k .tied .full; ties = λ d i. go d i (eqb d c) refl }
     where
@@ -55,26 +55,26 @@ module _ {t : Read} {S : List Visit} (G : Given t S) {s : Run} (k : Live G s) wh
       split d = only-append (λ (o : Observation). eqb (o .component) d) (s .observations) os
 
       go : (d : ℕ) → d < size (t .table) → (x : Bool) → eqb d c ≡ x
-          → Tie (t .table) (t .horizon) S d (s .tick) (getD (set (s .nodes) c r) d noNode) (shownBy d (s .observations ++ os)) (B d)
+          → Tie (t .table) H S d (s .tick) (getD (set (s .nodes) c r) d noNode) (shownBy d (s .observations ++ os)) (B d)
       go d i true q =
-          subst (λ (n : ℕ). Tie (t .table) (t .horizon) S n (s .tick) (getD (set (s .nodes) c r) n noNode) (shownBy n (s .observations ++ os)) (B n)) (sym (eqb-true d c q))
-          (same-tie {t = t} {S = S} (sym (getD-set-same (s .nodes) c r noNode (omega (arith, k .tied .full)))) (sym (split c)) refl tie)
+          subst (λ (n : ℕ). Tie (t .table) H S n (s .tick) (getD (set (s .nodes) c r) n noNode) (shownBy n (s .observations ++ os)) (B n)) (sym (eqb-true d c q))
+          (same-tie {T = t .table} {S = S} (sym (getD-set-same (s .nodes) c r noNode (omega (arith, k .tied .full)))) (sym (split c)) refl tie)
       go d i false q =
           let n = eqb-false d c q in
-          same-tie {t = t} {S = S} (sym (getD-set-other (s .nodes) c d r noNode n))
+          same-tie {T = t .table} {S = S} (sym (getD-set-other (s .nodes) c d r noNode n))
           (sym (split d ∙ (ap (λ (l : List Observation). shownBy d (s .observations) ++ l) (none′ d n) ∙ append-nil (shownBy d (s .observations)))))
           (sym (others d i n))
           (k .tied .ties d i)
 
   -- one node moved that finished no work and wrote nothing
-  pub tied-silent : (c : ℕ) → c < size (t .table) → (r : Node) → Tie (t .table) (t .horizon) S c (s .tick) r (shownBy c (s .observations)) (k .tied .ahead c) → Tied G (moved s c r [] [])
+  pub tied-silent : (c : ℕ) → c < size (t .table) → (r : Node) → Tie (t .table) H S c (s .tick) r (shownBy c (s .observations)) (k .tied .ahead c) → Tied G (moved s c r [] [])
   tied-silent c h r tie =
       tied-moved c h r [] [] (k .tied .ahead) (subst (Along G (s .tick) (k .tied .ahead)) (sym (append-nil (s .works))) (k .tied .going)) (λ d i n. refl) (λ d n. refl)
-      (same-tie {t = t} {S = S} refl (sym (append-nil (shownBy c (s .observations)))) refl tie)
+      (same-tie {T = t .table} {S = S} refl (sym (append-nil (shownBy c (s .observations)))) refl tie)
 
 -- ## The work of the first passage ahead finished
 
-module _ {t : Read} {S : List Visit} (G : Given t S) {τ : ℕ} {A : ℕ → List Visit} {ws : List Work} (g : Along G τ A ws) (c : ℕ) (h : c < size (t .table)) (v : Visit)
+module _ {t : Read} {H : ℕ} {S : List Visit} (G : Given t H S) {τ : ℕ} {A : ℕ → List Visit} {ws : List Work} (g : Along G τ A ws) (c : ℕ) (h : c < size (t .table)) (v : Visit)
     (vs : List Visit) (e : A c ≡ v ∷ vs) where
   -- the edge of the window chosen is the passage's
   pub edge-same : {j : Pick} → choice (componentOf (t .table) c) (v .entry) ≡ some j → v .edge ≡ j .edge
@@ -82,20 +82,20 @@ module _ {t : Read} {S : List Visit} (G : Given t S) {τ : ℕ} {A : ℕ → Lis
 
   -- a node that heads for the entry that the passage leads to is held there
   leaves-held : {i : ℕ} {r : Node} → Heading (componentOf (t .table) c) i (leaves (arcOf (componentOf (t .table) c) (v .edge)) (v .message) (v .end) (v .entry)) r
-      → Held (t .horizon) (componentOf (t .table) c) τ i r vs []
+      → Held H (componentOf (t .table) c) τ i r vs []
   unfolding leaves
-  leaves-held {i} {r} p = go vs (ahead-linked (t .table) (t .horizon) S (g .passing) c h v vs e)
+  leaves-held {i} {r} p = go vs (ahead-linked (t .table) H S (g .passing) c h v vs e)
     where
       before : τ ≤ v .end
-      before = ahead-before (t .table) (t .horizon) S (g .passing) c h v vs e
+      before = ahead-before (t .table) H S (g .passing) c h v vs e
 
-      go : (us : List Visit) → Links (t .horizon) (componentOf (t .table) c) v us → Held (t .horizon) (componentOf (t .table) c) τ i r us []
+      go : (us : List Visit) → Links H (componentOf (t .table) c) v us → Held H (componentOf (t .table) c) τ i r us []
       go [] l = leaving (leaves (arcOf (componentOf (t .table) c) (v .edge)) (v .message) (v .end) (v .entry)) refl refl (last-beyond l) p
       go (w ∷ us) l = coming w us refl refl (omega (arith, before, next-later l .0)) (subst (λ (at : Entry). Heading (componentOf (t .table) c) i at r) (sym (next-is l)) p)
 
   -- with its message
   pub finished-held : {i : ℕ} {r : Node} (j : Pick) (m : Option ℕ) → choice (componentOf (t .table) c) (v .entry) ≡ some j → v .message ≡ m
-      → Heading (componentOf (t .table) c) i (afterwards (componentOf (t .table) c) (v .entry) j m) r → Held (t .horizon) (componentOf (t .table) c) τ i r vs []
+      → Heading (componentOf (t .table) c) i (afterwards (componentOf (t .table) c) (v .entry) j m) r → Held H (componentOf (t .table) c) τ i r vs []
   finished-held {i} {r} j m f n p =
       let o = opened-first G g c h v vs e in
       leaves-held
@@ -103,8 +103,8 @@ module _ {t : Read} {S : List Visit} (G : Given t S) {τ : ℕ} {A : ℕ → Lis
       (passage-leads o f m ∙ ap (λ (x : Option ℕ). leaves (arcOf (componentOf (t .table) c) (v .edge)) x (v .end) (v .entry)) (sym n)) p)
 
   -- its tie
-  pub finished-tie : {r q : Node} {os : List Observation} (k : Tie (t .table) (t .horizon) S c τ r os (A c)) → k .more ≡ v ∷ []
-      → Held (t .horizon) (componentOf (t .table) c) τ (suc (k .count)) q vs [] → Tie (t .table) (t .horizon) S c τ q os vs
+  pub finished-tie : {r q : Node} {os : List Observation} (k : Tie (t .table) H S c τ r os (A c)) → k .more ≡ v ∷ []
+      → Held H (componentOf (t .table) c) τ (suc (k .count)) q vs [] → Tie (t .table) H S c τ q os vs
   finished-tie {r} {q} {os} k m p =
       record {
         fin = k .fin ++ (v ∷ []);

@@ -12,7 +12,7 @@ use Rattle.model.specs.Table.{Component, Read, size, componentOf}
 use Rattle.model.specs.Schedule.{Visit, own}
 use Rattle.model.specs.Network.{Work, Observation}
 use Rattle.model.specs.Machine.{Node}
-use Rattle.model.specs.Run.{settingOf, standOf, due, late}
+use Rattle.model.specs.Run.{settingTo, standOf, due, late}
 use Rattle.model.specs.Demand3.{readyBefore, lateIn}
 use Rattle.model.proofs.NodeFacts.{heading-late-in, asleep-late, asleep-late-in, working-late-in}
 use Rattle.model.proofs.NodeListening.{asleep-due}
@@ -31,8 +31,8 @@ never-ready (v ∷ vs) (suc i) now h = never-ready vs i now (omega arith)
 pub all-finished : (fin ahead vs : List Visit) {i : ℕ} → length fin ≡ i → fin ++ ahead ≡ vs → ahead ≡ [] → length vs ≤ i
 all-finished fin ahead vs n w e = omega (arith, ap length (sym (append-nil fin) ∙ (ap (λ (l : List Visit). fin ++ l) (sym e) ∙ w)))
 
-module _ {t : Read} {S : List Visit} (G : Given t S) {τ : ℕ} {A : ℕ → List Visit} {ws : List Work} (g : Along G τ A ws) (c : ℕ) (h : c < size (t .table)) {r : Node}
-    {os : List Observation} (k : Tie (t .table) (t .horizon) S c τ r os (A c)) where
+module _ {t : Read} {H : ℕ} {S : List Visit} (G : Given t H S) {τ : ℕ} {A : ℕ → List Visit} {ws : List Work} (g : Along G τ A ws) (c : ℕ) (h : c < size (t .table)) {r : Node}
+    {os : List Observation} (k : Tie (t .table) H S c τ r os (A c)) where
   -- the number of the first passage ahead
   pub nth-ahead : (v : Visit) (vs : List Visit) → A c ≡ v ∷ vs → Nth (own c S) (k .count) v
   nth-ahead v vs e = nth-first c S (k .fin) (k .counts) (k .whole) v vs e
@@ -42,37 +42,37 @@ module _ {t : Read} {S : List Visit} (G : Given t S) {τ : ℕ} {A : ℕ → Lis
   none-ahead e = all-finished (k .fin) (A c) (own c S) (k .counts) (k .whole) e
 
   -- the run's lateness is the schedule's
-  pub late-same : (now : ℕ) → late (settingOf t S) now c r (standOf r) ≡ lateIn (own c S) now r (standOf r)
+  pub late-same : (now : ℕ) → late (settingTo t H S) now c r (standOf r) ≡ lateIn (own c S) now r (standOf r)
   late-same now = go (k .held)
     where
-      go : Held (t .horizon) (componentOf (t .table) c) τ (k .count) r (A c) (k .more) → late (settingOf t S) now c r (standOf r) ≡ lateIn (own c S) now r (standOf r)
+      go : Held H (componentOf (t .table) c) τ (k .count) r (A c) (k .more) → late (settingTo t H S) now c r (standOf r) ≡ lateIn (own c S) now r (standOf r)
       go (coming v vs e m l p) = heading-late-same t S now c p
-      go (waiting v vs e m l q p) = asleep-late (settingOf t S) now c p ∙ sym (asleep-late-in (own c S) now p)
+      go (waiting v vs e m l q p) = asleep-late (settingTo t H S) now c p ∙ sym (asleep-late-in (own c S) now p)
       go (busy v vs e m l b q p) = working-late-same t S now c (opened-first G g c h v vs e) (nth-ahead v vs e) p
       go (leaving at e m l p) = heading-late-same t S now c p
-      go (resting at e m l q p) = asleep-late (settingOf t S) now c p ∙ sym (asleep-late-in (own c S) now p)
+      go (resting at e m l q p) = asleep-late (settingTo t H S) now c p ∙ sym (asleep-late-in (own c S) now p)
 
   -- it is not late now
   pub on-time : lateIn (own c S) τ r (standOf r) ≡ false
   on-time = go (k .held)
     where
-      go : Held (t .horizon) (componentOf (t .table) c) τ (k .count) r (A c) (k .more) → lateIn (own c S) τ r (standOf r) ≡ false
+      go : Held H (componentOf (t .table) c) τ (k .count) r (A c) (k .more) → lateIn (own c S) τ r (standOf r) ≡ false
       go (coming v vs e m l p) = heading-late-in (own c S) τ p ∙ (ready-before-nth (nth-ahead v vs e) τ ∙ le-ltb (v .ready) τ l)
       go (waiting v vs e m l q p) = asleep-late-in (own c S) τ p
       go (busy v vs e m l b q p) =
           working-late-in (own c S) τ p
           ∙ (end-before-nth (nth-ahead v vs e) τ
-          ∙ le-ltb (v .end) τ (ahead-before (t .table) (t .horizon) S (g .passing) c h v vs e))
+          ∙ le-ltb (v .end) τ (ahead-before (t .table) H S (g .passing) c h v vs e))
       go (leaving at e m l p) = heading-late-in (own c S) τ p ∙ never-ready (own c S) (k .count) τ (none-ahead e)
       go (resting at e m l q p) = asleep-late-in (own c S) τ p
 
   -- what a tick does to a node that is due for nothing and not late afterwards: nothing, and its window, if it is in one, goes on
   pub record Later : Type 0 where
-    pub tie : Tie (t .table) (t .horizon) S c (suc τ) r os (A c)
+    pub tie : Tie (t .table) H S c (suc τ) r os (A c)
     pub room : (v : Visit) (vs : List Visit) → A c ≡ v ∷ vs → v .ready ≤ τ → τ < v .end
 
   -- the same tie a tick later
-  again : Held (t .horizon) (componentOf (t .table) c) (suc τ) (k .count) r (A c) (k .more) → Tie (t .table) (t .horizon) S c (suc τ) r os (A c)
+  again : Held H (componentOf (t .table) c) (suc τ) (k .count) r (A c) (k .more) → Tie (t .table) H S c (suc τ) r os (A c)
   again p = record { fin = k .fin; more = k .more; count = k .count; counts = k .counts; whole = k .whole; held = p; shown = k .shown }
 
   -- one first passage
@@ -84,7 +84,7 @@ module _ {t : Read} {S : List Visit} (G : Given t S) {τ : ℕ} {A : ℕ → Lis
   nothing-first v vs e f = let z : _≡_ {A = ℕ} 0 1 = cc in omega arith
 
   -- so it is
-  pub ticks-on : due (settingOf t S) τ r (standOf r) ≡ false → late (settingOf t S) (suc τ) c r (standOf r) ≡ false → Later
+  pub ticks-on : due (settingTo t H S) τ r (standOf r) ≡ false → late (settingTo t H S) (suc τ) c r (standOf r) ≡ false → Later
   ticks-on d l = go (k .held)
     where
       C : Component
@@ -96,13 +96,13 @@ module _ {t : Read} {S : List Visit} (G : Given t S) {τ : ℕ} {A : ℕ → Lis
       not-late : lateIn (own c S) (suc τ) r (standOf r) ≡ false
       not-late = sym (late-same (suc τ)) ∙ l
 
-      go : Held (t .horizon) C τ (k .count) r (A c) (k .more) → Later
+      go : Held H C τ (k .count) r (A c) (k .more) → Later
       go (coming v vs e m b p) =
           let n : suc τ ≤ v .ready = ltb-false (v .ready) (suc τ) (sym (heading-late-in (own c S) (suc τ) p ∙ ready-before-nth (nth-ahead v vs e) (suc τ)) ∙ not-late) in
           record { tie = again (coming v vs e m n p); room = not-ready v vs e n }
       go (waiting v vs e m b q p) =
           let o = opened-first G g c h v vs e in
-          let x = eqb-false τ (r .t) (sym (asleep-due (settingOf t S) τ p ∙ ap (eqb τ) (sym (p .t))) ∙ d) in
+          let x = eqb-false τ (r .t) (sym (asleep-due (settingTo t H S) τ p ∙ ap (eqb τ) (sym (p .t))) ∙ d) in
           let n : suc τ ≤ v .ready = omega (arith, asleep-passage o p .ready, x) in
           record { tie = again (waiting v vs e m n q p); room = not-ready v vs e n }
       go (busy v vs e m b f q p) =

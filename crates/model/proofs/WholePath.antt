@@ -8,7 +8,6 @@ use lib.Dec.{eqb}
 use lib.ListN.{length}
 use Rattle.model.specs.Table.{Read, size, componentOf}
 use Rattle.model.specs.Schedule.{Visit, own}
-use Rattle.model.specs.Checks.{limit}
 use Rattle.model.specs.Program.{programBytes}
 use Rattle.model.specs.Network.{State, Label, start, follow, passagesOn, worksOn, observationsOn}
 use Rattle.model.specs.Machine.{partBytes}
@@ -29,7 +28,7 @@ use Rattle.model.proofs.WholeCount.{readied, none-missing, none-missing
 -- ## The path
 
 -- one path of the network, for all nodes together, that shows what the run did: the first nine fields of demand 3
-pub record PathOf (t : Read) (S : List Visit) (r : Result) : Type 0 where
+pub record PathOf (t : Read) (H : ℕ) (S : List Visit) (r : Result) : Type 0 where
   pub path : List Label
   pub last : State
   pub valid : follow (t .table) (start (t .table)) path ≡ some last
@@ -43,13 +42,13 @@ pub record PathOf (t : Read) (S : List Visit) (r : Result) : Type 0 where
   pub complete : (c : ℕ) → c < size (t .table)
       → length (readied (r .state .tick) (own c S)) ≤ length (observationsOf c r) + cond (isLateEnd r && isLate S (r .state) c) 1 0
 
-module _ {t : Read} {S : List Visit} (G : Given t S) where
+module _ {t : Read} {H : ℕ} {S : List Visit} (G : Given t H S) where
   -- nobody is late as the schedule has it
   pub nobody-late : {s : Run} → Tied G s → (c : ℕ) → c < size (t .table) → isLate S s c ≡ false
   nobody-late k c h = on-time G (k .going) c h (k .ties c h)
 
   -- of a run that does not end late
-  pub quiet-path : {s : Run} → Tied G s → (e n : ℕ) → eqb e 2 ≡ false → PathOf t S (ends s e n)
+  pub quiet-path : {s : Run} → Tied G s → (e n : ℕ) → eqb e 2 ≡ false → PathOf t H S (ends s e n)
   quiet-path {s} k e n q =
       record {
         path = w .path;
@@ -66,10 +65,10 @@ module _ {t : Read} {S : List Visit} (G : Given t S) where
       }
     where
       w : Witness (t .table) S (s .tick) (k .ahead) (s .works)
-      w = going-witness limit (t .table) (t .horizon) S (G .sched) (G .checks) (k .going)
+      w = going-witness (G .most) (t .table) H S (G .sched) (G .checks) (k .going)
 
   -- of one that does: up to the tick before
-  pub late-path : {s : Run} → Live G s → (c : ℕ) → TooLate G s c → PathOf t S (ends (ticked s) 2 c)
+  pub late-path : {s : Run} → Live G s → (c : ℕ) → TooLate G s c → PathOf t H S (ends (ticked s) 2 c)
   late-path {s} k n l =
       record {
         path = w .path;
@@ -84,7 +83,7 @@ module _ {t : Read} {S : List Visit} (G : Given t S) where
       }
     where
       w : Witness (t .table) S (s .tick) (k .tied .ahead) (s .works)
-      w = going-witness limit (t .table) (t .horizon) S (G .sched) (G .checks) (k .tied .going)
+      w = going-witness (G .most) (t .table) H S (G .sched) (G .checks) (k .tied .going)
 
   -- ## Listeners
 
@@ -93,7 +92,7 @@ module _ {t : Read} {S : List Visit} (G : Given t S) where
     heard : (a : ℕ) → standOf (nodeOf s c) ≡ sending a → (i : ℕ) × (listeners s c a ≡ i ∷ []) × (nodeOf s i .t < nodeOf s c .t)
     heard a q = go (k .tied .ties c h .held)
       where
-        go : Held (t .horizon) (componentOf (t .table) c) (s .tick) (k .tied .ties c h .count) (nodeOf s c) (k .tied .ahead c) (k .tied .ties c h .more)
+        go : Held H (componentOf (t .table) c) (s .tick) (k .tied .ties c h .count) (nodeOf s c) (k .tied .ahead c) (k .tied .ties c h .more)
             → (i : ℕ) × (listeners s c a ≡ i ∷ []) × (nodeOf s i .t < nodeOf s c .t)
         go (coming v vs e m l p) = clash (sym (ap isWay q) ∙ heading-stand p)
         go (waiting v vs e m l j p) = clash (sym (ap isWork (asleep-sleeping p)) ∙ ap isWork q)

@@ -9,7 +9,7 @@ use Rattle.model.specs.Table.{Read, size}
 use Rattle.model.specs.Limits.{InLimits}
 use Rattle.model.specs.Schedule.{Visit}
 use Rattle.model.specs.Checks.{planOf}
-use Rattle.model.specs.Run.{settingOf, Run, Result, runFrom, run, startRun}
+use Rattle.model.specs.Run.{settingTo, Run, Result, runFrom, run, startRun}
 use Rattle.model.specs.Demand3.{states, LateAt, Ended, horizon, usedUp, late, notAllowed, Refused, noNode, notDue, due, Demand3, Promise}
 use Rattle.model.proofs.WholeLimits.{read-limits}
 use Rattle.model.proofs.WholeTied.{Given, given}
@@ -21,66 +21,66 @@ use Rattle.model.proofs.WholePath.{PathOf}
 use Rattle.model.proofs.WholeRun.{Goes, goes, goes-used, goes-few, goes-ticks, goes-path, goes-listener, goes-below, goes-late-ends, goes-late-is, goes-node, Ends, atHorizon, atLast, tooLate, goes-ends}
 use Rattle.model.proofs.WholeRun.{notAllowed as not-allowed}
 
-module _ {t : Read} {S : List Visit} (G : Given t S) (cs : List ℕ) where
+module _ {t : Read} {H : ℕ} {S : List Visit} (G : Given t H S) (cs : List ℕ) where
   -- the start of the run
   abbrev s₀ : Run
-  s₀ = startRun (settingOf t S)
+  s₀ = startRun (settingTo t H S)
 
   -- its result
   abbrev R : Result
-  R = run (settingOf t S) cs
+  R = run (settingTo t H S) cs
 
   -- the start lies before the horizon
   start-live : Live G s₀
-  start-live = record { tied = tied-start G; below = omega (arith, G .limits .leastHorizon) }
+  start-live = record { tied = tied-start G; below = omega (arith, G .least) }
 
   -- the whole run, with the number of the choices carried out
-  whole : Goes G (R .state .used) s₀ cs R (states (settingOf t S) cs s₀)
+  whole : Goes G (R .state .used) s₀ cs R (states (settingTo t H S) cs s₀)
   unfolding run
   whole =
       let w = goes G cs start-live in
-      let e : w .0 ≡ run (settingOf t S) cs .state .used = omega (arith, goes-used G (w .1)) in
-      subst (λ (n : ℕ). Goes G n s₀ cs (runFrom (settingOf t S) cs s₀) (states (settingOf t S) cs s₀)) e (w .1)
+      let e : w .0 ≡ run (settingTo t H S) cs .state .used = omega (arith, goes-used G (w .1)) in
+      subst (λ (n : ℕ). Goes G n s₀ cs (runFrom (settingTo t H S) cs s₀) (states (settingTo t H S) cs s₀)) e (w .1)
 
   -- how it ended
-  how-ended : Ended t S cs
+  how-ended : Ended t H S cs
   how-ended = go (goes-ends G whole)
     where
-      go : Ends G (R .state .used) cs R → Ended t S cs
+      go : Ends G (R .state .used) cs R → Ended t H S cs
       go (atHorizon x y z) = horizon x y z
       go (atLast x y z) = usedUp x y z
       go (tooLate x) = late x
       go (not-allowed x y z w) = notAllowed x y z
 
   -- why a choice was not allowed
-  why-refused : R .end ≡ 3 → Refused t S cs (getD cs (R .state .used) 0)
+  why-refused : R .end ≡ 3 → Refused t H S cs (getD cs (R .state .used) 0)
   why-refused e = go (goes-ends G whole)
     where
-      said : (b : ℕ) (k : Live G (R .state)) → WhyNot G k b → Refused t S cs b
+      said : (b : ℕ) (k : Live G (R .state)) → WhyNot G k b → Refused t H S cs b
       said b k (no-node x y) = noNode x y
       said b k (not-due x y) = notDue x y
       said b k (some-due x c y z) = due x c y z
 
-      go : Ends G (R .state .used) cs R → Refused t S cs (getD cs (R .state .used) 0)
+      go : Ends G (R .state .used) cs R → Refused t H S cs (getD cs (R .state .used) 0)
       go (atHorizon x y z) = absurd (omega arith)
       go (atLast x y z) = absurd (omega arith)
       go (tooLate x) = absurd (omega arith)
       go (not-allowed x y z w) = said (getD cs (R .state .used) 0) w (why-not G w (getD cs (R .state .used) 0) z)
 
   -- a late end
-  last-late : R .end ≡ 2 → (0 < R .state .used) × (R .node < size (t .table)) × LateAt t S cs (pred (R .state .used)) (R .node)
+  last-late : R .end ≡ 2 → (0 < R .state .used) × (R .node < size (t .table)) × LateAt t H S cs (pred (R .state .used)) (R .node)
   last-late e =
       let l = goes-late-is G whole s₀ e in
       let b : l .before ≡ pred (R .state .used) = omega (arith, l .number) in (
         omega (arith, l .number),
         l .there,
-        subst (λ (n : ℕ). LateAt t S cs n (R .node)) b (l .choice, l .late),
+        subst (λ (n : ℕ). LateAt t H S cs n (R .node)) b (l .choice, l .late),
       )
 
   -- all of demand 3
-  demand : Demand3 t S cs
+  demand : Demand3 t H S cs
   demand =
-      let p : PathOf t S R = goes-path G whole in
+      let p : PathOf t H S R = goes-path G whole in
       record {
         path = p .path;
         last = p .last;
@@ -103,7 +103,7 @@ module _ {t : Read} {S : List Visit} (G : Given t S) (cs : List ℕ) where
       }
 
 -- for every table in the limits that is accepted, and every list of choices
-pub promise : (t : Read) (S : List Visit) → InLimits t → planOf t ≡ accepted S → (cs : List ℕ) → Demand3 t S cs
+pub promise : (t : Read) (S : List Visit) → InLimits t → planOf t ≡ accepted S → (cs : List ℕ) → Demand3 t (t .horizon) S cs
 promise t S h e cs = demand (given t S h e) cs
 
 -- demand 3, for every list of numbers that is read as a table and accepted, and every list of choices

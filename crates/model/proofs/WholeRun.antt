@@ -9,7 +9,7 @@ use lib.Dec.{eqb}
 use lib.ListN.{length, getD, take}
 use Rattle.model.specs.Table.{Read, size}
 use Rattle.model.specs.Schedule.{Visit, own}
-use Rattle.model.specs.Run.{settingOf, Run, Result, ends, Outcome, forbidden, on, over, ticked, nodeOf, standOf, continue, choose1, runFrom}
+use Rattle.model.specs.Run.{settingTo, Run, Result, ends, Outcome, forbidden, on, over, ticked, nodeOf, standOf, continue, choose1, runFrom}
 use Rattle.model.specs.Demand3.{isLate, HasListener, furtherStates, states, ticksIn}
 use Rattle.model.proofs.Bools.{clash}
 use Rattle.model.proofs.WholeTied.{Given, Tied}
@@ -17,26 +17,26 @@ use Rattle.model.proofs.WholeTick.{Live, TooLate, Leads, no, onward, ar
 use Rattle.model.proofs.WholeSend.{choice-leads}
 use Rattle.model.proofs.WholePath.{PathOf, nobody-late, quiet-path, late-path, listener-now, listener-then}
 
-module _ {t : Read} {S : List Visit} (G : Given t S) where
+module _ {t : Read} {H : ℕ} {S : List Visit} (G : Given t H S) where
   -- from state s a list of choices leads to a result, through these states, n choices carried out
   pub data Goes : ℕ → Run → List ℕ → Result → List Run → Type 0 where
     usedUp : {s : Run} → Live G s → Goes 0 s [] (ends s 1 255) (s ∷ [])
-    stops : {s : Run} {b : ℕ} {bs : List ℕ} → Live G s → choose1 (settingOf t S) s b ≡ forbidden → Goes 0 s (b ∷ bs) (ends s 3 255) (s ∷ [])
+    stops : {s : Run} {b : ℕ} {bs : List ℕ} → Live G s → choose1 (settingTo t H S) s b ≡ forbidden → Goes 0 s (b ∷ bs) (ends s 3 255) (s ∷ [])
     further : {n : ℕ} {s u : Run} {b : ℕ} {bs : List ℕ} {r : Result} {us : List Run} → Live G s → Live G u → u .used ≡ suc (s .used)
         → u .tick ≡ cond (eqb b 255) (suc (s .tick)) (s .tick) → Goes n u bs r us → Goes (suc n) s (b ∷ bs) r (s ∷ us)
-    arrived : {s : Run} {b : ℕ} {bs : List ℕ} → Live G s → b ≡ 255 → Tied G (ticked s) → suc (s .tick) ≡ t .horizon
+    arrived : {s : Run} {b : ℕ} {bs : List ℕ} → Live G s → b ≡ 255 → Tied G (ticked s) → suc (s .tick) ≡ H
         → Goes 1 s (b ∷ bs) (ends (ticked s) 0 255) (s ∷ ticked s ∷ [])
     broken : {s : Run} {b : ℕ} {bs : List ℕ} (c : ℕ) → Live G s → b ≡ 255 → TooLate G s c → Goes 1 s (b ∷ bs) (ends (ticked s) 2 c) (s ∷ ticked s ∷ [])
 
   -- so it is with every list
-  pub goes : (cs : List ℕ) {s : Run} → Live G s → (n : ℕ) × Goes n s cs (runFrom (settingOf t S) cs s) (states (settingOf t S) cs s)
+  pub goes : (cs : List ℕ) {s : Run} → Live G s → (n : ℕ) × Goes n s cs (runFrom (settingTo t H S) cs s) (states (settingTo t H S) cs s)
   unfolding runFrom states
   goes [] k = (0, usedUp k)
-  goes (b ∷ bs) {s} k = go (choose1 (settingOf t S) s b) refl (choice-leads G k b) (λ u l. goes bs l)
+  goes (b ∷ bs) {s} k = go (choose1 (settingTo t H S) s b) refl (choice-leads G k b) (λ u l. goes bs l)
     where
-      go : (o : Outcome) → choose1 (settingOf t S) s b ≡ o → Leads G s b o
-          → ((u : Run) → Live G u → (n : ℕ) × Goes n u bs (runFrom (settingOf t S) bs u) (states (settingOf t S) bs u))
-          → (n : ℕ) × Goes n s (b ∷ bs) (continue s o (λ u. runFrom (settingOf t S) bs u)) (s ∷ furtherStates o (λ u. states (settingOf t S) bs u))
+      go : (o : Outcome) → choose1 (settingTo t H S) s b ≡ o → Leads G s b o
+          → ((u : Run) → Live G u → (n : ℕ) × Goes n u bs (runFrom (settingTo t H S) bs u) (states (settingTo t H S) bs u))
+          → (n : ℕ) × Goes n s (b ∷ bs) (continue s o (λ u. runFrom (settingTo t H S) bs u)) (s ∷ furtherStates o (λ u. states (settingTo t H S) bs u))
       go forbidden e no ih = (0, stops k e)
       go (on u) e (onward w l f i) ih = let m = ih w l in (suc (m .0), further k l f i (m .1))
       go (over u x y) e (arrives f p i) ih = (1, arrived k f p i)
@@ -83,7 +83,7 @@ module _ {t : Read} {S : List Visit} (G : Given t S) where
   first-state (broken c k e p) d = refl
 
   -- the path
-  pub goes-path : {n : ℕ} {s : Run} {cs : List ℕ} {r : Result} {us : List Run} → Goes n s cs r us → PathOf t S r
+  pub goes-path : {n : ℕ} {s : Run} {cs : List ℕ} {r : Result} {us : List Run} → Goes n s cs r us → PathOf t H S r
   goes-path (usedUp k) = quiet-path G (k .tied) 1 255 refl
   goes-path (stops k e) = quiet-path G (k .tied) 3 255 refl
   goes-path (further k l e f g) = goes-path g
@@ -107,7 +107,7 @@ module _ {t : Read} {S : List Visit} (G : Given t S) where
   goes-listener (broken x k e p) d (suc (suc i)) l c h = absurd (omega arith)
 
   -- every state that a choice was carried out in lies before the horizon
-  pub goes-below : {n : ℕ} {s : Run} {cs : List ℕ} {r : Result} {us : List Run} → Goes n s cs r us → (d : Run) (i : ℕ) → i < n → getD us i d .tick < t .horizon
+  pub goes-below : {n : ℕ} {s : Run} {cs : List ℕ} {r : Result} {us : List Run} → Goes n s cs r us → (d : Run) (i : ℕ) → i < n → getD us i d .tick < H
   goes-below (usedUp k) d i l = absurd (omega arith)
   goes-below (stops k e) d i l = absurd (omega arith)
   goes-below (further k m e f g) d zero l = k .below
@@ -158,10 +158,10 @@ module _ {t : Read} {S : List Visit} (G : Given t S) where
 
   -- the four ends
   pub data Ends (n : ℕ) (cs : List ℕ) (r : Result) : Type 0 where
-    atHorizon : r .end ≡ 0 → r .state .tick ≡ t .horizon → ((c : ℕ) → c < size (t .table) → isLate S (r .state) c ≡ false) → Ends n cs r
-    atLast : r .end ≡ 1 → n ≡ length cs → r .state .tick < t .horizon → Ends n cs r
+    atHorizon : r .end ≡ 0 → r .state .tick ≡ H → ((c : ℕ) → c < size (t .table) → isLate S (r .state) c ≡ false) → Ends n cs r
+    atLast : r .end ≡ 1 → n ≡ length cs → r .state .tick < H → Ends n cs r
     tooLate : r .end ≡ 2 → Ends n cs r
-    notAllowed : r .end ≡ 3 → n < length cs → choose1 (settingOf t S) (r .state) (getD cs n 0) ≡ forbidden → Live G (r .state) → Ends n cs r
+    notAllowed : r .end ≡ 3 → n < length cs → choose1 (settingTo t H S) (r .state) (getD cs n 0) ≡ forbidden → Live G (r .state) → Ends n cs r
 
   -- one of them
   pub goes-ends : {n : ℕ} {s : Run} {cs : List ℕ} {r : Result} {us : List Run} → Goes n s cs r us → Ends n cs r

@@ -14,11 +14,10 @@ use Rattle.model.specs.Lists.{any}
 use Rattle.model.specs.Table.{Component, Read, size, componentOf, arcOf}
 use Rattle.model.specs.Window.{receives, listens}
 use Rattle.model.specs.Schedule.{Visit, names}
-use Rattle.model.specs.Checks.{limit}
 use Rattle.model.specs.Program.{programBytes}
 use Rattle.model.specs.Network.{two}
 use Rattle.model.specs.Machine.{Node, partBytes, finish}
-use Rattle.model.specs.Run.{settingOf, Run, noNode, nodeOf, Stand, standOf, listeners, takesMessage, Outcome, forbidden, on, moved, observes, messaged, ticked, sent, finishes, someDue, lateNodes, afterTick, choose1}
+use Rattle.model.specs.Run.{settingTo, Run, noNode, nodeOf, Stand, standOf, listeners, takesMessage, Outcome, forbidden, on, moved, observes, messaged, ticked, sent, finishes, someDue, lateNodes, afterTick, choose1}
 use Rattle.model.proofs.NodeChoosing.{asleep-sleeping}
 use Rattle.model.proofs.NodePhase.{isWorking, actionOf, AtSend, AtListen, AtStand, phase-at}
 use Rattle.model.proofs.NodeListening.{stands-listening}
@@ -32,11 +31,11 @@ use Rattle.model.proofs.WholeMove.{same-tie, stays, finished-held, fini
 use Rattle.model.proofs.WholeStatement.{without, without-same, without-other, way-leads, sleep-leads, work-leads}
 use Rattle.model.proofs.WholeListener.{receives-only, sends-on, partner, Listens, partner-listens, listeners-are}
 
-module _ {t : Read} {S : List Visit} (G : Given t S) {s : Run} (k : Live G s) where
+module _ {t : Read} {H : ℕ} {S : List Visit} (G : Given t H S) {s : Run} (k : Live G s) where
   -- two nodes moved: the others are as before
   tied-messaged : (c b a : ℕ) → c < size (t .table) → b < size (t .table) → (c ≡ b → ⊥) → (r q : Node) (vs us : List Visit)
-      → Going limit (t .table) (t .horizon) S (G .sched) (G .checks) (s .tick) (without b us (without c vs (k .tied .ahead))) (s .works ++ (two c b a (s .tick) ∷ []))
-      → Tie (t .table) (t .horizon) S c (s .tick) r (shownBy c (s .observations)) vs → Tie (t .table) (t .horizon) S b (s .tick) q (shownBy b (s .observations)) us
+      → Going (G .most) (t .table) H S (G .sched) (G .checks) (s .tick) (without b us (without c vs (k .tied .ahead))) (s .works ++ (two c b a (s .tick) ∷ []))
+      → Tie (t .table) H S c (s .tick) r (shownBy c (s .observations)) vs → Tie (t .table) H S b (s .tick) q (shownBy b (s .observations)) us
       → Tied G (messaged s c r b q a)
   tied-messaged c b a hc hb ne r q vs us g tc tb =
       record {
@@ -53,17 +52,17 @@ module _ {t : Read} {S : List Visit} (G : Given t S) {s : Run} (k : Live G s) wh
       B = without b us (without c vs A)
 
       go : (d : ℕ) → d < size (t .table) → (x : Bool) → eqb d b ≡ x → (y : Bool) → eqb d c ≡ y
-          → Tie (t .table) (t .horizon) S d (s .tick) (getD (set (set (s .nodes) c r) b q) d noNode) (shownBy d (s .observations)) (B d)
+          → Tie (t .table) H S d (s .tick) (getD (set (set (s .nodes) c r) b q) d noNode) (shownBy d (s .observations)) (B d)
       go d i true f y j =
-          subst (λ (n : ℕ). Tie (t .table) (t .horizon) S n (s .tick) (getD (set (set (s .nodes) c r) b q) n noNode) (shownBy n (s .observations)) (B n)) (sym (eqb-true d b f))
-          (same-tie {t = t} {S = S}
+          subst (λ (n : ℕ). Tie (t .table) H S n (s .tick) (getD (set (set (s .nodes) c r) b q) n noNode) (shownBy n (s .observations)) (B n)) (sym (eqb-true d b f))
+          (same-tie {T = t .table} {S = S}
           (sym (getD-set-same (set (s .nodes) c r) b q noNode (omega (arith, length-set (s .nodes) c r, k .tied .full))))
           refl
           (sym (without-same b us (without c vs A)))
           tb)
       go d i false f true j =
-          subst (λ (n : ℕ). Tie (t .table) (t .horizon) S n (s .tick) (getD (set (set (s .nodes) c r) b q) n noNode) (shownBy n (s .observations)) (B n)) (sym (eqb-true d c j))
-          (same-tie {t = t} {S = S}
+          subst (λ (n : ℕ). Tie (t .table) H S n (s .tick) (getD (set (set (s .nodes) c r) b q) n noNode) (shownBy n (s .observations)) (B n)) (sym (eqb-true d c j))
+          (same-tie {T = t .table} {S = S}
           (sym (getD-set-other (set (s .nodes) c r) b c q noNode ne ∙ getD-set-same (s .nodes) c r noNode (omega (arith, k .tied .full))))
           refl
           (sym (without-other b us (without c vs A) c ne ∙ without-same c vs A))
@@ -71,7 +70,7 @@ module _ {t : Read} {S : List Visit} (G : Given t S) {s : Run} (k : Live G s) wh
       go d i false f false j =
           let n = eqb-false d b f in
           let m = eqb-false d c j in
-          same-tie {t = t} {S = S}
+          same-tie {T = t .table} {S = S}
           (sym (getD-set-other (set (s .nodes) c r) b d q noNode n ∙ getD-set-other (s .nodes) c d r noNode m))
           refl
           (sym (without-other b us (without c vs A) d n ∙ without-other c vs A d m))
@@ -82,7 +81,7 @@ module _ {t : Read} {S : List Visit} (G : Given t S) {s : Run} (k : Live G s) wh
   module _ (c : ℕ) (h : c < size (t .table)) (v : Visit) (vs : List Visit) (e : k .tied .ahead c ≡ v ∷ vs) (m : k .tied .ties c h .more ≡ v ∷ []) (ready : v .ready ≤ s .tick) (a : ℕ)
       (x : AtSend (partBytes (programBytes t) c) (componentOf (t .table) c) (k .tied .ties c h .count) (v .entry) (nodeOf s c) a) where
     -- the sender's partner
-    abbrev P : Partner limit (t .table) (t .horizon) S (G .sched) (G .checks) (s .tick) (k .tied .ahead) c v a
+    abbrev P : Partner (G .most) (t .table) H S (G .sched) (G .checks) (s .tick) (k .tied .ahead) c v a
     P = partner G k c h v vs e ready (x .atWork) a (x .action)
 
     -- the partner's number
@@ -94,16 +93,16 @@ module _ {t : Read} {S : List Visit} (G : Given t S) {s : Run} (k : Live G s) wh
     L = partner-listens G k c h v vs e ready (x .atWork) a (x .action)
 
     -- the sender behind its send
-    sender-tie : Tie (t .table) (t .horizon) S c (s .tick) (finish (partBytes (programBytes t) c) (nodeOf s c) (nodeOf s c .rest)) (shownBy c (s .observations)) vs
+    sender-tie : Tie (t .table) H S c (s .tick) (finish (partBytes (programBytes t) c) (nodeOf s c) (nodeOf s c .rest)) (shownBy c (s .observations)) vs
     sender-tie =
         let ch = sends-on G k c h v vs e ready (x .atWork) a (x .action) in
         let n : v .message ≡ some a =
-        first-fits (ahead-linked (t .table) (t .horizon) S (k .tied .going .passing) c h v vs e) .said (sends-only (arcOf (componentOf (t .table) c) (v .edge)) a ch) ∙ ch in
+        first-fits (ahead-linked (t .table) H S (k .tied .going .passing) c h v vs e) .said (sends-only (arcOf (componentOf (t .table) c) (v .edge)) a ch) ∙ ch in
         finished-tie G (k .tied .going) c h v vs e (k .tied .ties c h) m
         (finished-held G (k .tied .going) c h v vs e (x .pick) (some a) (x .atWork .chosen) n (x .next))
 
     -- its listener behind its listen
-    listener-tie : Tie (t .table) (t .horizon) S b (s .tick) (takesMessage (partBytes (programBytes t) b) a (nodeOf s b)) (shownBy b (s .observations)) (P .rest)
+    listener-tie : Tie (t .table) H S b (s .tick) (takesMessage (partBytes (programBytes t) b) a (nodeOf s b)) (shownBy b (s .observations)) (P .rest)
     listener-tie =
         finished-tie G (k .tied .going) b (P .there) (P .visit) (P .rest) (P .ahead) (k .tied .ties b (P .there)) (L .more)
         (finished-held G (k .tied .going) b (P .there) (P .visit) (P .rest) (P .ahead) (y .pick) (some a) (y .atWork .chosen) (P .partners .message)
@@ -124,8 +123,8 @@ module _ {t : Read} {S : List Visit} (G : Given t S) {s : Run} (k : Live G s) wh
         named = subst (λ (n : ℕ). names (arcOf D n) (some a) ≡ true) (L .edge) (P .partners .named)
 
     -- "A send finishes its listener's statement too"
-    send-leads : Leads G s c (sent (settingOf t S) s c a (listeners s c a))
-    send-leads = subst (λ (l : List ℕ). Leads G s c (sent (settingOf t S) s c a l)) (sym (listeners-are G k c h v vs e ready (x .atWork) a (x .action))) there
+    send-leads : Leads G s c (sent (settingTo t H S) s c a (listeners s c a))
+    send-leads = subst (λ (l : List ℕ). Leads G s c (sent (settingTo t H S) s c a l)) (sym (listeners-are G k c h v vs e ready (x .atWork) a (x .action))) there
       where
         A : ℕ → List Visit
         A = k .tied .ahead
@@ -133,7 +132,7 @@ module _ {t : Read} {S : List Visit} (G : Given t S) {s : Run} (k : Live G s) wh
         B : ℕ → List Visit
         B = without b (P .rest) (without c vs A)
 
-        there : Leads G s c (sent (settingOf t S) s c a (b ∷ []))
+        there : Leads G s c (sent (settingTo t H S) s c a (b ∷ []))
         there =
             stays G k c h
             (messaged s c (finish (partBytes (programBytes t) c) (nodeOf s c) (nodeOf s c .rest)) b (takesMessage (partBytes (programBytes t) b) a (nodeOf s b)) a)
@@ -141,7 +140,7 @@ module _ {t : Read} {S : List Visit} (G : Given t S) {s : Run} (k : Live G s) wh
             (takesMessage (partBytes (programBytes t) b) a (nodeOf s b))
             vs
             (P .rest)
-            (going-send limit (t .table) (t .horizon) S (G .sched) (G .checks) (k .tied .going) c h v vs e ready (k .below) a
+            (going-send (G .most) (t .table) H S (G .sched) (G .checks) (k .tied .going) c h v vs e ready (k .below) a
             (sends-on G k c h v vs e ready (x .atWork) a (x .action))
             P
             B
@@ -156,42 +155,42 @@ module _ {t : Read} {S : List Visit} (G : Given t S) {s : Run} (k : Live G s) wh
   -- ## A choice
 
   -- "Choice 0 to 7: that node finishes its statement."
-  node-leads : (c : ℕ) → c < size (t .table) → Leads G s c (finishes (settingOf t S) s c (standOf (nodeOf s c)))
+  node-leads : (c : ℕ) → c < size (t .table) → Leads G s c (finishes (settingTo t H S) s c (standOf (nodeOf s c)))
   node-leads c h = go (k .tied .ties c h .held)
     where
-      K : Tie (t .table) (t .horizon) S c (s .tick) (nodeOf s c) (shownBy c (s .observations)) (k .tied .ahead c)
+      K : Tie (t .table) H S c (s .tick) (nodeOf s c) (shownBy c (s .observations)) (k .tied .ahead c)
       K = k .tied .ties c h
 
       next : Node
       next = finish (partBytes (programBytes t) c) (nodeOf s c) (nodeOf s c .rest)
 
-      tied : {x : Node} → Held (t .horizon) (componentOf (t .table) c) (s .tick) (K .count) x (k .tied .ahead c) (K .more)
-          → Tie (t .table) (t .horizon) S c (s .tick) x (shownBy c (s .observations)) (k .tied .ahead c)
+      tied : {x : Node} → Held H (componentOf (t .table) c) (s .tick) (K .count) x (k .tied .ahead c) (K .more)
+          → Tie (t .table) H S c (s .tick) x (shownBy c (s .observations)) (k .tied .ahead c)
       tied p = record { fin = K .fin; more = K .more; count = K .count; counts = K .counts; whole = K .whole; held = p; shown = K .shown }
 
-      go : Held (t .horizon) (componentOf (t .table) c) (s .tick) (K .count) (nodeOf s c) (k .tied .ahead c) (K .more)
-          → Leads G s c (finishes (settingOf t S) s c (standOf (nodeOf s c)))
+      go : Held H (componentOf (t .table) c) (s .tick) (K .count) (nodeOf s c) (k .tied .ahead c) (K .more)
+          → Leads G s c (finishes (settingTo t H S) s c (standOf (nodeOf s c)))
       go (coming v vs e m l p) = way-leads G k c h (v .entry) p (λ q. tied (coming v vs e m l q)) (λ j q. tied (waiting v vs e m l j q))
       go (waiting v vs e m l j p) = sleep-leads G k c h v vs e m j p
       go (busy v vs e m l b j p) = work-leads G k c h v vs e m l b j p (λ a x. send-leads c h v vs e m l a x)
       go (leaving at e m l p) = way-leads G k c h at p (λ q. tied (leaving at e m l q)) (λ j q. tied (resting at e m l j q))
       go (resting at e m l j p) =
-          subst (λ (x : Stand). Leads G s c (finishes (settingOf t S) s c x)) (sym (asleep-sleeping p))
+          subst (λ (x : Stand). Leads G s c (finishes (settingTo t H S) s c x)) (sym (asleep-sleeping p))
           (ap-no (eqb (s .tick) (nodeOf s c .t)) (ne-eqb (s .tick) (nodeOf s c .t) (λ i. omega (arith, p .t, k .below))) (moved s c next (observes c (s .tick) (nodeOf s c) ∷ []) []))
         where
           ap-no : (x : Bool) → x ≡ false → (u : Run) → Leads G s c (cond x (on u) forbidden)
           ap-no x f u = subst (λ (y : Bool). Leads G s c (cond y (on u) forbidden)) (sym f) no
 
   -- what every choice leads to
-  pub choice-leads : (b : ℕ) → Leads G s b (choose1 (settingOf t S) s b)
+  pub choice-leads : (b : ℕ) → Leads G s b (choose1 (settingTo t H S) s b)
   unfolding choose1
   choice-leads b = go (eqb b 255) refl (ltb b (length (s .nodes))) refl
     where
       tick : Outcome
-      tick = cond (someDue (settingOf t S) (s .tick) 0 (s .nodes)) forbidden (afterTick (settingOf t S) (ticked s) (lateNodes (settingOf t S) (suc (s .tick)) 0 (s .nodes)))
+      tick = cond (someDue (settingTo t H S) (s .tick) 0 (s .nodes)) forbidden (afterTick (settingTo t H S) (ticked s) (lateNodes (settingTo t H S) (suc (s .tick)) 0 (s .nodes)))
 
       go : (x : Bool) → eqb b 255 ≡ x → (y : Bool) → ltb b (length (s .nodes)) ≡ y
-          → Leads G s b (cond x tick (cond y (finishes (settingOf t S) s b (standOf (nodeOf s b))) forbidden))
+          → Leads G s b (cond x tick (cond y (finishes (settingTo t H S) s b (standOf (nodeOf s b))) forbidden))
       go true f y i = tick-leads G k b (eqb-true b 255 f)
       go false f true i = node-leads b (omega (arith, ltb-true b (length (s .nodes)) i, k .tied .full))
       go false f false i = no

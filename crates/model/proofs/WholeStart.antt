@@ -7,10 +7,9 @@ use lib.ListN.{length, getD}
 use Rattle.model.specs.Table.{Component, Read, noComponent, size, componentOf}
 use Rattle.model.specs.Window.{Entry}
 use Rattle.model.specs.Schedule.{Visit, own, startEntry}
-use Rattle.model.specs.Checks.{limit}
 use Rattle.model.specs.Program.{programBytes}
 use Rattle.model.specs.Machine.{startNode, partBytes}
-use Rattle.model.specs.Run.{Counts, settingOf, noNode, nodeOf, startNodes, startRun}
+use Rattle.model.specs.Run.{Counts, settingTo, noNode, nodeOf, startNodes, startRun}
 use Rattle.model.proofs.DecodeProgram.{initial-code}
 use Rattle.model.proofs.NodePhase.{Heading}
 use Rattle.model.proofs.NodePassage.{starts}
@@ -39,24 +38,24 @@ start-at program k (C ∷ Cs) (suc c) h =
     start-at program (suc k) Cs c (omega arith)
     ∙ ap (λ (i : ℕ). startNode (partBytes program i) (getD Cs c noComponent .clocks) (getD Cs c noComponent .variables)) e
 
-module _ {t : Read} {S : List Visit} (G : Given t S) where
+module _ {t : Read} {H : ℕ} {S : List Visit} (G : Given t H S) where
   -- node c of the run's start
   start-node : (c : ℕ) → c < size (t .table)
-      → nodeOf (startRun (settingOf t S)) c ≡ startNode (partBytes (programBytes t) c) (componentOf (t .table) c .clocks) (componentOf (t .table) c .variables)
+      → nodeOf (startRun (settingTo t H S)) c ≡ startNode (partBytes (programBytes t) c) (componentOf (t .table) c .clocks) (componentOf (t .table) c .variables)
   start-node c h =
       let e : 0 + c ≡ c = omega arith in
       start-at (programBytes t) 0 (t .table .components) c h
       ∙ ap (λ (i : ℕ). startNode (partBytes (programBytes t) i) (componentOf (t .table) c .clocks) (componentOf (t .table) c .variables)) e
 
   -- the start is tied
-  pub tied-start : Tied G (startRun (settingOf t S))
+  pub tied-start : Tied G (startRun (settingTo t H S))
   tied-start =
       record {
         ahead = λ c. own c S;
-        going = going-start limit (t .table) (t .horizon) S (G .sched) (G .checks);
+        going = going-start (G .most) (t .table) H S (G .sched) (G .checks);
         full = start-length (programBytes t) 0 (t .table .components);
         ties = λ c h.
-            let k = schedule-linked limit (t .table) (t .horizon) S (G .sched) c h in
+            let k = schedule-linked (G .most) (t .table) H S (G .sched) c h in
             let g = starts (coded G c h) (component-in G c h) (initial-code t (G .limits) c h .2) in
             record {
               fin = [];
@@ -66,7 +65,7 @@ module _ {t : Read} {S : List Visit} (G : Given t S) where
               whole = refl;
               held =
                   coming (k .head) (k .tail) (k .is) refl (omega arith)
-                  (subst (λ (at : Entry). Heading (componentOf (t .table) c) 0 at (nodeOf (startRun (settingOf t S)) c)) (sym (k .starts))
+                  (subst (λ (at : Entry). Heading (componentOf (t .table) c) 0 at (nodeOf (startRun (settingTo t H S)) c)) (sym (k .starts))
                   (subst (Heading (componentOf (t .table) c) 0 (startEntry (componentOf (t .table) c))) (sym (start-node c h)) g));
               shown = refl;
             };

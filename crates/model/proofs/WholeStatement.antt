@@ -13,11 +13,10 @@ use Rattle.model.specs.Lists.{isNone}
 use Rattle.model.specs.Table.{Component, Read, size, componentOf, arcOf}
 use Rattle.model.specs.Window.{Entry, Pick, choice, sends, receives}
 use Rattle.model.specs.Schedule.{Visit}
-use Rattle.model.specs.Checks.{limit}
 use Rattle.model.specs.Program.{programBytes}
 use Rattle.model.specs.Network.{one, Observation}
 use Rattle.model.specs.Machine.{Node, partBytes, finish}
-use Rattle.model.specs.Run.{Setting, settingOf, Run, nodeOf, Stand, sleeping, sending, listening, finishing, adding, working, taking, elsewhere, nowhere, standOf, windowEnd, listeners, forbidden, on, observes, moved, sent, finishes}
+use Rattle.model.specs.Run.{Setting, settingTo, Run, nodeOf, Stand, sleeping, sending, listening, finishing, adding, working, taking, elsewhere, nowhere, standOf, windowEnd, listeners, forbidden, on, observes, moved, sent, finishes}
 use Rattle.model.proofs.Bools.{clash}
 use Rattle.model.proofs.NodeChoosing.{Asleep, asleep-sleeping}
 use Rattle.model.proofs.NodeWorking.{Working}
@@ -46,7 +45,7 @@ without-same c vs A = ap (λ (x : Bool). cond x vs (A c)) (eq-eqb c c refl)
 pub without-other : (c : ℕ) (vs : List Visit) (A : ℕ → List Visit) (d : ℕ) → (d ≡ c → ⊥) → without c vs A d ≡ A d
 without-other c vs A d n = ap (λ (x : Bool). cond x vs (A d)) (ne-eqb d c n)
 
-module _ {t : Read} {S : List Visit} (G : Given t S) {s : Run} (k : Live G s) (c : ℕ) (h : c < size (t .table)) where
+module _ {t : Read} {H : ℕ} {S : List Visit} (G : Given t H S) {s : Run} (k : Live G s) (c : ℕ) (h : c < size (t .table)) where
   -- its component
   abbrev C : Component
   C = componentOf (t .table) c
@@ -61,7 +60,7 @@ module _ {t : Read} {S : List Visit} (G : Given t S) {s : Run} (k : Live G s) (c
 
   -- what the run goes by
   abbrev g : Setting
-  g = settingOf t S
+  g = settingTo t H S
 
   -- the passages ahead
   abbrev A : ℕ → List Visit
@@ -69,14 +68,14 @@ module _ {t : Read} {S : List Visit} (G : Given t S) {s : Run} (k : Live G s) (c
 
   -- node c's tie, with that node in its place
   abbrev TieOf : Node → Type 0
-  TieOf x = Tie (t .table) (t .horizon) S c (s .tick) x (shownBy c (s .observations)) (A c)
+  TieOf x = Tie (t .table) H S c (s .tick) x (shownBy c (s .observations)) (A c)
 
   -- as it is
   abbrev tie : TieOf r
   tie = k .tied .ties c h
 
   -- the same passages
-  kept : {x : Node} → Held (t .horizon) C (s .tick) (tie .count) x (A c) (tie .more) → TieOf x
+  kept : {x : Node} → Held H C (s .tick) (tie .count) x (A c) (tie .more) → TieOf x
   kept p = record { fin = tie .fin; more = tie .more; count = tie .count; counts = tie .counts; whole = tie .whole; held = p; shown = tie .shown }
 
   -- the node moved, nothing else
@@ -144,23 +143,23 @@ module _ {t : Read} {S : List Visit} (G : Given t S) {s : Run} (k : Live G s) (c
           refl
 
   -- at the work of the first passage ahead
-  module _ (v : Visit) (vs : List Visit) (e : A c ≡ v ∷ vs) (m : tie .more ≡ v ∷ []) (ready : v .ready ≤ s .tick) (below : v .ready < t .horizon) where
+  module _ (v : Visit) (vs : List Visit) (e : A c ≡ v ∷ vs) (m : tie .more ≡ v ∷ []) (ready : v .ready ≤ s .tick) (below : v .ready < H) where
     -- an edge that does that
     action-same : {j : Pick} {a : Action} → choice C (v .entry) ≡ some j → actionOf C j ≡ a → arcOf C (v .edge) .edge .action ≡ a
     action-same f i = ap (λ (n : ℕ). arcOf C n .edge .action) (edge-same G (k .tied .going) c h v vs e f) ∙ i
 
     -- the work finished, with that message
     after-tie : (j : Pick) (o : Option ℕ) → choice C (v .entry) ≡ some j → v .message ≡ o → Heading C (suc (tie .count)) (afterwards C (v .entry) j o) q
-        → Tie (t .table) (t .horizon) S c (s .tick) q (shownBy c (s .observations)) vs
+        → Tie (t .table) H S c (s .tick) q (shownBy c (s .observations)) vs
     after-tie j o f n p = finished-tie G (k .tied .going) c h v vs e tie m (finished-held G (k .tied .going) c h v vs e j o f n p)
 
     -- the work finished alone
-    alone-leads : Along G (s .tick) (without c vs A) (s .works ++ (one c (s .tick) ∷ [])) → Tie (t .table) (t .horizon) S c (s .tick) q (shownBy c (s .observations)) vs
+    alone-leads : Along G (s .tick) (without c vs A) (s .works ++ (one c (s .tick) ∷ [])) → Tie (t .table) H S c (s .tick) q (shownBy c (s .observations)) vs
         → Leads G s c (on (moved s c q [] (one c (s .tick) ∷ [])))
     alone-leads p i =
         stays G k c h (moved s c q [] (one c (s .tick) ∷ []))
         (tied-moved G k c h q [] (one c (s .tick) ∷ []) (without c vs A) p (λ d l n. without-other c vs A d n) (λ d n. refl)
-        (same-tie {t = t} {S = S} refl (sym (append-nil (shownBy c (s .observations)))) (sym (without-same c vs A)) i))
+        (same-tie {T = t .table} {S = S} refl (sym (append-nil (shownBy c (s .observations)))) (sym (without-same c vs A)) i))
         refl
         refl
 
@@ -183,8 +182,8 @@ module _ {t : Read} {S : List Visit} (G : Given t S) {s : Run} (k : Live G s) (c
             let end : s .tick ≡ v .end = eqb-true (s .tick) (windowEnd r) f ∙ working-passage o w .end in
             let a : arcOf C (v .edge) .edge .action ≡ Receive = action-same (w .chosen) act in
             alone-leads
-            (going-timeout limit (t .table) (t .horizon) S (G .sched) (G .checks) (k .tied .going) c h v vs e end a (without c vs A) (without-same c vs A) others)
-            (after-tie i none (w .chosen) (silent-at-end limit (t .table) (t .horizon) S (G .sched) (G .checks) (k .tied .going) c h v vs e end (ap receives a)) n)
+            (going-timeout (G .most) (t .table) H S (G .sched) (G .checks) (k .tied .going) c h v vs e end a (without c vs A) (without-same c vs A) others)
+            (after-tie i none (w .chosen) (silent-at-end (G .most) (t .table) H S (G .sched) (G .checks) (k .tied .going) c h v vs e end (ap receives a)) n)
 
         go : (x : Stand) → isWork x ≡ true → AtStand (partBytes (programBytes t) c) C (tie .count) (v .entry) r x → Leads G s c (finishes g s c x)
         go sleeping w a = clash w
@@ -192,9 +191,9 @@ module _ {t : Read} {S : List Visit} (G : Given t S) {s : Run} (k : Live G s) (c
         go (listening qs) w a = timeout (a .pick) (a .atWork) (a .action) (a .next) (eqb (s .tick) (windowEnd r)) refl
         go finishing w a =
             let i : arcOf C (v .edge) .edge .action ≡ Internal = action-same (a .atWork .chosen) (a .action) in
-            let n : v .message ≡ none = first-fits (ahead-linked (t .table) (t .horizon) S (k .tied .going .passing) c h v vs e) .said (ap receives i) ∙ ap sends i in
+            let n : v .message ≡ none = first-fits (ahead-linked (t .table) H S (k .tied .going .passing) c h v vs e) .said (ap receives i) ∙ ap sends i in
             alone-leads
-            (going-alone limit (t .table) (t .horizon) S (G .sched) (G .checks) (k .tied .going) c h v vs e ready (internal i) (without c vs A) (without-same c vs A) others)
+            (going-alone (G .most) (t .table) H S (G .sched) (G .checks) (k .tied .going) c h v vs e ready (internal i) (without c vs A) (without-same c vs A) others)
             (after-tie (a .pick) none (a .atWork .chosen) n (a .next))
         go (adding x z) w a = rw (a .ranged) (again (a .update .pick) (a .update .next))
         go working w a = again (a .pick) (a .next)

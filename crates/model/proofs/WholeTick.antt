@@ -9,9 +9,8 @@ use lib.Dec.{eqb}
 use lib.ListN.{length, getD}
 use Rattle.model.specs.Table.{Read, size}
 use Rattle.model.specs.Schedule.{Visit}
-use Rattle.model.specs.Checks.{limit}
 use Rattle.model.specs.Machine.{Node}
-use Rattle.model.specs.Run.{Setting, settingOf, Run, noNode, nodeOf, standOf, Outcome, forbidden, on, over, ticked, due, someDue, late, lateNodes, afterTick}
+use Rattle.model.specs.Run.{Setting, settingTo, Run, noNode, nodeOf, standOf, Outcome, forbidden, on, over, ticked, due, someDue, late, lateNodes, afterTick}
 use Rattle.model.specs.Demand3.{isLate}
 use Rattle.model.proofs.Bools.{clash}
 use Rattle.model.proofs.NetGoing.{going-tick}
@@ -86,15 +85,15 @@ module _ (g : Setting) (now : ℕ) where
 
 -- ## What one choice leads to
 
-module _ {t : Read} {S : List Visit} (G : Given t S) where
+module _ {t : Read} {H : ℕ} {S : List Visit} (G : Given t H S) where
   -- a state that the run goes on from
   pub record Live (s : Run) : Type 0 where
     pub tied : Tied G s
-    pub below : s .tick < t .horizon
+    pub below : s .tick < H
 
   -- a tick that makes a node late
   pub record TooLate (s : Run) (c : ℕ) : Type 0 where
-    pub idle : (d : ℕ) → d < size (t .table) → due (settingOf t S) (s .tick) (nodeOf s d) (standOf (nodeOf s d)) ≡ false
+    pub idle : (d : ℕ) → d < size (t .table) → due (settingTo t H S) (s .tick) (nodeOf s d) (standOf (nodeOf s d)) ≡ false
     pub there : c < size (t .table)
     pub late : isLate S (ticked s) c ≡ true
     pub least : (d : ℕ) → d < size (t .table) → isLate S (ticked s) d ≡ true → c ≤ d
@@ -103,25 +102,25 @@ module _ {t : Read} {S : List Visit} (G : Given t S) where
   pub data Leads (s : Run) (b : ℕ) : Outcome → Type 0 where
     no : Leads s b forbidden
     onward : (u : Run) → Live u → u .used ≡ suc (s .used) → u .tick ≡ cond (eqb b 255) (suc (s .tick)) (s .tick) → Leads s b (on u)
-    arrives : b ≡ 255 → Tied G (ticked s) → suc (s .tick) ≡ t .horizon → Leads s b (over (ticked s) 0 255)
+    arrives : b ≡ 255 → Tied G (ticked s) → suc (s .tick) ≡ H → Leads s b (over (ticked s) 0 255)
     breaks : (c : ℕ) → b ≡ 255 → TooLate s c → Leads s b (over (ticked s) 2 c)
 
   module _ {s : Run} (k : Live s) where
     -- the run's lateness after a tick is the schedule's
-    late-then : (c : ℕ) → c < size (t .table) → late (settingOf t S) (suc (s .tick)) c (nodeOf s c) (standOf (nodeOf s c)) ≡ isLate S (ticked s) c
+    late-then : (c : ℕ) → c < size (t .table) → late (settingTo t H S) (suc (s .tick)) c (nodeOf s c) (standOf (nodeOf s c)) ≡ isLate S (ticked s) c
     late-then c h = late-same G (k .tied .going) c h (k .tied .ties c h) (suc (s .tick))
 
     -- the same for numbers from 0 on
-    from-zero : (c : ℕ) → lateAt (settingOf t S) (suc (s .tick)) 0 (s .nodes) c ≡ late (settingOf t S) (suc (s .tick)) c (nodeOf s c) (standOf (nodeOf s c))
-    from-zero c = let e : 0 + c ≡ c = omega arith in ap (λ (i : ℕ). late (settingOf t S) (suc (s .tick)) i (nodeOf s c) (standOf (nodeOf s c))) e
+    from-zero : (c : ℕ) → lateAt (settingTo t H S) (suc (s .tick)) 0 (s .nodes) c ≡ late (settingTo t H S) (suc (s .tick)) c (nodeOf s c) (standOf (nodeOf s c))
+    from-zero c = let e : 0 + c ≡ c = omega arith in ap (λ (i : ℕ). late (settingTo t H S) (suc (s .tick)) i (nodeOf s c) (standOf (nodeOf s c))) e
 
     -- where nobody is due, and late afterwards, a tick passes
-    tied-ticked : ((c : ℕ) → c < size (t .table) → due (settingOf t S) (s .tick) (nodeOf s c) (standOf (nodeOf s c)) ≡ false)
-        → ((c : ℕ) → c < size (t .table) → late (settingOf t S) (suc (s .tick)) c (nodeOf s c) (standOf (nodeOf s c)) ≡ false) → Tied G (ticked s)
+    tied-ticked : ((c : ℕ) → c < size (t .table) → due (settingTo t H S) (s .tick) (nodeOf s c) (standOf (nodeOf s c)) ≡ false)
+        → ((c : ℕ) → c < size (t .table) → late (settingTo t H S) (suc (s .tick)) c (nodeOf s c) (standOf (nodeOf s c)) ≡ false) → Tied G (ticked s)
     tied-ticked d l =
         record {
           ahead = k .tied .ahead;
-          going = going-tick limit (t .table) (t .horizon) S (G .sched) (G .checks) (k .tied .going) (k .below) (λ c h. later c h .room);
+          going = going-tick (G .most) (t .table) H S (G .sched) (G .checks) (k .tied .going) (k .below) (λ c h. later c h .room);
           full = k .tied .full;
           ties = λ c h. later c h .tie;
         }
@@ -130,10 +129,10 @@ module _ {t : Read} {S : List Visit} (G : Given t S) where
         later c h = ticks-on G (k .tied .going) c h (k .tied .ties c h) (d c h) (l c h)
 
     -- "Choice 255: a tick passes."
-    pub tick-leads : (b : ℕ) → b ≡ 255 → Leads s b (cond (someDue (settingOf t S) (s .tick) 0 (s .nodes)) forbidden (afterTick (settingOf t S) (ticked s) (lateNodes (settingOf t S) (suc (s .tick)) 0 (s .nodes))))
+    pub tick-leads : (b : ℕ) → b ≡ 255 → Leads s b (cond (someDue (settingTo t H S) (s .tick) 0 (s .nodes)) forbidden (afterTick (settingTo t H S) (ticked s) (lateNodes (settingTo t H S) (suc (s .tick)) 0 (s .nodes))))
     tick-leads b is =
-        go (someDue (settingOf t S) (s .tick) 0 (s .nodes)) refl (lateNodes (settingOf t S) (suc (s .tick)) 0 (s .nodes))
-        (late-as (settingOf t S) (suc (s .tick)) 0 (s .nodes))
+        go (someDue (settingTo t H S) (s .tick) 0 (s .nodes)) refl (lateNodes (settingTo t H S) (suc (s .tick)) 0 (s .nodes))
+        (late-as (settingTo t H S) (suc (s .tick)) 0 (s .nodes))
       where
         there : (c : ℕ) → c < size (t .table) → c < length (s .nodes)
         there c h = omega (arith, k .tied .full)
@@ -141,24 +140,24 @@ module _ {t : Read} {S : List Visit} (G : Given t S) where
         isTick : (u : ℕ) → u ≡ suc (s .tick) → u ≡ cond (eqb b 255) (suc (s .tick)) (s .tick)
         isTick u e = e ∙ ap (λ (n : ℕ). cond (eqb n 255) (suc (s .tick)) (s .tick)) (sym is)
 
-        further : Tied G (ticked s) → (x : Bool) → eqb (suc (s .tick)) (t .horizon) ≡ x → Leads s b (cond x (over (ticked s) 0 255) (on (ticked s)))
-        further p true q = arrives is p (eqb-true (suc (s .tick)) (t .horizon) q)
+        further : Tied G (ticked s) → (x : Bool) → eqb (suc (s .tick)) H ≡ x → Leads s b (cond x (over (ticked s) 0 255) (on (ticked s)))
+        further p true q = arrives is p (eqb-true (suc (s .tick)) H q)
         further p false q =
-            onward (ticked s) (record { tied = p; below = omega (arith, k .below, eqb-false (suc (s .tick)) (t .horizon) q) }) refl (isTick (suc (s .tick)) refl)
+            onward (ticked s) (record { tied = p; below = omega (arith, k .below, eqb-false (suc (s .tick)) H q) }) refl (isTick (suc (s .tick)) refl)
 
-        go : (x : Bool) → someDue (settingOf t S) (s .tick) 0 (s .nodes) ≡ x → (l : List ℕ) → LateAs (settingOf t S) (suc (s .tick)) 0 (s .nodes) l
-            → Leads s b (cond x forbidden (afterTick (settingOf t S) (ticked s) l))
+        go : (x : Bool) → someDue (settingTo t H S) (s .tick) 0 (s .nodes) ≡ x → (l : List ℕ) → LateAs (settingTo t H S) (suc (s .tick)) 0 (s .nodes) l
+            → Leads s b (cond x forbidden (afterTick (settingTo t H S) (ticked s) l))
         go true q l a = no
         go false q [] a =
-            further (tied-ticked (λ c h. due-none (settingOf t S) (s .tick) 0 (s .nodes) q c (there c h)) (λ c h. sym (from-zero c) ∙ a c (there c h)))
-            (eqb (suc (s .tick)) (t .horizon))
+            further (tied-ticked (λ c h. due-none (settingTo t H S) (s .tick) 0 (s .nodes) q c (there c h)) (λ c h. sym (from-zero c) ∙ a c (there c h)))
+            (eqb (suc (s .tick)) H)
             refl
         go false q (d ∷ ds) a =
             let e : d ≡ a .0 = omega (arith, a .1) in
             let h : a .0 < size (t .table) = omega (arith, a .2, k .tied .full) in
             breaks d is
             (record {
-              idle = λ c h. due-none (settingOf t S) (s .tick) 0 (s .nodes) q c (there c h);
+              idle = λ c h. due-none (settingTo t H S) (s .tick) 0 (s .nodes) q c (there c h);
               there = omega arith;
               late = subst (λ (n : ℕ). isLate S (ticked s) n ≡ true) (sym e) (sym (late-then (a .0) h) ∙ (sym (from-zero (a .0)) ∙ a .3));
               least = λ c i f. omega (arith, a .4 c (there c i) (from-zero c ∙ (late-then c i ∙ f)));

@@ -34,23 +34,31 @@ use Rattle.model.proofs.NetGoing.{Going, first-own}
 
 -- ## What is given
 
--- a table in the limits that 7 to 12 accept with schedule S
-pub record Given (t : Read) (S : List Visit) : Type 0 where
+-- a table in the limits, a horizon, and a schedule to it, of however many passages, that 10 to 12 accept
+pub record Given (t : Read) (H : ℕ) (S : List Visit) : Type 0 where
   pub limits : InLimits t
-  pub sched : IsSchedule limit (t .table) (t .horizon) S
-  pub checks : checked (t .table) (t .horizon) S ≡ accepted S
+  pub least : 1 ≤ H
+  pub most : ℕ
+  pub sched : IsSchedule most (t .table) H S
+  pub checks : checked (t .table) H S ≡ accepted S
 
--- acceptance gives that
-pub given : (t : Read) (S : List Visit) → InLimits t → planOf t ≡ accepted S → Given t S
+-- acceptance at a horizon, with a limit, gives that
+pub given-at : (t : Read) (H most : ℕ) (S : List Visit) → InLimits t → 1 ≤ H → plan most (t .table) H ≡ accepted S → Given t H S
 unfolding plan
-given t S h e =
-    let r = after-ok (schedule limit (t .table) (t .horizon)) (λ (X : List Visit). checked (t .table) (t .horizon) X) e in
-    let same : r .0 ≡ S = checked-is (t .table) (t .horizon) (r .0) S .0 (r .2) .0 in
+given-at t H most S h k e =
+    let r = after-ok (schedule most (t .table) H) (λ (X : List Visit). checked (t .table) H X) e in
+    let same : r .0 ≡ S = checked-is (t .table) H (r .0) S .0 (r .2) .0 in
     record {
       limits = h;
-      sched = subst (IsSchedule limit (t .table) (t .horizon)) same (schedule-is (t .table) (t .horizon) limit (r .1));
-      checks = subst (λ (X : List Visit). checked (t .table) (t .horizon) X ≡ accepted S) same (r .2);
+      least = k;
+      most = most;
+      sched = subst (IsSchedule most (t .table) H) same (schedule-is (t .table) H most (r .1));
+      checks = subst (λ (X : List Visit). checked (t .table) H X ≡ accepted S) same (r .2);
     }
+
+-- acceptance gives that
+pub given : (t : Read) (S : List Visit) → InLimits t → planOf t ≡ accepted S → Given t (t .horizon) S
+given t S h e = given-at t (t .horizon) limit S h (h .leastHorizon) e
 
 -- ## One node
 
@@ -85,17 +93,17 @@ shownBy c os = only (λ o. eqb (o .component) c) os
 
 -- ## All nodes
 
-module _ {t : Read} {S : List Visit} (G : Given t S) where
+module _ {t : Read} {H : ℕ} {S : List Visit} (G : Given t H S) where
   -- the network's side
   abbrev pub Along : ℕ → (ℕ → List Visit) → List Work → Type 0
-  Along τ A ws = Going limit (t .table) (t .horizon) S (G .sched) (G .checks) τ A ws
+  Along τ A ws = Going (G .most) (t .table) H S (G .sched) (G .checks) τ A ws
 
   -- the run's state: every node and the network are where the schedule has them
   pub record Tied (s : Run) : Type 0 where
     pub ahead : ℕ → List Visit
     pub going : Along (s .tick) ahead (s .works)
     pub full : length (s .nodes) ≡ size (t .table)
-    pub ties : (c : ℕ) → c < size (t .table) → Tie (t .table) (t .horizon) S c (s .tick) (nodeOf s c) (shownBy c (s .observations)) (ahead c)
+    pub ties : (c : ℕ) → c < size (t .table) → Tie (t .table) H S c (s .tick) (nodeOf s c) (shownBy c (s .observations)) (ahead c)
 
   -- the part of the program of node c has the component's blocks
   pub coded : (c : ℕ) → c < size (t .table) → Coded (partBytes (programBytes t) c) (componentOf (t .table) c)
@@ -109,9 +117,9 @@ module _ {t : Read} {S : List Visit} (G : Given t S) where
   pub opened-first : {τ : ℕ} {A : ℕ → List Visit} {ws : List Work} → Along τ A ws → (c : ℕ) → c < size (t .table) → (v : Visit) (vs : List Visit) → A c ≡ v ∷ vs
       → Begins c (componentOf (t .table) c) (v .entry) v
   opened-first g c h v vs e =
-      let o = first-own limit (t .table) (t .horizon) S (G .sched) (G .checks) g c h v vs e in
-      let n : Entered (t .horizon) (v .component) (componentOf (t .table) (v .component)) v = all-in (entered (G .sched)) (o .0) in
-      let m : Entered (t .horizon) c (componentOf (t .table) c) v = subst (λ (i : ℕ). Entered (t .horizon) i (componentOf (t .table) i) v) (o .1) n in
+      let o = first-own (G .most) (t .table) H S (G .sched) (G .checks) g c h v vs e in
+      let n : Entered H (v .component) (componentOf (t .table) (v .component)) v = all-in (entered (G .sched)) (o .0) in
+      let m : Entered H c (componentOf (t .table) c) v = subst (λ (i : ℕ). Entered H i (componentOf (t .table) i) v) (o .1) n in
       record { opens = opened c (componentOf (t .table) c) (v .entry) (m .opens) }
 
 -- the first passage ahead has the number of the works finished

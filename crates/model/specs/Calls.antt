@@ -135,4 +135,4 @@ runCall table choices lent = runRead (readTable table) choices lent
 
 -- demand 3, of these bytes and these choices: for the accepted table that the bytes are, if they are one
 abbrev pub Demand3Of : List ℕ → List ℕ → Type 0
-Demand3Of table choices = (t : Read) (S : List Visit) → readTable table ≡ accepted t → planOf t ≡ accepted S → Demand3 t S choices
+Demand3Of table choices = (t : Read) (S : List Visit) → readTable table ≡ accepted t → planOf t ≡ accepted S → Demand3 t (t .horizon) S choices

@@ -14,7 +14,7 @@ use Rattle.model.specs.Schedule.{Visit, own}
 use Rattle.model.specs.Checks.{planOf}
 use Rattle.model.specs.Network.{State, Label, Taken, Place, Work, one, two, Observation, start, follow, passagesOn, worksOn, observationsOn}
 use Rattle.model.specs.Machine.{Node}
-use Rattle.model.specs.Run.{Setting, settingOf, Run, Result, Outcome, forbidden, on, over, Stand, sleeping, sending, listening, finishing, adding, working, taking, elsewhere, nowhere, standOf, nodeOf, windowEnd, listeners, run, startRun, choose1}
+use Rattle.model.specs.Run.{Setting, settingTo, Run, Result, Outcome, forbidden, on, over, Stand, sleeping, sending, listening, finishing, adding, working, taking, elsewhere, nowhere, standOf, nodeOf, windowEnd, listeners, run, startRun, choose1}
 
 -- ## "passes as the schedule says"
 
@@ -151,9 +151,9 @@ states g (b ∷ bs) s = s ∷ furtherStates (choose1 g s b) (λ t. states g bs t
 
 -- ## The demand
 
-module _ (t : Read) (S : List Visit) (cs : List ℕ) where
+module _ (t : Read) (H : ℕ) (S : List Visit) (cs : List ℕ) where
   abbrev pub setting : Setting
-  setting = settingOf t S
+  setting = settingTo t H S
 
   abbrev pub result : Result
   result = run setting cs
@@ -172,8 +172,8 @@ module _ (t : Read) (S : List Visit) (cs : List ℕ) where
 
   -- how the run ended, and that it had not ended before
   pub data Ended : Type 0 where
-    horizon : result .end ≡ 0 → result .state .tick ≡ t .horizon → ((c : ℕ) → c < size (t .table) → isLate S (result .state) c ≡ false) → Ended
-    usedUp : result .end ≡ 1 → result .state .used ≡ length cs → result .state .tick < t .horizon → Ended
+    horizon : result .end ≡ 0 → result .state .tick ≡ H → ((c : ℕ) → c < size (t .table) → isLate S (result .state) c ≡ false) → Ended
+    usedUp : result .end ≡ 1 → result .state .used ≡ length cs → result .state .tick < H → Ended
     late : result .end ≡ 2 → Ended
     notAllowed : result .end ≡ 3 → result .state .used < length cs → choose1 setting (result .state) (getD cs (result .state .used) 0) ≡ forbidden → Ended
 
@@ -207,9 +207,9 @@ module _ (t : Read) (S : List Visit) (cs : List ℕ) where
     pub used : result .state .used ≤ length cs
     pub ticks : result .state .tick ≡ ticksIn (take (result .state .used) cs)
     pub ended : Ended
-    pub notBefore : (k : ℕ) → k < result .state .used → stateAfter k .tick < t .horizon
+    pub notBefore : (k : ℕ) → k < result .state .used → stateAfter k .tick < H
     pub refused : result .end ≡ 3 → Refused (getD cs (result .state .used) 0)
 
 -- for every accepted table and every list of choices
 abbrev pub Promise : Type 0
-Promise = (bytes : List ℕ) (t : Read) (S : List Visit) → readTable bytes ≡ accepted t → planOf t ≡ accepted S → (cs : List ℕ) → Demand3 t S cs
+Promise = (bytes : List ℕ) (t : Read) (S : List Visit) → readTable bytes ≡ accepted t → planOf t ≡ accepted S → (cs : List ℕ) → Demand3 t (t .horizon) S cs

@@ -14,7 +14,7 @@ use Rattle.model.specs.Window.{channelOf}
 use Rattle.model.specs.Schedule.{Visit, visitArc, own}
 use Rattle.model.specs.Checks.{mayHear, planOf, visitAt}
 use Rattle.model.specs.Network.{State, Label, together, placeOf, start, mayJoin, follow, passagesOn, Observation, observation}
-use Rattle.model.specs.Run.{settingOf, run}
+use Rattle.model.specs.Run.{settingTo, run}
 use Rattle.model.specs.Demand3.{PassAs, SteppedBefore, observationsOf}
 
 -- ## Something happens
@@ -28,22 +28,22 @@ abbrev pub dueOf : Read → List Visit → ℕ → ℕ → List Observation
 dueOf t S c now = map (λ v. observation (componentOf (t .table) c) c (v .entry) (v .edge)) (readyPassages S c now)
 
 -- these choices end with the horizon, at the tick H, and the observations of each node are those of all its passages with ready < H
-pub record ReachesBy (t : Read) (S : List Visit) (choices : List ℕ) : Type 0 where
-  pub end : run (settingOf t S) choices .end ≡ 0
-  pub tick : run (settingOf t S) choices .state .tick ≡ t .horizon
-  pub shown : (c : ℕ) → c < size (t .table) → observationsOf c (run (settingOf t S) choices) ≡ dueOf t S c (t .horizon)
+pub record ReachesBy (t : Read) (H : ℕ) (S : List Visit) (choices : List ℕ) : Type 0 where
+  pub end : run (settingTo t H S) choices .end ≡ 0
+  pub tick : run (settingTo t H S) choices .state .tick ≡ H
+  pub shown : (c : ℕ) → c < size (t .table) → observationsOf c (run (settingTo t H S) choices) ≡ dueOf t S c H
 
 -- some choices do
-abbrev pub Reaches : Read → List Visit → Type 0
-Reaches t S = (choices : List ℕ) × ReachesBy t S choices
+abbrev pub Reaches : Read → ℕ → List Visit → Type 0
+Reaches t H S = (choices : List ℕ) × ReachesBy t H S choices
 
 -- Whatever was chosen: where the choices are used up and the run has not ended otherwise, some further choices do. No run gets stuck.
-abbrev pub Continues : Read → List Visit → Type 0
-Continues t S = (choices : List ℕ) → run (settingOf t S) choices .end ≡ 1 → (more : List ℕ) × ReachesBy t S (choices ++ more)
+abbrev pub Continues : Read → ℕ → List Visit → Type 0
+Continues t H S = (choices : List ℕ) → run (settingTo t H S) choices .end ≡ 1 → (more : List ℕ) × ReachesBy t H S (choices ++ more)
 
 -- for every accepted table
 abbrev pub Happens : Type 0
-Happens = (bytes : List ℕ) (t : Read) (S : List Visit) → readTable bytes ≡ accepted t → planOf t ≡ accepted S → Reaches t S × Continues t S
+Happens = (bytes : List ℕ) (t : Read) (S : List Visit) → readTable bytes ≡ accepted t → planOf t ≡ accepted S → Reaches t (t .horizon) S × Continues t (t .horizon) S
 
 -- ## Acceptance means it
 

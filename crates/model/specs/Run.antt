@@ -34,15 +34,19 @@ readyOfNth [] k = none
 readyOfNth (v ∷ vs) zero = some (v .ready)
 readyOfNth (v ∷ vs) (suc k) = readyOfNth vs k
 
--- "A run is handed a table": its program, horizon, counts, and its schedule
-abbrev pub settingOf : Read → List Visit → Setting
-settingOf t S =
+-- "A run is handed a table": its program, counts, and its schedule to a horizon
+abbrev pub settingTo : Read → ℕ → List Visit → Setting
+settingTo t H S =
     record {
       program = programBytes t;
-      horizon = t .horizon;
+      horizon = H;
       counts = map (λ C. record { clocks = C .clocks; variables = C .variables }) (t .table .components);
       ready = λ c k. readyOfNth (own c S) k;
     }
+
+-- to the table's own horizon
+abbrev pub settingOf : Read → List Visit → Setting
+settingOf t S = settingTo t (t .horizon) S
 
 -- The run's state. Beside the observations stands the log of finished works, which the code does not keep.
 pub record Run : Type 0 where

@@ -71,7 +71,7 @@ module _ (bs cs lent : List ℕ) (v : Valid bs) (S : List Visit) (p : planOf (re
     pub is-done : length cs ≤ 1000000 → runCall bs cs lent ≡ ran (run (settingOf (readOf bs) S) cs) lent
     is-done k = is-run ∙ rw (le-ltb (length lent) (length S * 32) h, le-ltb 1000000 (length cs) k)
 
-  the-demand : Demand3 (readOf bs) S cs
+  the-demand : Demand3 (readOf bs) (readOf bs .horizon) S cs
   the-demand = demanded bs cs (readOf bs) S (valid-read bs v) p
 
   -- the numbers are small
