@@ -2,17 +2,17 @@
 use mathlib.Core.Path.{_≡_, refl, sym, ap, _∙_}
 use mathlib.Core.Bool.{Bool, true, false, _&&_}
 use mathlib.Core.List.{List, [], _∷_}
-use Prim.Native.Nat.{ℕ, zero, suc, _+_, _^_, _≤_, _<_}
+use Prim.Native.Nat.{ℕ, zero, suc, _+_, _-_, _^_, _≤_, _<_}
 use native.Mathlib.Omega.{arith}
 use lib.Bits.{bitOr, or-zero-l}
 use lib.Count.{ones, trailingZeros}
 use lib.ListN.{length, getD, set, length-append, length-set}
 use lib.Seq.{getD-set-same}
-use Rattle.model.specs.Lists.{snoc}
+use Rattle.model.specs.Lists.{only, snoc}
 use Rattle.model.specs.Schedule.{Visit}
 use Rattle.model.specs.Checks.{startsEarlier, endsLater, heardWell}
-use Rattle.rows.specs.Rows.{num, rowVisit}
-use Rattle.checks.proofs.Swept.{Swept, swept-in, swept-out}
+use Rattle.rows.specs.Rows.{num, rowVisit, rowsFrom, RowsPlaced}
+use Rattle.checks.proofs.Swept.{Near, back-in, back-out, Swept, swept-in, swept-out}
 
 -- ## One bit
 
@@ -69,6 +69,59 @@ noted-more l rows n found mask bits windows j c h e w b k =
             at = rw (← e) (getD-set-same rows c j 0 w);
           };
     }
+
+-- the same, where the row stands before those noted
+pub noted-before : (l rows : List ℕ) (n : ℕ) (found : List Visit) (mask bits windows j c : ℕ) → j < n → c ≡ num l j 0 → c < length rows → bits ≡ bitOr mask (2 ^ c)
+    → Noted l n found mask windows rows → Noted l n (rowVisit l j ∷ found) bits (windows + 1) (set rows c j)
+noted-before l rows n found mask bits windows j c h e w b k =
+    record {
+      count = omega (arith, k .count);
+      none = λ z. absurd (omega arith);
+      one = λ o.
+          let z : windows ≡ 0 = omega arith in
+          record {
+            row = j;
+            there = h;
+            only = ap (λ (vs : List Visit). rowVisit l j ∷ vs) (empty-list found (sym (k .count) ∙ z));
+            bit = b ∙ ap (λ (m : ℕ). bitOr m (2 ^ c)) (k .none z) ∙ or-zero-l (2 ^ c) ∙ ap (λ (m : ℕ). 2 ^ m) e;
+            at = rw (← e) (getD-set-same rows c j 0 w);
+          };
+    }
+
+-- ## The loop over the rows before row i
+
+-- what is found and noted from row j on, up to row i
+pub record ListenedBack (p : Visit → Bool) (l : List ℕ) (n i j mask windows : ℕ) (rows : List ℕ) : Type 0 where
+  pub found : List Visit
+  pub back : only p (rowsFrom l j (i - j)) ≡ found
+  pub noted : Noted l n found mask windows rows
+  pub most : windows + j ≤ i
+  pub room : length rows ≡ 8
+
+module _ (p : Visit → Bool) (bs l : List ℕ) (n i : ℕ) (r : RowsPlaced bs l n) (there : i < n) (near : Near p l i)
+    (j k mask windows : ℕ) (rows : List ℕ) (h : k < i) (b : j ≤ k) (ended : (t : ℕ) → j ≤ t → t < k → num l t 5 < num l i 4)
+    (x : Bool) (e : x ≡ p (rowVisit l k)) (a : ListenedBack p l n i (k + 1) mask windows rows) (m w : ℕ) (v : List ℕ) where
+  pub listened-back-in : x ≡ true → (bits c : ℕ) → c ≡ num l k 0 → c < 8 → bits ≡ bitOr mask (2 ^ c) → m ≡ bits → w ≡ windows + 1 → v ≡ set rows c k → ListenedBack p l n i j m w v
+  listened-back-in t bits c f g o q u y =
+      rw (q, u, y)
+      record {
+        found = rowVisit l k ∷ a .found;
+        back = back-in p bs l n i r there near j k (a .found) h b ended (a .back) x e t;
+        noted = noted-before l rows n (a .found) mask bits windows k c (omega (arith, h, there)) f (omega (arith, a .room)) o (a .noted);
+        most = omega (arith, a .most);
+        room = length-set rows c k ∙ a .room;
+      }
+
+  pub listened-back-out : x ≡ false → m ≡ mask → w ≡ windows → v ≡ rows → ListenedBack p l n i j m w v
+  listened-back-out t q u y =
+      rw (q, u, y)
+      record {
+        found = a .found;
+        back = back-out p bs l n i r there near j k (a .found) h b ended (a .back) x e t;
+        noted = a .noted;
+        most = omega (arith, a .most);
+        room = a .room;
+      }
 
 -- ## The loop
 

@@ -3,7 +3,7 @@ use mathlib.Core.Path.{_≡_, refl, sym, ap, _∙_}
 use mathlib.Core.Bool.{Bool, true, false, cond, _&&_, _||_, not}
 use mathlib.Core.List.{List, [], _∷_, _++_}
 use mathlib.Core.Option.{Option}
-use Prim.Native.Nat.{ℕ, _≤_, _<_}
+use Prim.Native.Nat.{ℕ, _+_, _-_, _≤_, _<_}
 use native.Mathlib.Omega.{arith}
 use borrow.Author.Tests.{lt-leb, not-true, not-false}
 use lib.Dec.{leb, ltb, eqb}
@@ -13,9 +13,10 @@ use Rattle.model.specs.Table.{Table}
 use Rattle.model.specs.Window.{channelOf}
 use Rattle.model.specs.Schedule.{Visit, visitArc, names, others}
 use Rattle.model.specs.Checks.{shareTick, startsEarlier, endsLater, isSend, isReceive, meets, collides, mayHear, heardWell, unheard, two, crowded}
-use Rattle.model.proofs.Members.{only-none, any-none}
+use Rattle.model.proofs.Members.{only-none, any-none, any-append}
 use Rattle.model.proofs.Heard.{two-is}
-use Rattle.rows.specs.Rows.{rowVisit}
+use Rattle.rows.specs.Rows.{rowVisit, rowsFrom, rowsOf}
+use Rattle.rows.proofs.Sought.{rows-split}
 use Rattle.checks.proofs.Swept.{Near}
 
 -- ## Tests
@@ -127,6 +128,19 @@ module _ (T : Table) (H : ℕ) where
 
   asked : (s : Visit) (x b y : Bool) → x ≡ isSend T H s → not x ≡ false → y ≡ b → y ≡ isSend T H s && b
   asked s x b y e t q = let f : isSend T H s ≡ true = sym e ∙ not-false x t in rw f q
+
+  -- with one of the rows before row i
+  pub collides-before : (l : List ℕ) (n i : ℕ) → i ≤ n → (s : Visit) (x : Bool) → x ≡ isSend T H s → not x ≡ false → any (meets T H s) (rowsOf l i) ≡ true
+      → true ≡ collides T H (rowsOf l n) s
+  collides-before l n i h s x e t q =
+      let k : n ≡ i + (n - i) = omega arith in
+      asked s x _ true e t
+      (sym (
+      ap (λ (m : ℕ). any (meets T H s) (rowsOf l m)) k
+      ∙ ap (any (meets T H s)) (rows-split l 0 i (n - i))
+      ∙ any-append (meets T H s) (rowsOf l i) (rowsFrom l (0 + i) (n - i))
+      ∙ rw q
+      ))
 
   module _ (S : List Visit) (s : Visit) (x : Bool) (e : x ≡ isSend T H s) (t : not x ≡ false) where
     pub collides-none : [] ≡ only (meets T H s) S → false ≡ collides T H S s

@@ -1,13 +1,16 @@
 -- A sweep over the rows that may share a tick with row i: what was found before row j, and what is left. Assumes nothing.
-use mathlib.Core.Path.{_≡_, refl, sym, ap, _∙_}
-use mathlib.Core.Bool.{Bool, true, false}
+use mathlib.Core.Path.{_≡_, refl, sym, ap, subst, _∙_}
+use mathlib.Core.Bool.{Bool, true, false, _||_}
 use mathlib.Core.List.{List, [], _∷_, _++_, append-assoc, append-nil}
 use Prim.Native.Nat.{ℕ, zero, suc, _+_, _-_, _≤_, _<_}
 use native.Mathlib.Numerals.{add-one}
 use native.Mathlib.Omega.{arith}
+use borrow.Author.Tests.{ltb-true, ltb-false}
+use lib.Dec.{ltb}
 use lib.ListN.{length, length-append}
-use Rattle.model.specs.Lists.{only, snoc}
+use Rattle.model.specs.Lists.{any, only, snoc}
 use Rattle.model.specs.Schedule.{Visit}
+use Rattle.model.proofs.Bools.{clash}
 use Rattle.model.proofs.Members.{only-append}
 use Rattle.rows.specs.Rows.{num, rowVisit, rowsFrom, rowsOf, RowsPlaced}
 use Rattle.rows.proofs.Sought.{rows-split}
@@ -66,22 +69,84 @@ pub record Near (p : Visit → Bool) (l : List ℕ) (i : ℕ) : Type 0 where
   pub after : (j : ℕ) → num l i 5 < num l j 4 → p (rowVisit l j) ≡ false
 
 module _ (p : Visit → Bool) (bs l : List ℕ) (n i : ℕ) (r : RowsPlaced bs l n) (there : i < n) (near : Near p l i) where
-  -- the sweep may start at row i's number 8 ..
-  pub swept-from : (j : ℕ) → j ≡ num l i 8 → Swept p l n j []
-  swept-from j e =
-      let k : n ≡ j + (n - j) = omega (arith, r .low i there) in
-      let z : 0 + j ≡ j = omega arith in
-      let none : only p (rowsFrom l 0 j) ≡ [] =
-      rows-none p l 0 j (λ t a c. near .before t (omega (arith, r .swept i t there (omega arith), r .row i there .early))) in
-      let split : rowsOf l n ≡ rowsFrom l 0 j ++ rest l n j =
-      ap (rowsFrom l 0) k ∙ rows-split l 0 j (n - j) ∙ ap (λ (m : ℕ). rowsFrom l 0 j ++ rowsFrom l m (n - j)) z in
+  -- ## The rows before row i, backward
+
+  -- from row j on all have ended ..
+  ended-none : (j m : ℕ) → ((t : ℕ) → j ≤ t → t < j + m → num l t 5 < num l i 4) → only p (rowsFrom l j m) ≡ []
+  ended-none j m e = rows-none p l j m (λ t a c. near .before t (e t a c))
+
+  pub back-start : (j : ℕ) → j ≤ i → ((t : ℕ) → j ≤ t → t < i → num l t 5 < num l i 4) → only p (rowsFrom l j (i - j)) ≡ []
+  back-start j h e = ended-none j (i - j) (λ t a c. e t a (omega arith))
+
+  module _ (j k : ℕ) (found : List Visit) (h : k < i) (a : j ≤ k) (e : (t : ℕ) → j ≤ t → t < k → num l t 5 < num l i 4)
+      (q : only p (rowsFrom l (k + 1) (i - (k + 1))) ≡ found) where
+    -- .. row k is looked at, and before it those that ended are left out
+    back-on : only p (rowsFrom l j (i - j)) ≡ only p (rowVisit l k ∷ rowsFrom l (k + 1) (i - (k + 1)))
+    unfolding rowsFrom
+    back-on =
+        let m : i - j ≡ (k - j) + (i - k) = omega arith in
+        let z : j + (k - j) ≡ k = omega arith in
+        let u : i - k ≡ suc (i - suc k) = omega arith in
+        let split : rowsFrom l j (i - j) ≡ rowsFrom l j (k - j) ++ rowsFrom l k (i - k) =
+        ap (rowsFrom l j) m ∙ rows-split l j (k - j) (i - k) ∙ ap (λ (x : ℕ). rowsFrom l j (k - j) ++ rowsFrom l x (i - k)) z in
+        let one : rowsFrom l k (i - k) ≡ rowVisit l k ∷ rowsFrom l (k + 1) (i - (k + 1)) = rw (add-one k) (ap (rowsFrom l k) u) in
+        ap (only p) split
+        ∙ only-append p (rowsFrom l j (k - j)) (rowsFrom l k (i - k))
+        ∙ ap (λ (vs : List Visit). vs ++ only p (rowsFrom l k (i - k))) (ended-none j (k - j) (λ t x y. e t x (omega arith)))
+        ∙ ap (only p) one
+
+    pub back-in : (x : Bool) → x ≡ p (rowVisit l k) → x ≡ true → only p (rowsFrom l j (i - j)) ≡ rowVisit l k ∷ found
+    back-in x f t =
+        let g : p (rowVisit l k) ≡ true = sym f ∙ t in
+        back-on ∙ rw g (ap (λ (vs : List Visit). rowVisit l k ∷ vs) q)
+
+    pub back-out : (x : Bool) → x ≡ p (rowVisit l k) → x ≡ false → only p (rowsFrom l j (i - j)) ≡ found
+    back-out x f t =
+        let g : p (rowVisit l k) ≡ false = sym f ∙ t in
+        back-on ∙ rw g q
+
+  -- none is left
+  pub back-done : (j : ℕ) (found : List Visit) → j ≤ 0 → only p (rowsFrom l j (i - j)) ≡ found → only p (rowsOf l i) ≡ found
+  back-done j found h q =
+      let z : j ≡ 0 = omega arith in
+      let u : i - 0 ≡ i = omega arith in
+      subst (λ (m : ℕ). only p (rowsFrom l 0 m) ≡ found) u (subst (λ (m : ℕ). only p (rowsFrom l m (i - m)) ≡ found) z q)
+
+  -- row k is one of them
+  pub back-any : (k : ℕ) (x : Bool) → k < i → x ≡ p (rowVisit l k) → x ≡ true → any p (rowsOf l i) ≡ true
+  unfolding rowsFrom
+  back-any k x h f t = go 0 i (omega arith) (omega arith)
+    where
+      go : (j m : ℕ) → j ≤ k → k < j + m → any p (rowsFrom l j m) ≡ true
+      go j zero a c = absurd (omega arith)
+      go j (suc m) a c = pick (go (suc j) m) (p (rowVisit l j)) refl
+        where
+          pick : (suc j ≤ k → k < suc j + m → any p (rowsFrom l (suc j) m) ≡ true) → (y : Bool) → p (rowVisit l j) ≡ y → y || any p (rowsFrom l (suc j) m) ≡ true
+          pick ih true g = refl
+          pick ih false g = later (ltb j k) refl
+            where
+              later : (y : Bool) → ltb j k ≡ y → any p (rowsFrom l (suc j) m) ≡ true
+              later true u = ih (omega (arith, ltb-true j k u)) (omega arith)
+              later false u =
+                  let z : j ≡ k = omega (arith, ltb-false j k u) in
+                  clash (sym g ∙ rw z (sym f ∙ t))
+
+  -- ## From row i on
+
+  -- what was found before row i
+  pub swept-at : (found : List Visit) → only p (rowsOf l i) ≡ found → Swept p l n i found
+  swept-at found q =
+      let k : n ≡ i + (n - i) = omega (arith, there) in
+      let z : 0 + i ≡ i = omega arith in
+      let split : rowsOf l n ≡ rowsFrom l 0 i ++ rest l n i =
+      ap (rowsFrom l 0) k ∙ rows-split l 0 i (n - i) ∙ ap (λ (m : ℕ). rowsFrom l 0 i ++ rowsFrom l m (n - i)) z in
       sym (
       ap (only p) split
-      ∙ only-append p (rowsFrom l 0 j) (rest l n j)
-      ∙ ap (λ (vs : List Visit). vs ++ only p (rest l n j)) none
+      ∙ only-append p (rowsFrom l 0 i) (rest l n i)
+      ∙ ap (λ (vs : List Visit). vs ++ only p (rest l n i)) q
       )
 
-  -- .. and may stop at a row that is entered after row i's end
+  -- the sweep may stop at a row that is entered after row i's end
   pub swept-stop : (j : ℕ) (found : List Visit) → j < n → num l i 5 < num l j 3 → Swept p l n j found → found ≡ only p (rowsOf l n)
   swept-stop j found h e q =
       swept-all p l n j found

@@ -5,7 +5,7 @@ ghost use Prim.Native.Nat.{_+_, _*_, _^_, _≤_, _<_};
 ghost use lib.Bits.{bitOr};
 ghost use lib.ListN.{length};
 ghost use Rattle.model.specs.declared.Verdict.the-variants.{Refused};
-ghost use Rattle.model.specs.Lists.{first, only, isNone};
+ghost use Rattle.model.specs.Lists.{first, any, only, isNone};
 ghost use Rattle.model.specs.Window.{channelOf};
 ghost use Rattle.model.specs.Places.{readOf};
 ghost use Rattle.model.specs.Schedule.{visitArc, others};
@@ -62,6 +62,24 @@ pub fn is_met(s: &[u8], l: &[u32], i: usize, j: usize, h: u32) -> bool
     is_send(s, l, j, h)
 }
 
+// Whether a row before row i is a send of another component that shares a tick with row i, a send. Rows that ended before its window
+// are passed over by their links.
+fn is_met_before(s: &[u8], l: &[u32], n: usize, i: usize, h: u32) -> bool
+    requires { ⌜ RowsPlaced (now s) (now l) n × (i < n) ⌝ }
+    ensures { λ r. ⌜ r ≡ any (meets (readOf (now (s .entry)) .table) h (rowVisit (now (l .entry)) i)) (rowsOf (now (l .entry)) i) ⌝ }
+{
+    let ready = rows::number(l, i, 4);
+    let mut j = rows::open_before(l, i, ready);
+    while 0 < j {
+        let k = j - 1;
+        if is_met(s, l, i, k, h) {
+            return true;
+        }
+        j = rows::open_before(l, k, ready);
+    }
+    false
+}
+
 // Whether the send window of row i shares a tick with one of another component.
 pub fn collides_with_one(s: &[u8], l: &[u32], n: usize, i: usize, h: u32) -> bool
     requires { ⌜ RowsPlaced (now s) (now l) n × (i < n) ⌝ }
@@ -70,8 +88,11 @@ pub fn collides_with_one(s: &[u8], l: &[u32], n: usize, i: usize, h: u32) -> boo
     if !is_send(s, l, i, h) {
         return false;
     }
+    if is_met_before(s, l, n, i, h) {
+        return true;
+    }
     let until = rows::number(l, i, 5);
-    let mut j = rows::index(l, i, 8);
+    let mut j = i;
     while j < n {
         if until < rows::number(l, j, 3) {
             return false;
@@ -127,7 +148,19 @@ pub fn is_heard_well(s: &[u8], l: &[u32], n: usize, i: usize) -> bool
     let mut mask: u8 = 0;
     let mut windows: usize = 0;
     let mut row: [usize; 8] = [0; 8];
-    let mut j = rows::index(l, i, 8);
+    let ready = rows::number(l, i, 4);
+    let mut b = rows::open_before(l, i, ready);
+    while 0 < b {
+        let k = b - 1;
+        if may_hear(s, l, k, i, channel) {
+            let c = rows::index(l, k, 0);
+            mask = with_bit(mask, c);
+            row[c] = k;
+            windows += 1;
+        }
+        b = rows::open_before(l, k, ready);
+    }
+    let mut j = i;
     while j < n {
         if until < rows::number(l, j, 3) {
             break;
@@ -175,6 +208,24 @@ fn hears_send(s: &[u8], l: &[u32], i: usize, j: usize, h: u32) -> bool
     rows::row_lists(s, l, i, rows::row_sent(s, l, j))
 }
 
+// How many rows before row i, a receive, are sends that it may hear.
+fn sends_before(s: &[u8], l: &[u32], n: usize, i: usize, h: u32) -> usize
+    requires { ⌜ RowsPlaced (now s) (now l) n × (i < n) × (isReceive (readOf (now s) .table) (rowVisit (now l) i) ≡ true) ⌝ }
+    ensures { λ r. ⌜ r ≡ length (only (λ o. isSend (readOf (now (s .entry)) .table) h o && mayHear (readOf (now (s .entry)) .table) (rowVisit (now (l .entry)) i) o) (rowsOf (now (l .entry)) i)) ⌝ }
+{
+    let ready = rows::number(l, i, 4);
+    let mut sends: usize = 0;
+    let mut j = rows::open_before(l, i, ready);
+    while 0 < j {
+        let k = j - 1;
+        if hears_send(s, l, i, k, h) {
+            sends += 1;
+        }
+        j = rows::open_before(l, k, ready);
+    }
+    sends
+}
+
 // Whether the receive window of row i shares a tick with two send windows of other components on its channels.
 pub fn is_crowded(s: &[u8], l: &[u32], n: usize, i: usize, h: u32) -> bool
     requires { ⌜ RowsPlaced (now s) (now l) n × (i < n) ⌝ }
@@ -184,8 +235,11 @@ pub fn is_crowded(s: &[u8], l: &[u32], n: usize, i: usize, h: u32) -> bool
         return false;
     }
     let until = rows::number(l, i, 5);
-    let mut sends: usize = 0;
-    let mut j = rows::index(l, i, 8);
+    let mut sends = sends_before(s, l, n, i, h);
+    if 2 <= sends {
+        return true;
+    }
+    let mut j = i;
     while j < n {
         if until < rows::number(l, j, 3) {
             return false;

@@ -45,7 +45,7 @@ rows-snoc l n = let e : 0 + n ≡ n = omega arith in rows-split l 0 n 1 ∙ rw e
 -- ## A row added
 
 -- what is asked of the numbers of a row that is added after n rows
-pub record RowFits (bs l : List ℕ) (n component edge entry ready end place low : ℕ) : Type 0 where
+pub record RowFits (bs l : List ℕ) (n component edge entry ready end place back : ℕ) : Type 0 where
   pub present : component < size (readOf bs .table)
   pub there : edge < length (componentIn bs component .arcs)
   pub stands : place ≡ arcPlace bs (startOf bs component) edge
@@ -53,13 +53,13 @@ pub record RowFits (bs l : List ℕ) (n component edge entry ready end place low
   pub window : ready < end
   pub small : end ≤ 200000
   pub order : (j : ℕ) → j < n → num l j 3 ≤ entry
-  pub among : low ≤ n
-  pub swept : (j : ℕ) → j < low → num l j 5 < entry
+  pub among : back ≤ n
+  pub skips : (j : ℕ) → back ≤ j → j < n → num l j 5 ≤ end
 
-module _ (l : List ℕ) (n component edge location entry ready end place low : ℕ) (fits : n * 9 + 9 ≤ length l) where
+module _ (l : List ℕ) (n component edge location entry ready end place back : ℕ) (fits : n * 9 + 9 ≤ length l) where
   -- what `put_row` writes, and the rows then
   abbrev pub newRow : List ℕ
-  newRow = component ∷ edge ∷ location ∷ entry ∷ ready ∷ end ∷ 255 ∷ place ∷ low ∷ []
+  newRow = component ∷ edge ∷ location ∷ entry ∷ ready ∷ end ∷ 255 ∷ place ∷ back ∷ []
 
   abbrev pub added : List ℕ
   added = sets l (n * 9) newRow
@@ -98,7 +98,7 @@ module _ (l : List ℕ) (n component edge location entry ready end place low : �
       rows-snoc added n
       ∙ ap₂ snoc (rows-same l added 0 n (λ j m a b c. old-number j m (omega arith) c)) visit-added
 
-  module _ (bs : List ℕ) (r : RowsPlaced bs l n) (f : RowFits bs l n component edge entry ready end place low) where
+  module _ (bs : List ℕ) (r : RowsPlaced bs l n) (f : RowFits bs l n component edge entry ready end place back) where
     new-placed : RowPlaced bs added n
     new-placed =
         record {
@@ -119,22 +119,21 @@ module _ (l : List ℕ) (n component edge location entry ready end place low : �
     old-order : (j : ℕ) → j < n → (i : ℕ) → i ≤ j → num added i 3 ≤ num added j 3
     old-order j h i a = rw (old-number i 3 (omega arith) (omega arith), old-number j 3 h (omega arith)) (r .order i j a h)
 
-    old-low : (j : ℕ) → j < n → num added j 8 ≤ j
-    old-low j h = rw (old-number j 8 h (omega arith)) (r .low j h)
+    old-back : (j : ℕ) → j < n → num added j 8 ≤ j
+    old-back j h = rw (old-number j 8 h (omega arith)) (r .back j h)
 
-    new-low : num added n 8 ≤ n
-    new-low = rw (new-number 8 (omega arith)) (f .among)
+    new-back : num added n 8 ≤ n
+    new-back = rw (new-number 8 (omega arith)) (f .among)
 
-    old-swept : (j : ℕ) → j < n → (i : ℕ) → i < num added j 8 → num added i 5 < num added j 3
-    old-swept j h i a =
-        let b : i < num l j 8 = omega (arith, old-number j 8 h (omega arith)) in
-        let c : i < n = omega (arith, r .low j h) in
-        rw (old-number i 5 c (omega arith), old-number j 3 h (omega arith)) (r .swept j i h b)
+    old-skips : (j : ℕ) → j < n → (i : ℕ) → num added j 8 ≤ i → i < j → num added i 5 ≤ num added j 5
+    old-skips j h i a c =
+        let b : num l j 8 ≤ i = omega (arith, old-number j 8 h (omega arith)) in
+        rw (old-number i 5 (omega arith) (omega arith), old-number j 5 h (omega arith)) (r .skips j i h b c)
 
-    new-swept : (i : ℕ) → i < num added n 8 → num added i 5 < num added n 3
-    new-swept i a =
-        let b : i < low = omega (arith, new-number 8 (omega arith)) in
-        rw (old-number i 5 (omega (arith, f .among)) (omega arith), new-number 3 (omega arith)) (f .swept i b)
+    new-skips : (i : ℕ) → num added n 8 ≤ i → i < n → num added i 5 ≤ num added n 5
+    new-skips i a c =
+        let b : back ≤ i = omega (arith, new-number 8 (omega arith)) in
+        rw (old-number i 5 c (omega arith), new-number 5 (omega arith)) (f .skips i b c)
 
     -- n + 1 rows of a schedule
     pub placed-added : n < 1024 → RowsPlaced bs added (n + 1)
@@ -147,8 +146,8 @@ module _ (l : List ℕ) (n component edge location entry ready end place low : �
           order = λ i j a b.
               below-more (λ (k : ℕ). (m : ℕ) → m ≤ k → num added m 3 ≤ num added k 3) n old-order
               (λ m c. below-more (λ (k : ℕ). num added k 3 ≤ num added n 3) n new-order (omega arith) m (omega arith)) j b i a;
-          low = below-more (λ (k : ℕ). num added k 8 ≤ k) n old-low new-low;
-          swept = λ j i b a. below-more (λ (k : ℕ). (m : ℕ) → m < num added k 8 → num added m 5 < num added k 3) n old-swept new-swept j b i a;
+          back = below-more (λ (k : ℕ). num added k 8 ≤ k) n old-back new-back;
+          skips = λ j i b a c. below-more (λ (k : ℕ). (m : ℕ) → num added k 8 ≤ m → m < k → num added m 5 ≤ num added k 5) n old-skips new-skips j b i a c;
         }
 
 -- ## Messages put

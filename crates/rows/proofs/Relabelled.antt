@@ -124,11 +124,10 @@ module _ (l k : List ℕ) (n : ℕ) (agree : (i m : ℕ) → i < n → m < 9 →
         row = λ i h. same-placed bs i h (r .row i h);
         order = λ i j a h.
             rw (agree i 3 (omega arith) (omega arith) (λ e. omega arith), agree j 3 h (omega arith) (λ e. omega arith)) (r .order i j a h);
-        low = λ j h. rw (agree j 8 h (omega arith) (λ e. omega arith)) (r .low j h);
-        swept = λ j i h a.
-            let b : i < num l j 8 = omega (arith, agree j 8 h (omega arith) (λ e. omega arith)) in
-            let c : i < n = omega (arith, r .low j h) in
-            rw (agree i 5 c (omega arith) (λ e. omega arith), agree j 3 h (omega arith) (λ e. omega arith)) (r .swept j i h b);
+        back = λ j h. rw (agree j 8 h (omega arith) (λ e. omega arith)) (r .back j h);
+        skips = λ j i h a c.
+            let b : num l j 8 ≤ i = omega (arith, agree j 8 h (omega arith) (λ e. omega arith)) in
+            rw (agree i 5 (omega arith) (omega arith) (λ e. omega arith), agree j 5 h (omega arith) (λ e. omega arith)) (r .skips j i h b c);
       }
 
 -- ## Messages put row by row

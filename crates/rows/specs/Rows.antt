@@ -9,10 +9,10 @@ use lib.ListN.{length, getD}
 use Rattle.model.specs.Table.{size}
 use Rattle.model.specs.Reader.{byte}
 use Rattle.model.specs.Places.{itemsPlace, arcLength, arcPlace, startOf, Valid, readOf, componentIn}
-use Rattle.model.specs.Schedule.{Visit, others, heardBy, sooner, messageIn}
+use Rattle.model.specs.Schedule.{Visit, others, heardBy, endsSooner, sooner, messageIn}
 
 -- number k of row i. A row has nine: component, edge, location, entry, ready, end, message (255: none), the place of the edge in the
--- table's bytes, and the first row that may share a tick with this one.
+-- table's bytes, and its link: a row from which on, up to this one, no row ends later than this one.
 abbrev pub num : List ℕ → ℕ → ℕ → ℕ
 num l i k = getD l (i * 9 + k) 0
 
@@ -49,15 +49,22 @@ pub record RowPlaced (bs l : List ℕ) (i : ℕ) : Type 0 where
   pub window : num l i 4 < num l i 5
   pub small : num l i 5 ≤ 200000
 
--- n rows of a schedule, in the order of opening; what stands before a row's sweep ended before its entry
+-- the links of n rows: who walks backward and meets a row that ended too early may go on at its link
+pub record Linked (l : List ℕ) (n : ℕ) : Type 0 where
+  pub few : n ≤ 1024
+  pub fits : n * 9 ≤ length l
+  pub back : (j : ℕ) → j < n → num l j 8 ≤ j
+  pub skips : (j i : ℕ) → j < n → num l j 8 ≤ i → i < j → num l i 5 ≤ num l j 5
+
+-- n rows of a schedule, in the order of opening
 pub record RowsPlaced (bs l : List ℕ) (n : ℕ) : Type 0 where
   pub valid : Valid bs
   pub few : n ≤ 1024
   pub fits : n * 9 ≤ length l
   pub row : (i : ℕ) → i < n → RowPlaced bs l i
   pub order : (i j : ℕ) → i ≤ j → j < n → num l i 3 ≤ num l j 3
-  pub low : (j : ℕ) → j < n → num l j 8 ≤ j
-  pub swept : (j i : ℕ) → j < n → i < num l j 8 → num l i 5 < num l j 3
+  pub back : (j : ℕ) → j < n → num l j 8 ≤ j
+  pub skips : (j i : ℕ) → j < n → num l j 8 ≤ i → i < j → num l i 5 ≤ num l j 5
 
 -- after: each of n rows has the message that is found among the rows before, all else stays
 pub record MessagesPut (bs : List ℕ) (H n : ℕ) (before after : List ℕ) : Type 0 where
@@ -91,3 +98,12 @@ bestOf l n b = cond (ltb b n) (some (rowVisit l b)) none
 -- row j is looked at for row i: one turn of `earliest`
 abbrev pub heardRow : List ℕ → List ℕ → ℕ → ℕ → ℕ → Option Visit → Option Visit
 heardRow bs l H i j b = cond (heardBy (readOf bs .table) H (rowVisit l i) (rowVisit l j)) (sooner b (rowVisit l j)) b
+
+-- the best of later rows, or an earlier one where that does not end later: "on a tie" the first stays
+abbrev pub soonerFirst : Visit → Option Visit → Option Visit
+soonerFirst v none = some v
+soonerFirst v (some b) = cond (endsSooner b v) (some b) (some v)
+
+-- row j is looked at for row i after the rows behind it
+abbrev pub heardFirst : List ℕ → List ℕ → ℕ → ℕ → ℕ → Option Visit → Option Visit
+heardFirst bs l H i j b = cond (heardBy (readOf bs .table) H (rowVisit l i) (rowVisit l j)) (soonerFirst (rowVisit l j) b) b

@@ -8,7 +8,7 @@ ghost use lib.Seq.{sets};
 ghost use Rattle.model.specs.Window.{channelOf, listens};
 ghost use Rattle.model.specs.Places.{arcAt, readOf};
 ghost use Rattle.model.specs.Schedule.{visitArc, names, heardBy, endsSooner, sooner, earliest, messageIn};
-ghost use Rattle.rows.specs.Rows.{num, messageOf, rowVisit, rowsOf, RowsPlaced, MessagesPut, EdgeStands, RowKnown, inTime, bestOf, heardRow};
+ghost use Rattle.rows.specs.Rows.{num, messageOf, rowVisit, rowsOf, RowsPlaced, MessagesPut, EdgeStands, RowKnown, Linked, inTime, bestOf, heardRow, soonerFirst, heardFirst};
 
 fn wide(x: u8) -> u32
     ensures { λ r. ⌜ (r ≡ x) × (r < 256) ⌝ }
@@ -43,10 +43,10 @@ pub fn put_row(
     ready: u32,
     end: u32,
     place: usize,
-    low: usize,
+    back: usize,
 )
-    requires { ⌜ (i * 9 + 9 ≤ length (now l)) × (place < 65536) × (low < 65536) × (i ≤ 1024) ⌝ }
-    ensures { λ _. ⌜ now (l .exit) ≡ sets (now (l .entry)) (i * 9) (component ∷ edge ∷ location ∷ entry ∷ ready ∷ end ∷ 255 ∷ place ∷ low ∷ []) ⌝ }
+    requires { ⌜ (i * 9 + 9 ≤ length (now l)) × (place < 65536) × (back < 65536) × (i ≤ 1024) ⌝ }
+    ensures { λ _. ⌜ now (l .exit) ≡ sets (now (l .entry)) (i * 9) (component ∷ edge ∷ location ∷ entry ∷ ready ∷ end ∷ 255 ∷ place ∷ back ∷ []) ⌝ }
 {
     let at = i * 9;
     l[at] = component as u32;
@@ -57,22 +57,23 @@ pub fn put_row(
     l[at + 5] = end;
     l[at + 6] = 255;
     l[at + 7] = place as u32;
-    l[at + 8] = low as u32;
+    l[at + 8] = back as u32;
 }
 
-// The first row, from `low` on, that ends at the tick or later (n where there is none).
-pub fn first_open(l: &[u32], low: usize, n: usize, tick: u32) -> usize
-    requires { ⌜ (low ≤ n) × (n * 9 ≤ length (now l)) × (n ≤ 1024) ⌝ }
-    ensures { λ r. ⌜ (low ≤ r) × (r ≤ n) × ((i : ℕ) → low ≤ i → i < r → num (now (l .entry)) i 5 < tick) ⌝ }
+// The rows before row j, walked backward: one past the last that ends at the tick or later (0 where there is none). A row that ended
+// before the tick leads to its link: the rows between ended no later.
+pub fn open_before(l: &[u32], j: usize, tick: u32) -> usize
+    requires { ⌜ Linked (now l) j ⌝ }
+    ensures { λ r. ⌜ (r ≤ j) × ((i : ℕ) → r ≤ i → i < j → num (now (l .entry)) i 5 < tick) ⌝ }
 {
-    let mut i = low;
-    while i < n {
-        if tick <= number(l, i, 5) {
-            return i;
+    let mut k = j;
+    while 0 < k {
+        if tick <= number(l, k - 1, 5) {
+            return k;
         }
-        i += 1;
+        k = index(l, k - 1, 8);
     }
-    i
+    k
 }
 
 // The channel that the edge at the front sends on (255: none).
@@ -192,15 +193,53 @@ fn heard(s: &[u8], l: &[u32], best: usize, i: usize, j: usize, n: usize, h: u32)
     }
 }
 
-// The row whose message row i hears, n where there is none. Rows before its sweep end too early, rows that open at its end or later end
-// too late.
+// The row best so far among later ones (n where there is none), or row j where that does not end sooner.
+fn nearer_before(l: &[u32], best: usize, j: usize, n: usize) -> usize
+    requires { ⌜ (n * 9 ≤ length (now l)) × (j < n) ⌝ }
+    ensures { λ r. ⌜ bestOf (now (l .entry)) n r ≡ soonerFirst (rowVisit (now (l .entry)) j) (bestOf (now (l .entry)) n best) ⌝ }
+{
+    if n <= best {
+        return j;
+    }
+    if ends_sooner(l, best, j) { best } else { j }
+}
+
+// The best so far among later rows, or row j where row i hears it and none of them ends sooner.
+fn heard_before(s: &[u8], l: &[u32], best: usize, i: usize, j: usize, n: usize, h: u32) -> usize
+    requires { ⌜ RowsPlaced (now s) (now l) n × (i < n) × (j < n) ⌝ }
+    ensures { λ r. ⌜ bestOf (now (l .entry)) n r ≡ heardFirst (now (s .entry)) (now (l .entry)) h i j (bestOf (now (l .entry)) n best) ⌝ }
+{
+    if hears(s, l, i, j, h) {
+        nearer_before(l, best, j, n)
+    } else {
+        best
+    }
+}
+
+// The row before row i whose message it hears, n where there is none. Rows that ended before its entry are passed over by their links.
+fn seek_before(s: &[u8], l: &[u32], n: usize, i: usize, h: u32) -> usize
+    requires { ⌜ RowsPlaced (now s) (now l) n × (i < n) ⌝ }
+    ensures { λ r. ⌜ bestOf (now (l .entry)) n r ≡ earliest (heardBy (readOf (now (s .entry)) .table) h (rowVisit (now (l .entry)) i)) (rowsOf (now (l .entry)) i) none ⌝ }
+{
+    let entry = number(l, i, 3);
+    let mut best = n;
+    let mut j = open_before(l, i, entry);
+    while 0 < j {
+        let k = j - 1;
+        best = heard_before(s, l, best, i, k, n, h);
+        j = open_before(l, k, entry);
+    }
+    best
+}
+
+// The row whose message row i hears, n where there is none. Rows that open at its end or later end too late.
 fn seek(s: &[u8], l: &[u32], n: usize, i: usize, h: u32) -> usize
     requires { ⌜ RowsPlaced (now s) (now l) n × (i < n) ⌝ }
     ensures { λ r. ⌜ bestOf (now (l .entry)) n r ≡ earliest (heardBy (readOf (now (s .entry)) .table) h (rowVisit (now (l .entry)) i)) (rowsOf (now (l .entry)) n) none ⌝ }
 {
     let until = number(l, i, 5);
-    let mut best = n;
-    let mut j = index(l, i, 8);
+    let mut best = seek_before(s, l, n, i, h);
+    let mut j = i;
     while j < n {
         if until <= number(l, j, 3) {
             return best;

@@ -7,8 +7,6 @@ use Prim.Native.Nat.{ℕ, zero, suc, _+_, _*_, _≤_, _<_}
 use native.Mathlib.Omega.{arith}
 use native.Mathlib.Decide.{ℕ-discrete}
 use borrow.Author.Count.{below-more}
-use borrow.Author.Tests.{ltb-true, ltb-false}
-use lib.Dec.{ltb}
 use lib.ListN.{length, getD, set, length-append, length-set}
 use lib.Seq.{sets, getD-set-same, getD-set-other}
 use Rattle.model.specs.Lists.{All, snoc, accepted, refused}
@@ -69,8 +67,8 @@ no-rows r =
       fits = omega arith;
       row = λ i h. absurd (omega arith);
       order = λ i j a h. absurd (omega arith);
-      low = λ j h. absurd (omega arith);
-      swept = λ j i h a. absurd (omega arith);
+      back = λ j h. absurd (omega arith);
+      skips = λ j i h a c. absurd (omega arith);
     }
 
 map-snoc : {A B : Type 0} (f : A → B) (xs : List A) (x : A) → map f (snoc xs x) ≡ snoc (map f xs) (f x)
@@ -90,9 +88,9 @@ stands {bs} {l} {n} {c} {node} {until} {v} o =
     }
 
 -- a passage over edge t opens at `at` and gets row n
-module _ (bs l : List ℕ) (n low c : ℕ) (at : Entry) (t : TakenEdge) (fits : n * 9 + 9 ≤ length l) where
+module _ (bs l : List ℕ) (n back c : ℕ) (at : Entry) (t : TakenEdge) (fits : n * 9 + 9 ≤ length l) where
   abbrev row : List ℕ
-  row = c ∷ t .edge ∷ at .location ∷ at .tick ∷ (at .tick + t .ready) ∷ (at .tick + t .end) ∷ 255 ∷ t .place ∷ low ∷ []
+  row = c ∷ t .edge ∷ at .location ∷ at .tick ∷ (at .tick + t .ready) ∷ (at .tick + t .end) ∷ 255 ∷ t .place ∷ back ∷ []
 
   module _ (l′ : List ℕ) (is : l′ ≡ sets l (n * 9) row) where
     -- the rows before it stay
@@ -134,7 +132,7 @@ module _ (bs l : List ℕ) (n low c : ℕ) (at : Entry) (t : TakenEdge) (fits : 
         }
 
     new-visit : rowVisit l′ n ≡ bare (made bs c at t)
-    new-visit = rw is (visit-added l n c (t .edge) (at .location) (at .tick) (at .tick + t .ready) (at .tick + t .end) (t .place) low fits)
+    new-visit = rw is (visit-added l n c (t .edge) (at .location) (at .tick) (at .tick + t .ready) (at .tick + t .end) (t .place) back fits)
 
     -- the passage is open
     pub opened-now : All (λ x. x ≤ at .tick) (at .clocks)
@@ -153,7 +151,7 @@ module _ (bs l : List ℕ) (n low c : ℕ) (at : Entry) (t : TakenEdge) (fits : 
     -- the rows are the passages
     pub rows-now : (vs : List Visit) → rowsOf l n ≡ map bare vs → rowsOf l′ (n + 1) ≡ map bare (snoc vs (made bs c at t))
     rows-now vs e =
-        rw is (rows-added l n c (t .edge) (at .location) (at .tick) (at .tick + t .ready) (at .tick + t .end) (t .place) low fits)
+        rw is (rows-added l n c (t .edge) (at .location) (at .tick) (at .tick + t .ready) (at .tick + t .end) (t .place) back fits)
         ∙ ap (λ xs. snoc xs (bare (made bs c at t))) e
         ∙ sym (map-snoc bare vs (made bs c at t))
 
@@ -166,9 +164,9 @@ module _ (bs l : List ℕ) (n low c : ℕ) (at : Entry) (t : TakenEdge) (fits : 
       wide = opened c (componentIn bs c) (cut (componentIn bs c) (entryOf at)) o .wide
 
       pub placed-now : c < size (readOf bs .table) → Placed bs (startOf bs c) c (Opens t) → at .tick ≤ 60000 → n < 1024 → RowsPlaced bs l n
-          → ((j : ℕ) → j < n → num l j 3 ≤ at .tick) → low ≤ n → ((j : ℕ) → j < low → num l j 5 < at .tick) → RowsPlaced bs l′ (n + 1)
-      placed-now present p small few r order among swept =
-          rw is (placed-added l n c (t .edge) (at .location) (at .tick) (at .tick + t .ready) (at .tick + t .end) (t .place) low fits bs r
+          → ((j : ℕ) → j < n → num l j 3 ≤ at .tick) → back ≤ n → ((j : ℕ) → back ≤ j → j < n → num l j 5 ≤ at .tick + t .end) → RowsPlaced bs l′ (n + 1)
+      placed-now present p small few r order among skips =
+          rw is (placed-added l n c (t .edge) (at .location) (at .tick) (at .tick + t .ready) (at .tick + t .end) (t .place) back fits bs r
           (record {
             present = present;
             there = p .0;
@@ -178,7 +176,7 @@ module _ (bs l : List ℕ) (n low c : ℕ) (at : Entry) (t : TakenEdge) (fits : 
             small = omega (arith, p .3);
             order = order;
             among = among;
-            swept = swept;
+            skips = skips;
           }) few)
 
 -- ## All open passages
@@ -190,8 +188,8 @@ keeps nodes n c at t = set nodes c (keptOf at t n)
 abbrev pub until : List ℕ → ℕ → Entry → TakenEdge → List ℕ
 until ends c at t = set ends c (at .tick + t .end)
 
-module _ (bs l : List ℕ) (n low c : ℕ) (at : Entry) (t : TakenEdge) (fits : n * 9 + 9 ≤ length l) (l′ : List ℕ)
-    (is : l′ ≡ sets l (n * 9) (c ∷ t .edge ∷ at .location ∷ at .tick ∷ (at .tick + t .ready) ∷ (at .tick + t .end) ∷ 255 ∷ t .place ∷ low ∷ []))
+module _ (bs l : List ℕ) (n back c : ℕ) (at : Entry) (t : TakenEdge) (fits : n * 9 + 9 ≤ length l) (l′ : List ℕ)
+    (is : l′ ≡ sets l (n * 9) (c ∷ t .edge ∷ at .location ∷ at .tick ∷ (at .tick + t .ready) ∷ (at .tick + t .end) ∷ 255 ∷ t .place ∷ back ∷ []))
     (o : opening c (componentIn bs c) (cut (componentIn bs c) (entryOf at)) ≡ accepted (made bs c at t)) (present : c < size (readOf bs .table))
     (p : Placed bs (startOf bs c) c (Opens t)) (small : at .tick ≤ 60000) (few : n < 1024) (young : All (λ x. x ≤ at .tick) (at .clocks))
     (nodes : List Node) (ends : List ℕ) (in-nodes : c < length nodes) (in-ends : c < length ends) where
@@ -199,27 +197,27 @@ module _ (bs l : List ℕ) (n low c : ℕ) (at : Entry) (t : TakenEdge) (fits : 
   here : Open bs l′ (n + 1) c (getD (keeps nodes n c at t) c blank) (getD (until ends c at t) c 0) (made bs c at t)
   here =
       rw (getD-set-same nodes c (keptOf at t n) blank in-nodes, getD-set-same ends c (at .tick + t .end) 0 in-ends)
-      (opened-now bs l n low c at t fits l′ is young)
+      (opened-now bs l n back c at t fits l′ is young)
 
   -- the others are kept
   others : (d : ℕ) (v : Visit) → (d ≡ c → ⊥) → Open bs l n d (getD nodes d blank) (getD ends d 0) v
       → Open bs l′ (n + 1) d (getD (keeps nodes n c at t) d blank) (getD (until ends c at t) d 0) v
   others d v e k =
       rw (getD-set-other nodes c d (keptOf at t n) blank e, getD-set-other ends c d (at .tick + t .end) 0 e)
-      (still bs l n low c at t fits l′ is d (getD nodes d blank) (getD ends d 0) v k)
+      (still bs l n back c at t fits l′ is d (getD nodes d blank) (getD ends d 0) v k)
 
   -- all of them at tick 0
   pub first-on : at .tick ≡ 0 → ((j : ℕ) → j < n → num l j 3 ≡ 0) → (j : ℕ) → j < n + 1 → num l′ j 3 ≡ 0
   first-on e first =
-      below-more (λ (j : ℕ). num l′ j 3 ≡ 0) n (λ j h. same bs l n low c at t fits l′ is j 3 h (omega arith) ∙ first j h) (new-entry bs l n low c at t fits l′ is ∙ e)
+      below-more (λ (j : ℕ). num l′ j 3 ≡ 0) n (λ j h. same bs l n back c at t fits l′ is j 3 h (omega arith) ∙ first j h) (new-entry bs l n back c at t fits l′ is ∙ e)
 
   -- one of the openings at tick 0
-  pub begun-on : (vs : List Visit) → Going bs l n 0 n nodes ends (fresh vs) → n ≡ c → low ≡ 0 → at .tick ≡ 0 → ((j : ℕ) → j < n → num l j 3 ≡ 0)
-      → Going bs l′ (n + 1) 0 (n + 1) (keeps nodes n c at t) (until ends c at t) (fresh (snoc vs (made bs c at t)))
+  pub begun-on : (vs : List Visit) → Going bs l n n nodes ends (fresh vs) → n ≡ c → back ≡ n → at .tick ≡ 0 → ((j : ℕ) → j < n → num l j 3 ≡ 0)
+      → Going bs l′ (n + 1) (n + 1) (keeps nodes n c at t) (until ends c at t) (fresh (snoc vs (made bs c at t)))
   begun-on vs g nc z e first =
       record {
-        placed = placed-now bs l n low c at t fits l′ is o present p small few (g .placed) (λ j h. omega (arith, first j h)) (omega arith) (λ j h. absurd (omega arith));
-        rows = rows-now bs l n low c at t fits l′ is vs (g .rows);
+        placed = placed-now bs l n back c at t fits l′ is o present p small few (g .placed) (λ j h. omega (arith, first j h)) (omega arith) (λ j a h. absurd (omega arith));
+        rows = rows-now bs l n back c at t fits l′ is vs (g .rows);
         full = omega (arith, length-append vs (made bs c at t ∷ []), g .full);
         each = λ k h. at-snoc vs c (made bs c at t) (omega (arith, g .full))
             (λ d v. Open bs l′ (n + 1) d (getD (keeps nodes n c at t) d blank) (getD (until ends c at t) d 0) v)
@@ -228,19 +226,16 @@ module _ (bs l : List ℕ) (n low c : ℕ) (at : Entry) (t : TakenEdge) (fits : 
             k
             (omega arith);
         entered = λ i d a b. omega (arith, first-on e first i a);
-        among = omega arith;
-        ended = λ i d a b. absurd (omega arith);
       }
 
   -- the passage that closed first is replaced
-  pub going-on : {low₀ k : ℕ} {q : Plan} → Going bs l n low₀ k nodes ends q → Soonest ends k c → at .tick ≡ getD ends c 0 → low ≤ n
-      → ((i : ℕ) → low₀ ≤ i → i < low → num l i 5 < getD ends c 0)
-      → Going bs l′ (n + 1) low k (keeps nodes n c at t) (until ends c at t) (put q (made bs c at t))
-  going-on {low₀} {k} {q} g s e among swept =
+  pub going-on : {k : ℕ} {q : Plan} → Going bs l n k nodes ends q → Soonest ends k c → at .tick ≡ getD ends c 0 → back ≤ n
+      → ((i : ℕ) → back ≤ i → i < n → num l i 5 ≤ at .tick + t .end)
+      → Going bs l′ (n + 1) k (keeps nodes n c at t) (until ends c at t) (put q (made bs c at t))
+  going-on {k} {q} g s e among skips =
       record {
-        placed = placed-now bs l n low c at t fits l′ is o present p small few (g .placed) (λ j h. omega (arith, g .entered j c h (s .there))) among
-            (λ j h. omega (arith, before g s swept j h));
-        rows = rows-now bs l n low c at t fits l′ is (q .listed) (g .rows);
+        placed = placed-now bs l n back c at t fits l′ is o present p small few (g .placed) (λ j h. omega (arith, g .entered j c h (s .there))) among skips;
+        rows = rows-now bs l n back c at t fits l′ is (q .listed) (g .rows);
         full = length-set (q .current) c (made bs c at t) ∙ g .full;
         each = λ d h. at-set (q .current) c (made bs c at t) (omega (arith, g .full, s .there))
             (λ d v. Open bs l′ (n + 1) d (getD (keeps nodes n c at t) d blank) (getD (until ends c at t) d 0) v)
@@ -248,21 +243,12 @@ module _ (bs l : List ℕ) (n low c : ℕ) (at : Entry) (t : TakenEdge) (fits : 
             d
             (λ u. others d (visitAt (q .current) d) u (g .each d h));
         entered = λ i d a b. omega (arith, now g s e i a, later s e d b);
-        among = omega arith;
-        ended = λ i d a b. omega (arith, before g s swept i a, later s e d b, same bs l n low c at t fits l′ is i 5 (omega arith) (omega arith));
       }
     where
-      before : Going bs l n low₀ k nodes ends q → Soonest ends k c → ((i : ℕ) → low₀ ≤ i → i < low → num l i 5 < getD ends c 0) → (i : ℕ) → i < low → num l i 5 < getD ends c 0
-      before g s swept i a = go (ltb i low₀) refl
-        where
-          go : (b : Bool) → ltb i low₀ ≡ b → num l i 5 < getD ends c 0
-          go true r = g .ended i c (ltb-true i low₀ r) (s .there)
-          go false r = swept i (ltb-false i low₀ r) a
-
-      now : Going bs l n low₀ k nodes ends q → Soonest ends k c → at .tick ≡ getD ends c 0 → (i : ℕ) → i < n + 1 → num l′ i 3 ≤ getD ends c 0
+      now : Going bs l n k nodes ends q → Soonest ends k c → at .tick ≡ getD ends c 0 → (i : ℕ) → i < n + 1 → num l′ i 3 ≤ getD ends c 0
       now g s e = below-more (λ (j : ℕ). num l′ j 3 ≤ getD ends c 0) n
-          (λ j h. omega (arith, same bs l n low c at t fits l′ is j 3 h (omega arith), g .entered j c h (s .there)))
-          (omega (arith, new-entry bs l n low c at t fits l′ is))
+          (λ j h. omega (arith, same bs l n back c at t fits l′ is j 3 h (omega arith), g .entered j c h (s .there)))
+          (omega (arith, new-entry bs l n back c at t fits l′ is))
 
       later : Soonest ends k c → at .tick ≡ getD ends c 0 → (d : ℕ) → d < k → getD ends c 0 < getD (until ends c at t) d 0 + 1
       later s e d b = by-cases (ℕ-discrete d c)

@@ -44,7 +44,7 @@ zeros-young (suc n) t = more {x = 0} (omega arith) (zeros-young n t)
 pub record Beginning (bs l : List ℕ) (c : ℕ) (nodes : List Node) (ends : List ℕ) : Type 0 where
   pub first : List Visit
   pub begins : begin (1024 - c) c (drop c (readOf bs .table .components)) first ≡ begun bs
-  pub going : Going bs l c 0 c nodes ends (fresh first)
+  pub going : Going bs l c c nodes ends (fresh first)
   pub zero : (j : ℕ) → j < c → num l j 3 ≡ 0
 
 pub begin-first : (bs l : List ℕ) (nodes : List Node) (ends : List ℕ) → Valid bs → Beginning bs l 0 nodes ends
@@ -62,15 +62,13 @@ begin-first bs l nodes ends v =
                   fits = omega arith;
                   row = λ i h. absurd (omega arith);
                   order = λ i j a h. absurd (omega arith);
-                  low = λ j h. absurd (omega arith);
-                  swept = λ j i h a. absurd (omega arith);
+                  back = λ j h. absurd (omega arith);
+                  skips = λ j i h a c. absurd (omega arith);
                 };
             rows = refl;
             full = refl;
             each = λ c h. absurd (omega arith);
             entered = λ i c h k. absurd (omega arith);
-            among = omega arith;
-            ended = λ i c h k. absurd (omega arith);
           };
       zero = λ j h. absurd (omega arith);
     }
@@ -86,7 +84,7 @@ module _ (bs l : List ℕ) (b : (j : ℕ) → Fits w8 (getD bs j 0)) (c : ℕ) (
       record {
         first = g .first;
         begins = begin-done (readOf bs .table .components) (1024 - c) c (g .first) (begun bs) (g .begins) h;
-        going = subst (λ n. Going bs l n 0 n nodes ends (fresh (g .first))) e (g .going);
+        going = subst (λ n. Going bs l n n nodes ends (fresh (g .first))) e (g .going);
       }
 
   module _ (there : c < size (readOf bs .table)) (at : Entry) (location : at .location ≡ componentIn bs c .initial) (tick : at .tick ≡ 0)
@@ -109,7 +107,7 @@ module _ (bs l : List ℕ) (b : (j : ℕ) → Fits w8 (getD bs j 0)) (c : ℕ) (
 
       -- it opens
       pub begin-on : {t : TakenEdge} → r ≡ Opens t → Placed bs (startOf bs c) c r → c * 9 + 9 ≤ length l → (l′ : List ℕ)
-          → l′ ≡ sets l (c * 9) (c ∷ t .edge ∷ at .location ∷ at .tick ∷ (at .tick + t .ready) ∷ (at .tick + t .end) ∷ 255 ∷ t .place ∷ 0 ∷ [])
+          → l′ ≡ sets l (c * 9) (c ∷ t .edge ∷ at .location ∷ at .tick ∷ (at .tick + t .ready) ∷ (at .tick + t .end) ∷ 255 ∷ t .place ∷ c ∷ [])
           → c < length nodes → c < length ends → Beginning bs l′ (c + 1) (keeps nodes c c at t) (until ends c at t)
       begin-on {t} q p fits l′ is h k =
           let o = opens-made bs c (limits-of bs b valid c there) at begin-location r e q in
@@ -122,24 +120,24 @@ module _ (bs l : List ℕ) (b : (j : ℕ) → Fits w8 (getD bs j 0)) (c : ℕ) (
             begins = subst (λ m. begin m (c + 1) (drop (c + 1) (readOf bs .table .components)) (snoc (g .first) w) ≡ begun bs) n
                 (begin-turn (readOf bs .table .components) (1024 - c) c (g .first) (begun bs) (g .begins) (componentIn bs c) refl there few w
                 (ap (opening c (componentIn bs c)) starts ∙ o));
-            going = begun-on bs l c 0 c at t fits l′ is o there p′ (omega arith) (omega (arith, few-components bs b valid)) young nodes ends h k (g .first) (g .going) refl refl tick (g .zero);
-            zero = first-on bs l c 0 c at t fits l′ is o there p′ (omega arith) (omega (arith, few-components bs b valid)) young nodes ends h k tick (g .zero);
+            going = begun-on bs l c c c at t fits l′ is o there p′ (omega arith) (omega (arith, few-components bs b valid)) young nodes ends h k (g .first) (g .going) refl refl tick (g .zero);
+            zero = first-on bs l c c c at t fits l′ is o there p′ (omega arith) (omega (arith, few-components bs b valid)) young nodes ends h k tick (g .zero);
           }
 
 -- ## The passages that close below the horizon
 
 -- so many passages have opened
-pub record Progress (bs l : List ℕ) (n low : ℕ) (nodes : List Node) (ends : List ℕ) : Type 0 where
+pub record Progress (bs l : List ℕ) (n : ℕ) (nodes : List Node) (ends : List ℕ) : Type 0 where
   pub plan : Plan
   pub same : goOn (readOf bs .table) (readOf bs .horizon) (1024 - n) plan ≡ unfinished bs
-  pub going : Going bs l n low (size (readOf bs .table)) nodes ends plan
+  pub going : Going bs l n (size (readOf bs .table)) nodes ends plan
 
-pub progress-first : (bs l : List ℕ) (n : ℕ) (nodes : List Node) (ends : List ℕ) → Started bs l nodes ends → n ≡ size (readOf bs .table) → Progress bs l n 0 nodes ends
+pub progress-first : (bs l : List ℕ) (n : ℕ) (nodes : List Node) (ends : List ℕ) → Started bs l nodes ends → n ≡ size (readOf bs .table) → Progress bs l n nodes ends
 progress-first bs l n nodes ends s e =
     record {
       plan = fresh (s .first);
       same = rw e (sym (ap (λ a. a after λ vs. goOn (readOf bs .table) (readOf bs .horizon) (1024 - size (readOf bs .table)) (fresh vs)) (s .begins)));
-      going = subst (λ m. Going bs l m 0 (size (readOf bs .table)) nodes ends (fresh (s .first))) (sym e) (s .going);
+      going = subst (λ m. Going bs l m (size (readOf bs .table)) nodes ends (fresh (s .first))) (sym e) (s .going);
     }
 
 -- the entry of what opens is at the tick where the passage ends
@@ -176,7 +174,7 @@ listed-refused {bs} {l} {n} {a} r k c e p v z =
       none = λ k c q. z;
     }
 
-module _ (bs l : List ℕ) (b : (j : ℕ) → Fits w8 (getD bs j 0)) (n low : ℕ) (nodes : List Node) (ends : List ℕ) (g : Progress bs l n low nodes ends)
+module _ (bs l : List ℕ) (b : (j : ℕ) → Fits w8 (getD bs j 0)) (n : ℕ) (nodes : List Node) (ends : List ℕ) (g : Progress bs l n nodes ends)
     (c : ℕ) (s : Soonest ends (size (readOf bs .table)) c) where
   abbrev T : Rattle.model.specs.Table.Table
   T = readOf bs .table
@@ -255,11 +253,11 @@ module _ (bs l : List ℕ) (b : (j : ℕ) → Fits w8 (getD bs j 0)) (n low : �
           (g .going .placed) p z
 
       -- it opens
-      pub loop-on : {e : TakenEdge} → t .opening ≡ Opens e → n * 9 + 9 ≤ length l → (low′ : ℕ) → low′ ≤ n
-          → ((i : ℕ) → low ≤ i → i < low′ → num l i 5 < getD ends c 0) → (l′ : List ℕ)
-          → l′ ≡ sets l (n * 9) (c ∷ e .edge ∷ t .at .location ∷ t .at .tick ∷ (t .at .tick + e .ready) ∷ (t .at .tick + e .end) ∷ 255 ∷ e .place ∷ low′ ∷ [])
-          → c < length nodes → c < length ends → Progress bs l′ (n + 1) low′ (keeps nodes n c (t .at) e) (until ends c (t .at) e)
-      loop-on {e} q fits low′ among swept l′ is h k =
+      pub loop-on : {e : TakenEdge} → t .opening ≡ Opens e → n * 9 + 9 ≤ length l → (back : ℕ) → back ≤ n
+          → ((i : ℕ) → back ≤ i → i < n → num l i 5 ≤ t .at .tick + e .end) → (l′ : List ℕ)
+          → l′ ≡ sets l (n * 9) (c ∷ e .edge ∷ t .at .location ∷ t .at .tick ∷ (t .at .tick + e .ready) ∷ (t .at .tick + e .end) ∷ 255 ∷ e .place ∷ back ∷ [])
+          → c < length nodes → c < length ends → Progress bs l′ (n + 1) (keeps nodes n c (t .at) e) (until ends c (t .at) e)
+      loop-on {e} q fits back among skips l′ is h k =
           let o = opens-made bs c (limits-of bs b (g .going .placed .valid) c present) (t .at) (u .there) (t .opening) (u .opens) q in
           let p : Placed bs (startOf bs c) c (Opens e) = subst (Placed bs (startOf bs c) c) q (u .placed) in
           let w = made bs c (t .at) e in
@@ -270,6 +268,6 @@ module _ (bs l : List ℕ) (b : (j : ℕ) → Fits w8 (getD bs j 0)) (n low : �
                 ap (λ r. goOn T H r (put (g .plan) w)) (sym m)
                 ∙ sym (goes T H (g .plan) ends c s (g .going .full) ends-are below (1024 - n) (omega arith) w (ap (opening c C) leads ∙ o))
                 ∙ g .same;
-            going = going-on bs l n low′ c (t .at) e fits l′ is o present p (omega (arith, horizon-small bs b (g .going .placed .valid), tick-is)) room
-                (rw tick-is (u .young)) nodes ends h k (g .going) s tick-is among swept;
+            going = going-on bs l n back c (t .at) e fits l′ is o present p (omega (arith, horizon-small bs b (g .going .placed .valid), tick-is)) room
+                (rw tick-is (u .young)) nodes ends h k (g .going) s tick-is among skips;
           }

@@ -69,15 +69,13 @@ pub record Open (bs l : List ℕ) (n c : ℕ) (node : Node) (until : ℕ) (v : V
 abbrev pub blank : Node
 blank = record { entry = record { location = 0; tick = 0; clocks = []; values = [] }; place = 0; row = 0 }
 
--- the first k components have an open passage; the rows before `low` ended before any open passage ends
-pub record Going (bs l : List ℕ) (n low k : ℕ) (nodes : List Node) (ends : List ℕ) (p : Plan) : Type 0 where
+-- the first k components have an open passage
+pub record Going (bs l : List ℕ) (n k : ℕ) (nodes : List Node) (ends : List ℕ) (p : Plan) : Type 0 where
   pub placed : RowsPlaced bs l n
   pub rows : rowsOf l n ≡ map bare (p .listed)
   pub full : length (p .current) ≡ k
   pub each : (c : ℕ) → c < k → Open bs l n c (getD nodes c blank) (getD ends c 0) (visitAt (p .current) c)
   pub entered : (i c : ℕ) → i < n → c < k → num l i 3 ≤ getD ends c 0
-  pub among : low ≤ n
-  pub ended : (i c : ℕ) → i < low → c < k → num l i 5 < getD ends c 0
 
 -- the passages so far are those that opened at tick 0
 abbrev pub fresh : List Visit → Plan
@@ -91,7 +89,7 @@ begun bs = begin limit 0 (readOf bs .table .components) []
 pub record Started (bs l : List ℕ) (nodes : List Node) (ends : List ℕ) : Type 0 where
   pub first : List Visit
   pub begins : begun bs ≡ accepted first
-  pub going : Going bs l (size (readOf bs .table)) 0 (size (readOf bs .table)) nodes ends (fresh first)
+  pub going : Going bs l (size (readOf bs .table)) (size (readOf bs .table)) nodes ends (fresh first)
 
 pub record Begins (bs later : List ℕ) (r : Opened) : Type 0 where
   pub verdict : r .verdict ≡ verdictOf (begun bs)

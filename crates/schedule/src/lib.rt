@@ -99,9 +99,9 @@ fn start_entry(s: &[u8], start: usize) -> Entry
 }
 
 // The open passage that closes next: the least end, on a tie the lowest component.
-fn soonest(ends: [u32; 8], count: usize) -> usize
-    requires { ⌜ (1 ≤ count) × (count ≤ 8) ⌝ }
-    ensures { λ r. ⌜ Soonest ends count r ⌝ }
+fn soonest(ends: &[u32], count: usize) -> usize
+    requires { ⌜ (1 ≤ count) × (count ≤ 8) × (count ≤ length (now ends)) ⌝ }
+    ensures { λ r. ⌜ Soonest (now (ends .entry)) count r ⌝ }
 {
     let mut best: usize = 0;
     let mut i: usize = 1;
@@ -114,10 +114,10 @@ fn soonest(ends: [u32; 8], count: usize) -> usize
     best
 }
 
-// Writes row n: the passage over that edge, entered there.
-fn put_opened(l: &mut [u32], n: usize, c: u8, at: Entry, t: TakenEdge, low: usize)
-    requires { ⌜ (n * 9 + 9 ≤ length (now l)) × (n < 1024) × (t .place < 65536) × (low < 65536) × (at .tick ≤ 60000) × (t .ready ≤ 65535) × (t .end ≤ 65535) ⌝ }
-    ensures { λ _. ⌜ now (l .exit) ≡ sets (now (l .entry)) (n * 9) (c ∷ t .edge ∷ at .location ∷ at .tick ∷ (at .tick + t .ready) ∷ (at .tick + t .end) ∷ 255 ∷ t .place ∷ low ∷ []) ⌝ }
+// Writes row n: the passage over that edge, entered there, with that link.
+fn put_opened(l: &mut [u32], n: usize, c: u8, at: Entry, t: TakenEdge, back: usize)
+    requires { ⌜ (n * 9 + 9 ≤ length (now l)) × (n < 1024) × (t .place < 65536) × (back < 65536) × (at .tick ≤ 60000) × (t .ready ≤ 65535) × (t .end ≤ 65535) ⌝ }
+    ensures { λ _. ⌜ now (l .exit) ≡ sets (now (l .entry)) (n * 9) (c ∷ t .edge ∷ at .location ∷ at .tick ∷ (at .tick + t .ready) ∷ (at .tick + t .end) ∷ 255 ∷ t .place ∷ back ∷ []) ⌝ }
 {
     rows::put_row(
         l,
@@ -129,7 +129,7 @@ fn put_opened(l: &mut [u32], n: usize, c: u8, at: Entry, t: TakenEdge, low: usiz
         at.tick + t.ready,
         at.tick + t.end,
         t.place,
-        low,
+        back,
     );
 }
 
@@ -205,7 +205,7 @@ fn begin(s: &[u8], starts: [u16; 8], l: &mut [u32]) -> Opened
                 };
             }
             Opening::Opens(t) => {
-                put_opened(l, c, c as u8, at, t, 0);
+                put_opened(l, c, c as u8, at, t, c);
                 nodes[c] = kept(at, t, c);
                 ends[c] = at.tick + t.end;
             }
@@ -229,9 +229,8 @@ fn go_on(s: &[u8], starts: [u16; 8], l: &mut [u32], from: [Node; 8], until: [u32
     let mut nodes = from;
     let mut ends = until;
     let mut n = count;
-    let mut low: usize = 0;
     loop {
-        let c = soonest(ends, count);
+        let c = soonest(&ends, count);
         let end = ends[c];
         if h <= end {
             return listed(n);
@@ -239,7 +238,6 @@ fn go_on(s: &[u8], starts: [u16; 8], l: &mut [u32], from: [Node; 8], until: [u32
         if 1024 <= n {
             return refused(7, c);
         }
-        low = rows::first_open(l, low, n, end);
         let t = next_turn(s, l, n, wide16(starts[c]), c as u8, nodes[c], end, h);
         let at = t.at;
         let o = t.opening;
@@ -248,7 +246,8 @@ fn go_on(s: &[u8], starts: [u16; 8], l: &mut [u32], from: [Node; 8], until: [u32
                 return refused(k, c);
             }
             Opening::Opens(e) => {
-                put_opened(l, n, c as u8, at, e, low);
+                let back = rows::open_before(l, n, at.tick + e.end + 1);
+                put_opened(l, n, c as u8, at, e, back);
                 nodes[c] = kept(at, e, n);
                 ends[c] = at.tick + e.end;
             }

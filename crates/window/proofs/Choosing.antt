@@ -17,10 +17,8 @@ use Rattle.model.specs.Window.{Entry, Pick, windowOf, better, eligible, conside
 use Rattle.model.specs.Places.{arcPlace, componentIn}
 use Rattle.model.specs.Schedule.{visitOf, opening}
 use Rattle.window.specs.declared.Choice.{Choice}
-use Rattle.window.specs.declared.Choice.the-variants.{Takes}
-use Rattle.window.specs.declared.TakenEdge.{TakenEdge}
 use Rattle.window.specs.Views.{pickOf, Kept}
-use Rattle.window.proofs.Considering.{pickFrom}
+use Rattle.window.proofs.Considering.{pickFrom, pick-some}
 
 module _ (l : Location) (here : ℕ) (xs : List ℕ) (vs : List ℤ) where
   -- one edge more is considered
@@ -74,19 +72,19 @@ choice-from C at l e = rw e
 
 -- ## The edge that the code has kept
 
-pub record Took (bs : List ℕ) (c start : ℕ) (at : Entry) (t : TakenEdge) : Type 0 where
+pub record Took (bs : List ℕ) (c start : ℕ) (at : Entry) (t : Choice) : Type 0 where
   pub pick : some (pickFrom t) ≡ choice (componentIn bs c) at
   pub inside : t .edge < length (componentIn bs c .arcs)
+  pub byte : t .edge < 256
   pub place : t .place ≡ arcPlace bs start (t .edge)
-  pub ready : t .ready ≤ 65535
   pub end : t .end ≤ 65535
 
-pub took : (bs : List ℕ) (c start : ℕ) (at : Entry) (t : TakenEdge) (r : Choice) → r ≡ Takes t → pickOf r ≡ choice (componentIn bs c) at
-    → Kept (arcPlace bs start) r → Took bs c start at t
-took bs c start at t r e p k =
-    let q : some (pickFrom t) ≡ choice (componentIn bs c) at = sym (ap pickOf e) ∙ p in
-    let m : Kept (arcPlace bs start) (Takes t) = subst (Kept (arcPlace bs start)) e k in
-    record { pick = q; inside = choice-edge (componentIn bs c) at (pickFrom t) (sym q); place = m .0; ready = m .1; end = m .2 }
+pub took : (bs : List ℕ) (c start : ℕ) (at : Entry) (t : Choice) → t .ready < 65536 → pickOf t ≡ choice (componentIn bs c) at
+    → Kept (arcPlace bs start) t → Took bs c start at t
+took bs c start at t h p k =
+    let q : some (pickFrom t) ≡ choice (componentIn bs c) at = sym (pick-some t h) ∙ p in
+    let m = k h in
+    record { pick = q; inside = choice-edge (componentIn bs c) at (pickFrom t) (sym q); byte = m .1; place = m .0; end = m .2 }
 
 -- ## The opening
 

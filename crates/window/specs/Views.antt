@@ -16,7 +16,6 @@ use Rattle.decoder.specs.Decoded.{Decodable}
 use Rattle.window.specs.declared.Entry.{Entry}
 use Rattle.window.specs.declared.Updated.{Updated}
 use Rattle.window.specs.declared.Choice.{Choice}
-use Rattle.window.specs.declared.Choice.the-variants.{Nothing, Takes}
 use Rattle.window.specs.declared.TakenEdge.{TakenEdge}
 use Rattle.window.specs.declared.NewValue.{NewValue}
 use Rattle.window.specs.declared.NewValue.the-variants.{Fits, Out}
@@ -27,20 +26,17 @@ use Rattle.window.specs.declared.Opening.the-variants.{Opens, Fails}
 abbrev pub entryOf : Entry → Rattle.model.specs.Window.Entry
 entryOf e = record { location = e .location; tick = e .tick; clocks = e .clocks; values = e .values }
 
--- the edge that a choice has kept
+-- the edge that a choice has kept; ready above 65535: none
 abbrev pub pickOf : Choice → Option Pick
-pickOf Nothing = none
-pickOf (Takes t) = some (record { edge = t .edge; ready = t .ready; end = t .end })
+pickOf k = cond (ltb (k .ready) 65536) (some (record { edge = k .edge; ready = k .ready; end = k .end })) none
 
 -- the earlier of two, on a tie the first
-abbrev pub betterOf : Choice → TakenEdge → Choice
-betterOf Nothing t = Takes t
-betterOf (Takes q) t = cond (ltb (t .ready) (q .ready)) (Takes t) (Takes q)
+abbrev pub betterOf : Choice → Choice → Choice
+betterOf best t = cond (ltb (t .ready) (best .ready)) t best
 
 -- its place is that of its number, and its numbers are small
 abbrev pub Kept : (ℕ → ℕ) → Choice → Type 0
-Kept place Nothing = Unit {0}
-Kept place (Takes t) = (t .place ≡ place (t .edge)) × (t .ready ≤ 65535) × (t .end ≤ 65535)
+Kept place k = k .ready < 65536 → (k .place ≡ place (k .edge)) × (k .edge < 256) × (k .end ≤ 65535)
 
 -- a new value of a variable, if it is one
 abbrev pub newOf : ℤ → NewValue

@@ -40,9 +40,12 @@ pub struct TakenEdge {
     pub end: u32,
 }
 
-pub enum Choice {
-    Nothing,
-    Takes(TakenEdge),
+// The best edge so far, as plain numbers without gaps between them. A ready above 65535 says that there is none.
+pub struct Choice {
+    pub edge: usize,
+    pub place: usize,
+    pub ready: u32,
+    pub end: u32,
 }
 
 pub struct Updated {
@@ -164,19 +167,10 @@ pub fn data_hold(h: &[u8], n: u8, values: [i16; 4]) -> bool
 }
 
 // The earlier of two, on a tie the first.
-fn better(best: Choice, t: TakenEdge) -> Choice
+fn better(best: Choice, t: Choice) -> Choice
     ensures { λ r. ⌜ r ≡ betterOf best t ⌝ }
 {
-    match best {
-        Choice::Nothing => Choice::Takes(t),
-        Choice::Takes(q) => {
-            if t.ready < q.ready {
-                Choice::Takes(t)
-            } else {
-                Choice::Takes(q)
-            }
-        }
-    }
+    if t.ready < best.ready { t } else { best }
 }
 
 // The edge at the front of h, number e, at that place in the table: it replaces the best so far, or it does not.
@@ -198,8 +192,8 @@ fn considered_edge(h: &[u8], e: u8, place: usize, l: Location, at: Entry, best: 
     if w.past <= w.ready + 1 {
         return best;
     }
-    let t = TakenEdge {
-        edge: e,
+    let t = Choice {
+        edge: wide(e),
         place,
         ready: w.ready,
         end: w.past - 1,
@@ -217,7 +211,12 @@ pub fn choose(s: &[u8], start: usize, c: u8, at: Entry) -> Choice
     let there = start + 7 + wide(at.location) * 3;
     let l = decoder::location_at(&s[there..]);
     let mut place = start + 7 + wide(s[start + 2]) * 3;
-    let mut best = Choice::Nothing;
+    let mut best = Choice {
+        edge: 0,
+        place: 0,
+        ready: 65536,
+        end: 0,
+    };
     let mut e: u8 = 0;
     while e < n {
         if s[place + 1] == at.location {
@@ -380,17 +379,19 @@ pub fn open(s: &[u8], start: usize, c: u8, at: Entry) -> Opening
     ensures placed { λ r. ⌜ Placed (now (s .entry)) start c r ⌝ }
 {
     let r = choose(s, start, c, at);
-    match r {
-        Choice::Nothing => Opening::Fails(8),
-        Choice::Takes(t) => {
-            let place = t.place;
-            let values = at.values;
-            let u = edge_update(&s[place..], values);
-            if u.fits {
-                Opening::Opens(t)
-            } else {
-                Opening::Fails(9)
-            }
-        }
+    if 65535 < r.ready {
+        return Opening::Fails(8);
     }
+    let place = r.place;
+    let values = at.values;
+    let u = edge_update(&s[place..], values);
+    if !u.fits {
+        return Opening::Fails(9);
+    }
+    Opening::Opens(TakenEdge {
+        edge: r.edge as u8,
+        place,
+        ready: r.ready,
+        end: r.end,
+    })
 }

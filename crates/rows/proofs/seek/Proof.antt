@@ -7,7 +7,7 @@ use borrow.Author.Needs.{needs}
 use Rattle.model.specs.Places.{readOf}
 use Rattle.model.specs.Schedule.{heardBy, earliest}
 use Rattle.rows.specs.Rows.{rowVisit, rowsFrom, rowsOf, bestOf}
-use Rattle.rows.proofs.Sought.{none-best, from-low, turn, stop, done}
+use Rattle.rows.proofs.Sought.{from-row, turn, stop, done}
 use Rattle.rows.proofs.seek.Statement.{statement}
 use Rattle.rows.proofs.seek.Tie as tie
 
@@ -23,14 +23,14 @@ abbrev μ-loop : tie.MeasureT-loop
 number-requires : tie.Need-number-requires Inv-loop μ-loop
 number-requires c κs = omega (arith, c .before .before .pre .0 .fits)
 
-index-requires : tie.Need-index-requires Inv-loop μ-loop
-index-requires c κs = omega (arith, c .before .before .before .pre .0 .fits)
+seek-before-requires : tie.Need-seek-before-requires Inv-loop μ-loop
+seek-before-requires c κs = c .before .before .before .pre
 
 loop-holds : tie.Need-loop-holds Inv-loop μ-loop
 loop-holds c =
     let e = c .before .before .before .before in
     let a = e .args in
-    (omega (arith, c .index .ensures, e .pre .0 .low (a .i) (e .pre .1)), rw (none-best (a .l .now) (a .n) (a .n) (omega arith)) (from-low (a .s .now) (a .l .now) (a .n) (a .i) (a .h) (e .pre .0) (e .pre .1) (c .index .result) (c .index .ensures)))
+    (omega (arith, e .pre .1), from-row (a .s .now) (a .l .now) (a .n) (a .i) (a .h) (e .pre .0) (e .pre .1) (bestOf (a .l .now) (a .n) (c .seek-before .result)) (c .seek-before .ensures))
 
 number-requires-2 : tie.Need-number-requires-2 Inv-loop μ-loop
 number-requires-2 c κs =
@@ -78,7 +78,7 @@ seek-spec =
     Inv-loop
     μ-loop
     number-requires
-    index-requires
+    seek-before-requires
     loop-holds
     number-requires-2
     returns

@@ -8,6 +8,7 @@ use Rattle.model.specs.Table.{size}
 use Rattle.model.specs.Places.{startOf, readOf}
 use Rattle.window.specs.declared.Opening.the-variants.{Opens}
 use Rattle.window.specs.declared.TakenEdge.{TakenEdge}
+use Rattle.rows.proofs.Sought.{linked-below}
 use Rattle.schedule.specs.declared.Scheduled.{Scheduled}
 use Rattle.schedule.specs.Going.{Soonest, Turned, blank, Listed, unfinished}
 use Rattle.schedule.proofs.Grown.{until}
@@ -17,14 +18,14 @@ use Rattle.schedule.proofs.go_on.Statement.{statement}
 use Rattle.schedule.proofs.go_on.Tie as tie
 
 abbrev Inv-loop : tie.InvT-loop
-Inv-loop s l₀ starts count h nodes₀ ends₀ n₀ low₀ l nodes ends n low =
+Inv-loop s l₀ starts count h nodes₀ ends₀ n₀ l nodes ends n =
     (n ≤ 1024) × (1 ≤ count) × (count ≤ 8) × (count ≡ size (readOf s .table)) × (h ≡ readOf s .horizon) × (h ≤ 60000) × (length nodes ≡ 8) × (length ends ≡ 8)
     × (9216 ≤ length l)
     × (length l ≡ length l₀)
-    × Progress s l n low nodes ends
+    × Progress s l n nodes ends
 
 abbrev μ-loop : tie.MeasureT-loop
-μ-loop s l₀ starts count h nodes₀ ends₀ n₀ low₀ l nodes ends n low = 1024 - n
+μ-loop s l₀ starts count h nodes₀ ends₀ n₀ l nodes ends n = 1024 - n
 
 shared-slice-read-wide : tie.Need-shared-slice-read-wide Inv-loop μ-loop
 shared-slice-read-wide c = let e = c .before .before .before in omega (arith, header (e .args .s .now) (c .shared-slice-known2 .given) (e .pre .0))
@@ -59,6 +60,9 @@ loop-holds c =
       progress-first s (e .args .l .now) (c .before .before .wide .result) (e .args .from) (e .args .until) (e .pre .3) n,
     )
 
+slice-aggregate-soonest : tie.Need-slice-aggregate-soonest Inv-loop μ-loop
+slice-aggregate-soonest c = search needs
+
 soonest-requires : tie.Need-soonest-requires Inv-loop μ-loop
 soonest-requires c κs = search needs
 
@@ -72,59 +76,56 @@ listed-requires : tie.Need-listed-requires Inv-loop μ-loop
 listed-requires c κs = search needs
 
 -- the passage that closes
-closes : (c : tie.After-soonest Inv-loop μ-loop) → Soonest (c .before .loop .ends) (size (readOf (c .before .before .before .before .before .before .before .before .args .s .now) .table)) (c .soonest .result)
-closes c = subst (λ k. Soonest (c .before .loop .ends) k (c .soonest .result)) (c .before .loop .inv .3) (c .soonest .ensures)
+closes : (c : tie.After-soonest Inv-loop μ-loop) → Soonest (c .before .before .loop .ends) (size (readOf (c .before .before .before .before .before .before .before .before .before .args .s .now) .table)) (c .soonest .result)
+closes c = subst (λ k. Soonest (c .before .before .loop .ends) k (c .soonest .result)) (c .before .before .loop .inv .3) (c .soonest .ensures)
 
 -- its component's number is small
 small : (c : tie.After-soonest Inv-loop μ-loop) → c .soonest .result < 8
-small c = omega (arith, c .soonest .ensures .there, c .before .loop .inv .2)
+small c = omega (arith, c .soonest .ensures .there, c .before .before .loop .inv .2)
 
 -- what opens next
 turned : (c : tie.After-next-turn Inv-loop μ-loop)
-    → Turned (c .before .before .before .before .before .before .before .before .before .before .before .before .before .before .before .before .args .s .now) (c .before .before .before .before .before .before .before .before .before .loop .l) (c .before .before .before .before .before .before .before .before .before .loop .n) (c .before .before .before .before .before .before .before .before .soonest .result) (readOf (c .before .before .before .before .before .before .before .before .before .before .before .before .before .before .before .before .args .s .now) .horizon) (getD (c .before .before .before .before .before .before .before .before .before .loop .nodes) (c .before .before .before .before .before .before .before .before .soonest .result) blank)
-    (getD (c .before .before .before .before .before .before .before .before .before .loop .ends) (c .before .before .before .before .before .before .before .before .soonest .result) 0) (c .next-turn .result)
+    → Turned (c .before .before .before .before .before .before .before .before .before .before .before .before .before .before .before .args .s .now) (c .before .before .before .before .before .before .before .before .loop .l) (c .before .before .before .before .before .before .before .before .loop .n) (c .before .before .before .before .before .before .soonest .result) (readOf (c .before .before .before .before .before .before .before .before .before .before .before .before .before .before .before .args .s .now) .horizon) (getD (c .before .before .before .before .before .before .before .before .loop .nodes) (c .before .before .before .before .before .before .soonest .result) blank)
+    (getD (c .before .before .before .before .before .before .before .before .loop .ends) (c .before .before .before .before .before .before .soonest .result) 0) (c .next-turn .result)
 turned c =
-    let l = c .before .before .before .before .before .before .before .before .before .loop in
-    let k = c .before .before .before .before .before .before .before .before .soonest .result in
-    subst (λ h. Turned (c .before .before .before .before .before .before .before .before .before .before .before .before .before .before .before .before .args .s .now) (l .l) (l .n) k h (getD (l .nodes) k blank) (getD (l .ends) k 0) (c .next-turn .result)) (l .inv .4) (c .next-turn .ensures)
+    let l = c .before .before .before .before .before .before .before .before .loop in
+    let k = c .before .before .before .before .before .before .soonest .result in
+    subst (λ h. Turned (c .before .before .before .before .before .before .before .before .before .before .before .before .before .before .before .args .s .now) (l .l) (l .n) k h (getD (l .nodes) k blank) (getD (l .ends) k 0) (c .next-turn .result)) (l .inv .4) (c .next-turn .ensures)
 
 edge-is : (c : tie.After-next-turn Inv-loop μ-loop) {t : TakenEdge} → c .next-turn .result .opening ≡ Opens t
     → (c .next-turn .result .at .tick ≤ 60000) × (t .place < 65536) × (t .ready ≤ 65535) × (t .end ≤ 65535)
 edge-is c q =
-    let l = c .before .before .before .before .before .before .before .before .before .loop in
-    let s = c .before .before .before .before .before .before .before .before .before .before .before .before .before .before .before .before .args .s .now in
-    let b = c .before .before .before .before .before .before .before .before .before .before .before .before .before .before .before .shared-slice-known .given in
-    let k = c .before .before .before .before .before .before .before .before .soonest .result in
-    let z = edge-small s b (c .before .before .before .before .before .before .before .before .before .before .before .before .before .before .before .before .pre .0) k (startOf s k) q (closes (c .before .before .before .before .before .before .before .before) .there) refl (turned c .placed) in
+    let l = c .before .before .before .before .before .before .before .before .loop in
+    let s = c .before .before .before .before .before .before .before .before .before .before .before .before .before .before .before .args .s .now in
+    let b = c .before .before .before .before .before .before .before .before .before .before .before .before .before .before .shared-slice-known .given in
+    let k = c .before .before .before .before .before .before .soonest .result in
+    let z = edge-small s b (c .before .before .before .before .before .before .before .before .before .before .before .before .before .before .before .pre .0) k (startOf s k) q (closes (c .before .before .before .before .before .before) .there) refl (turned c .placed) in
     let m = turned-tick s (l .l) (l .n) k (readOf s .horizon) (getD (l .nodes) k blank) (getD (l .ends) k 0) (c .next-turn .result) (turned c) in
-    (omega (arith, m, c .before .before .before .before .before .before .before .if1 .left, l .inv .5), z .0, z .1, z .2)
+    (omega (arith, m, c .before .before .before .before .before .if1 .left, l .inv .5), z .0, z .1, z .2)
 
 same-length : tie.Need-same-length Inv-loop μ-loop
-same-length c = c .before .before .before .loop .inv .9
+same-length c = c .before .before .before .before .loop .inv .9
 
 returns : tie.Need-returns Inv-loop μ-loop
 returns c =
-    let l = c .before .before .before .loop in
-    let s = c .before .before .before .before .before .before .before .before .before .before .args .s .now in
-    let f = loop-stops s (l .l) (c .before .before .before .before .before .before .before .before .before .shared-slice-known .given) (l .n) (l .low) (l .nodes) (l .ends) (l .inv .10) (c .before .before .soonest .result) (closes (c .before .before)) (omega (arith, c .before .if1 .taken, l .inv .4)) in
+    let l = c .before .before .before .before .loop in
+    let s = c .before .before .before .before .before .before .before .before .before .before .before .args .s .now in
+    let f = loop-stops s (l .l) (c .before .before .before .before .before .before .before .before .before .before .shared-slice-known .given) (l .n) (l .nodes) (l .ends) (l .inv .10) (c .before .before .soonest .result) (closes (c .before .before)) (omega (arith, c .before .if1 .taken, l .inv .4)) in
     subst (λ (r : Scheduled). Listed s (unfinished s) r (l .l)) (listed-is _ _ (c .listed .ensures .0) (c .listed .ensures .1)) f
 
 refused-requires : tie.Need-refused-requires Inv-loop μ-loop
 refused-requires c κs = search needs
 
 same-length-2 : tie.Need-same-length-2 Inv-loop μ-loop
-same-length-2 c = c .before .before .before .before .loop .inv .9
+same-length-2 c = c .before .before .before .before .before .loop .inv .9
 
 returns-2 : tie.Need-returns-2 Inv-loop μ-loop
 returns-2 c =
-    let l = c .before .before .before .before .loop in
-    let s = c .before .before .before .before .before .before .before .before .before .before .before .args .s .now in
+    let l = c .before .before .before .before .before .loop in
+    let s = c .before .before .before .before .before .before .before .before .before .before .before .before .args .s .now in
     let r = c .refused in
-    loop-full s (l .l) (c .before .before .before .before .before .before .before .before .before .before .shared-slice-known .given) (l .n) (l .low) (l .nodes) (l .ends) (l .inv .10) (c .before .before .before .soonest .result) (closes (c .before .before .before)) (omega (arith, c .before .before .if1 .left, l .inv .4)) (c .before .if2 .taken)
+    loop-full s (l .l) (c .before .before .before .before .before .before .before .before .before .before .before .shared-slice-known .given) (l .n) (l .nodes) (l .ends) (l .inv .10) (c .before .before .before .soonest .result) (closes (c .before .before .before)) (omega (arith, c .before .before .if1 .left, l .inv .4)) (c .before .if2 .taken)
     (r .result) (r .ensures .0) (r .ensures .1)
-
-first-open-requires : tie.Need-first-open-requires Inv-loop μ-loop
-first-open-requires c κs = search needs
 
 mul-wide16 : tie.Need-mul-wide16 Inv-loop μ-loop
 mul-wide16 c = search needs
@@ -146,15 +147,15 @@ array-copy-out-next-turn c = search needs
 
 next-turn-requires : tie.Need-next-turn-requires Inv-loop μ-loop
 next-turn-requires c κs =
-    let e = c .before .before .before .before .before .before .before .before .before .before .before .before .before .before .before in
-    let l = c .before .before .before .before .before .before .before .before .loop in
+    let e = c .before .before .before .before .before .before .before .before .before .before .before .before .before .before in
+    let l = c .before .before .before .before .before .before .before .loop in
     let g = l .inv .10 in
     let s = e .args .s .now in
-    let k = c .before .before .before .before .before .before .before .soonest .result in (
+    let k = c .before .before .before .before .before .soonest .result in (
       g .going .placed,
-      start-read s (c .before .before .before .before .before .before .before .before .before .before .before .before .before .before .shared-slice-known .given) (e .pre .0) (e .args .t2) k (c .before .wide16 .result) (e .pre .1) (closes (c .before .before .before .before .before .before .before) .there) (c .before .wide16 .ensures .0),
-      node-stands s (l .l) (c .before .before .before .before .before .before .before .before .before .before .before .before .before .before .shared-slice-known .given) (l .n) (l .low) (l .nodes) (l .ends) g k (closes (c .before .before .before .before .before .before .before)),
-      omega (arith, c .before .before .before .before .before .before .if1 .left, l .inv .5),
+      start-read s (c .before .before .before .before .before .before .before .before .before .before .before .before .before .shared-slice-known .given) (e .pre .0) (e .args .t2) k (c .before .wide16 .result) (e .pre .1) (closes (c .before .before .before .before .before) .there) (c .before .wide16 .ensures .0),
+      node-stands s (l .l) (c .before .before .before .before .before .before .before .before .before .before .before .before .before .shared-slice-known .given) (l .n) (l .nodes) (l .ends) g k (closes (c .before .before .before .before .before)),
+      omega (arith, c .before .before .before .before .if1 .left, l .inv .5),
     )
 
 enum-known-o : tie.Need-enum-known-o Inv-loop μ-loop
@@ -164,62 +165,71 @@ refused-requires-2 : tie.Need-refused-requires-2 Inv-loop μ-loop
 refused-requires-2 c κs = search needs
 
 same-length-3 : tie.Need-same-length-3 Inv-loop μ-loop
-same-length-3 c = c .before .before .before .before .before .before .before .before .before .before .before .before .before .before .loop .inv .9
+same-length-3 c = c .before .before .before .before .before .before .before .before .before .before .before .before .before .loop .inv .9
 
 returns-3 : tie.Need-returns-3 Inv-loop μ-loop
 returns-3 c =
-    let l = c .before .before .before .before .before .before .before .before .before .before .before .before .before .before .loop in
-    let s = c .before .before .before .before .before .before .before .before .before .before .before .before .before .before .before .before .before .before .before .before .before .args .s .now in
+    let l = c .before .before .before .before .before .before .before .before .before .before .before .before .before .loop in
+    let s = c .before .before .before .before .before .before .before .before .before .before .before .before .before .before .before .before .before .before .before .before .args .s .now in
     let r = c .refused2 in
-    loop-fails s (l .l) (c .before .before .before .before .before .before .before .before .before .before .before .before .before .before .before .before .before .before .before .before .shared-slice-known .given) (l .n) (l .low) (l .nodes) (l .ends) (l .inv .10) (c .before .before .before .before .before .before .before .before .before .before .before .before .before .soonest .result) (closes (c .before .before .before .before .before .before .before .before .before .before .before .before .before)) (omega (arith, c .before .before .before .before .before .before .before .before .before .before .before .before .if1 .left, l .inv .4))
-    (omega (arith, c .before .before .before .before .before .before .before .before .before .before .before .if2 .left)) (c .before .before .before .before .before .next-turn .result) (turned (c .before .before .before .before .before)) (c .before .before .o .given .1) (r .result) (r .ensures .0) (r .ensures .1)
+    loop-fails s (l .l) (c .before .before .before .before .before .before .before .before .before .before .before .before .before .before .before .before .before .before .before .shared-slice-known .given) (l .n) (l .nodes) (l .ends) (l .inv .10) (c .before .before .before .before .before .before .before .before .before .before .before .soonest .result) (closes (c .before .before .before .before .before .before .before .before .before .before .before)) (omega (arith, c .before .before .before .before .before .before .before .before .before .before .if1 .left, l .inv .4))
+    (omega (arith, c .before .before .before .before .before .before .before .before .before .if2 .left)) (c .before .before .before .before .before .next-turn .result) (turned (c .before .before .before .before .before)) (c .before .before .o .given .1) (r .result) (r .ensures .0) (r .ensures .1)
 
 enum-known-o-2 : tie.Need-enum-known-o-2 Inv-loop μ-loop
 enum-known-o-2 c = search needs
 
+add-open-before : tie.Need-add-open-before Inv-loop μ-loop
+add-open-before c = let z = edge-is (c .before .before .before .before .before .before .before) (c .before .before .before .before .o2 .given .1) in omega (arith, z)
+
+add-open-before-2 : tie.Need-add-open-before-2 Inv-loop μ-loop
+add-open-before-2 c = let z = edge-is (c .before .before .before .before .before .before .before) (c .before .before .before .before .o2 .given .1) in omega (arith, z)
+
+open-before-requires : tie.Need-open-before-requires Inv-loop μ-loop
+open-before-requires c κs = let l = c .before .before .before .before .before .before .before .before .before .before .before .before .before .before .before .loop in linked-below (l .inv .10 .going .placed) (l .n) (omega arith)
+
 cast-put-opened : tie.Need-cast-put-opened Inv-loop μ-loop
-cast-put-opened c = search needs
+cast-put-opened c = omega (arith, small (c .before .before .before .before .before .before .before .before .before .before .before .before .before .before .before))
 
 put-opened-requires : tie.Need-put-opened-requires Inv-loop μ-loop
 put-opened-requires c κs =
-    let e = c .before .before .before .before .before .before .before .before .before .before .before .before .before .before .before .before .before .before .before .before .before in
-    let l = c .before .before .before .before .before .before .before .before .before .before .before .before .before .before .loop in
-    let z = edge-is (c .before .before .before .before .before) (c .before .before .o2 .given .1) in
-    (omega (arith, l .inv .8, c .before .before .before .before .before .before .before .before .before .before .before .if2 .left), omega (arith, c .before .before .before .before .before .before .before .before .before .before .before .if2 .left), z .1, omega (arith, c .before .before .before .before .before .before .before .before .before .first-open .ensures .1, l .inv .0), z .0, z .2, z .3)
+    let e = c .before .before .before .before .before .before .before .before .before .before .before .before .before .before .before .before .before .before .before .before .before .before .before .before in
+    let l = c .before .before .before .before .before .before .before .before .before .before .before .before .before .before .before .before .before .loop in
+    let z = edge-is (c .before .before .before .before .before .before .before .before .before) (c .before .before .before .before .before .before .o2 .given .1) in
+    (omega (arith, l .inv .8, c .before .before .before .before .before .before .before .before .before .before .before .before .before .if2 .left), omega (arith, c .before .before .before .before .before .before .before .before .before .before .before .before .before .if2 .left), z .1, omega (arith, c .before .open-before .ensures .0, l .inv .0), z .0, z .2, z .3)
 
 kept-requires : tie.Need-kept-requires Inv-loop μ-loop
 kept-requires c κs = search needs
 
 mul-nodes : tie.Need-mul-nodes Inv-loop μ-loop
-mul-nodes c = omega (arith, small (c .before .before .before .before .before .before .before .before .before .before .before .before .before .before .before .before .before))
+mul-nodes c = omega (arith, small (c .before .before .before .before .before .before .before .before .before .before .before .before .before .before .before .before .before .before .before))
 
 array-set-from-nodes : tie.Need-array-set-from-nodes Inv-loop μ-loop
-array-set-from-nodes c = omega (arith, small (c .before .before .before .before .before .before .before .before .before .before .before .before .before .before .before .before .before))
+array-set-from-nodes c = omega (arith, small (c .before .before .before .before .before .before .before .before .before .before .before .before .before .before .before .before .before .before .before))
 
 add-ends : tie.Need-add-ends Inv-loop μ-loop
-add-ends c = let z = edge-is (c .before .before .before .before .before .before .before .before .before .before .before) (c .before .before .before .before .before .before .before .before .o2 .given .1) in omega (arith, z)
+add-ends c = let z = edge-is (c .before .before .before .before .before .before .before .before .before .before .before .before .before .before .before) (c .before .before .before .before .before .before .before .before .before .before .before .before .o2 .given .1) in omega (arith, z)
 
 mul-ends : tie.Need-mul-ends Inv-loop μ-loop
-mul-ends c = omega (arith, small (c .before .before .before .before .before .before .before .before .before .before .before .before .before .before .before .before .before .before .before))
+mul-ends c = omega (arith, small (c .before .before .before .before .before .before .before .before .before .before .before .before .before .before .before .before .before .before .before .before .before))
 
 array-write-ends : tie.Need-array-write-ends Inv-loop μ-loop
-array-write-ends c = omega (arith, small (c .before .before .before .before .before .before .before .before .before .before .before .before .before .before .before .before .before .before .before))
+array-write-ends c = omega (arith, small (c .before .before .before .before .before .before .before .before .before .before .before .before .before .before .before .before .before .before .before .before .before))
 
 add-n : tie.Need-add-n Inv-loop μ-loop
-add-n c = omega (arith, c .before .before .before .before .before .before .before .before .before .before .before .before .before .before .before .before .before .if2 .left)
+add-n c = omega (arith, c .before .before .before .before .before .before .before .before .before .before .before .before .before .before .before .before .before .before .before .if2 .left)
 
 loop-less : tie.Need-loop-less Inv-loop μ-loop
-loop-less c = omega (arith, c .before .before .before .before .before .before .before .before .before .before .before .before .before .before .before .before .before .if2 .left)
+loop-less c = omega (arith, c .before .before .before .before .before .before .before .before .before .before .before .before .before .before .before .before .before .before .before .if2 .left)
 
 loop-again : tie.Need-loop-again Inv-loop μ-loop
 loop-again c =
-    let e = c .before .before .before .before .before .before .before .before .before .before .before .before .before .before .before .before .before .before .before .before .before .before .before .before .before .before .before in
-    let l = c .before .before .before .before .before .before .before .before .before .before .before .before .before .before .before .before .before .before .before .before .loop in
+    let e = c .before .before .before .before .before .before .before .before .before .before .before .before .before .before .before .before .before .before .before .before .before .before .before .before .before .before .before .before .before .before in
+    let l = c .before .before .before .before .before .before .before .before .before .before .before .before .before .before .before .before .before .before .before .before .before .before .before .loop in
     let q = c .before .before .before .before .before .put-opened in
     let s = e .args .s .now in
-    let k = c .before .before .before .before .before .before .before .before .before .before .before .before .before .before .before .before .before .before .before .soonest .result in
-    let t = c .before .before .before .before .before .before .before .before .before .before .before .next-turn .result in
-    let n : l .n < 1024 = c .before .before .before .before .before .before .before .before .before .before .before .before .before .before .before .before .before .if2 .left in (
+    let k = c .before .before .before .before .before .before .before .before .before .before .before .before .before .before .before .before .before .before .before .before .before .soonest .result in
+    let t = c .before .before .before .before .before .before .before .before .before .before .before .before .before .before .before .next-turn .result in
+    let n : l .n < 1024 = c .before .before .before .before .before .before .before .before .before .before .before .before .before .before .before .before .before .before .before .if2 .left in (
       omega arith,
       l .inv .1,
       l .inv .2,
@@ -230,10 +240,10 @@ loop-again c =
       simp length-set (l .inv .7),
       omega (arith, q .kept .0, l .inv .8),
       q .kept .0 ∙ l .inv .9,
-      subst (λ m. Progress s (q .last .0) (l .n + 1) (c .before .before .before .before .before .before .before .before .before .before .before .before .before .before .before .first-open .result) (set (l .nodes) k m) (until (l .ends) k (t .at) (c .before .before .before .before .before .before .before .before .o2 .given .0 .0))) (sym (c .before .before .kept .ensures))
-          (loop-on s (l .l) (c .before .before .before .before .before .before .before .before .before .before .before .before .before .before .before .before .before .before .before .before .before .before .before .before .before .before .shared-slice-known .given) (l .n) (l .low) (l .nodes) (l .ends) (l .inv .10) k (closes (c .before .before .before .before .before .before .before .before .before .before .before .before .before .before .before .before .before .before .before)) (omega (arith, c .before .before .before .before .before .before .before .before .before .before .before .before .before .before .before .before .before .before .if1 .left, l .inv .4)) n t (turned (c .before .before .before .before .before .before .before .before .before .before .before))
-          (c .before .before .before .before .before .before .before .before .o2 .given .1) (omega (arith, l .inv .8)) (c .before .before .before .before .before .before .before .before .before .before .before .before .before .before .before .first-open .result) (c .before .before .before .before .before .before .before .before .before .before .before .before .before .before .before .first-open .ensures .1) (c .before .before .before .before .before .before .before .before .before .before .before .before .before .before .before .first-open .ensures .2) (q .last .0) (q .ensures)
-          (omega (arith, small (c .before .before .before .before .before .before .before .before .before .before .before .before .before .before .before .before .before .before .before), l .inv .6)) (omega (arith, small (c .before .before .before .before .before .before .before .before .before .before .before .before .before .before .before .before .before .before .before), l .inv .7))),
+      subst (λ m. Progress s (q .last .0) (l .n + 1) (set (l .nodes) k m) (until (l .ends) k (t .at) (c .before .before .before .before .before .before .before .before .before .before .before .before .o2 .given .0 .0))) (sym (c .before .before .kept .ensures))
+          (loop-on s (l .l) (c .before .before .before .before .before .before .before .before .before .before .before .before .before .before .before .before .before .before .before .before .before .before .before .before .before .before .before .before .before .shared-slice-known .given) (l .n) (l .nodes) (l .ends) (l .inv .10) k (closes (c .before .before .before .before .before .before .before .before .before .before .before .before .before .before .before .before .before .before .before .before .before)) (omega (arith, c .before .before .before .before .before .before .before .before .before .before .before .before .before .before .before .before .before .before .before .before .if1 .left, l .inv .4)) n t (turned (c .before .before .before .before .before .before .before .before .before .before .before .before .before .before .before))
+          (c .before .before .before .before .before .before .before .before .before .before .before .before .o2 .given .1) (omega (arith, l .inv .8)) (c .before .before .before .before .before .before .before .open-before .result) (c .before .before .before .before .before .before .before .open-before .ensures .0) (λ i x y. omega (arith, c .before .before .before .before .before .before .before .open-before .ensures .1 i x y)) (q .last .0) (q .ensures)
+          (omega (arith, small (c .before .before .before .before .before .before .before .before .before .before .before .before .before .before .before .before .before .before .before .before .before), l .inv .6)) (omega (arith, small (c .before .before .before .before .before .before .before .before .before .before .before .before .before .before .before .before .before .before .before .before .before), l .inv .7))),
     )
 
 pub go-on-spec : {M : Type 1} → statement M
@@ -247,6 +257,7 @@ go-on-spec =
     word-at-requires
     wide32-requires
     loop-holds
+    slice-aggregate-soonest
     soonest-requires
     mul-end
     array-read-end
@@ -256,7 +267,6 @@ go-on-spec =
     refused-requires
     same-length-2
     returns-2
-    first-open-requires
     mul-wide16
     array-read-wide16
     wide16-requires
@@ -269,6 +279,9 @@ go-on-spec =
     same-length-3
     returns-3
     enum-known-o-2
+    add-open-before
+    add-open-before-2
+    open-before-requires
     cast-put-opened
     put-opened-requires
     kept-requires

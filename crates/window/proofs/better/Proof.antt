@@ -1,24 +1,14 @@
 -- `window::better` meets its contract. Assumes nothing.
 use native.Mathlib.Omega.{arith}
 use borrow.Author.Tests.{lt-ltb, le-ltb}
-use borrow.Author.Needs.{needs}
 use Rattle.window.proofs.better.Statement.{statement}
 use Rattle.window.proofs.better.Tie as tie
 
-enum-told : tie.Need-enum-told
-enum-told c = search needs
-
-enum-known-best : tie.Need-enum-known-best
-enum-known-best c = search needs
-
 returns : tie.Need-returns
-returns c = rw (c .enum-told .given .1)
+returns c = rw (lt-ltb (c .before .before .before .args .t .ready) (c .before .before .before .args .best .ready) (omega arith))
 
 returns-2 : tie.Need-returns-2
-returns-2 c = rw (c .before .before .before .before .best .given .1, lt-ltb (c .before .before .before .before .before .before .args .t .ready) (c .before .before .before .before .best .given .0 .0 .ready) (omega arith))
-
-returns-3 : tie.Need-returns-3
-returns-3 c = rw (c .before .before .before .before .best .given .1, le-ltb (c .before .before .before .before .before .before .args .t .ready) (c .before .before .before .before .best .given .0 .0 .ready) (omega arith))
+returns-2 c = rw (le-ltb (c .before .before .before .args .t .ready) (c .before .before .before .args .best .ready) (omega arith))
 
 pub better-spec : {M : Type 1} → statement M
-better-spec = tie.close (tie.spec enum-told enum-known-best returns returns-2 returns-3)
+better-spec = tie.close (tie.spec returns returns-2)

@@ -92,7 +92,7 @@ loop-holds c =
     let l = found locationAt bs _ _ there (c .before .before .location-at .ensures) ∙ known (c .before .before .before .before .before .before) .stands .location (a .at .location) (s .pre .3) in (
       search needs,
       first bs (a .start) (c .wide2 .result) (c .wide2 .ensures .0),
-      tt,
+      λ z. absurd (omega (arith, z)),
       choice-from (componentIn bs (a .c)) (entryOf (a .at)) (c .before .before .location-at .result) l,
     )
 

@@ -5,7 +5,7 @@ use native.Mathlib.Omega.{arith}
 use borrow.Author.Tests.{not-true, not-false}
 use lib.ListN.{getD}
 use Rattle.model.specs.Places.{arcAt}
-use Rattle.window.specs.declared.TakenEdge.{TakenEdge}
+use Rattle.window.specs.declared.Choice.{Choice}
 use Rattle.window.specs.Views.{pickOf, Kept}
 use Rattle.window.proofs.Fronts.{clock-guards-asked, data-guards-asked, data-found, ready-found, past-found}
 use Rattle.window.proofs.Considering.{elsewhere, unheld, shut, candidate-is, better-kept, better-window}
@@ -93,24 +93,28 @@ returns-3 c =
 sub-t27 : tie.Need-sub-t27
 sub-t27 c = search needs
 
+wide-requires-2 : tie.Need-wide-requires-2
+wide-requires-2 c κs = search needs
+
 better-requires : tie.Need-better-requires
 better-requires c κs = search needs
 
 returns-4 : tie.Need-returns-4
 unfolding arcAt
 returns-4 c =
-    let a = c .before .before .before .before .before .before .before .before .before .before .before .before .before .before .before .before .before .before .before .before .args in
+    let a = c .before .before .before .before .before .before .before .before .before .before .before .before .before .before .before .before .before .before .before .before .before .args in
     let h = a .h .now in
-    let w = c .before .before .before .before .before .window in
-    let at : 7 + c .before .before .before .before .before .before .before .before .before .before .before .before .before .before .wide .result * 5 ≡ 7 + getD h 4 0 * 5 = rw (c .before .before .before .before .before .before .before .before .before .before .before .before .before .before .wide .ensures .0) in
-    let d = data-found h _ (a .at .values) at (c .before .before .before .before .before .before .before .before .before .before .data-hold .ensures) in
+    let w = c .before .before .before .before .before .before .window in
+    let at : 7 + c .before .before .before .before .before .before .before .before .before .before .before .before .before .before .before .wide .result * 5 ≡ 7 + getD h 4 0 * 5 = rw (c .before .before .before .before .before .before .before .before .before .before .before .before .before .before .before .wide .ensures .0) in
+    let d = data-found h _ (a .at .values) at (c .before .before .before .before .before .before .before .before .before .before .before .data-hold .ensures) in
     let r = ready-found h (a .at .clocks) (w .ensures .0) in
     let p = past-found h (a .l) (a .at .clocks) (w .ensures .1) in
-    let t : TakenEdge = record { edge = a .e; place = a .place; ready = w .result .ready; end = w .result .past - 1 } in
-    let e = better-window (a .l) (a .at .clocks) (arcAt h) (a .best) t r (omega arith) in
-    let is = candidate-is (a .l) (a .at .location) (a .at .clocks) (a .at .values) (a .e) (arcAt h) (pickOf (a .best)) (c .before .before .before .before .before .before .before .before .before .before .before .before .before .before .before .before .if1 .left) (sym d ∙ not-false _ (c .before .before .before .before .before .before .before .before .before .if2 .left)) (omega arith) in (
+    let n = c .before .before .wide2 .ensures in
+    let t : Choice = record { edge = c .before .before .wide2 .result; place = a .place; ready = w .result .ready; end = w .result .past - 1 } in
+    let e = better-window (a .l) (a .at .clocks) (arcAt h) (a .best) t (a .e) (omega (arith, w .ensures .2)) (n .0) r (omega arith) in
+    let is = candidate-is (a .l) (a .at .location) (a .at .clocks) (a .at .values) (a .e) (arcAt h) (pickOf (a .best)) (c .before .before .before .before .before .before .before .before .before .before .before .before .before .before .before .before .before .if1 .left) (sym d ∙ not-false _ (c .before .before .before .before .before .before .before .before .before .before .if2 .left)) (omega arith) in (
       ap pickOf (c .better .ensures) ∙ e ∙ is,
-      λ f q k. subst (Kept f) (sym (c .better .ensures)) (better-kept f (a .best) t (sym q, w .ensures .2, omega arith) k),
+      λ f q k. subst (Kept f) (sym (c .better .ensures)) (better-kept f (a .best) t (λ z. (sym q ∙ ap f (sym (n .0)), n .1, omega (arith, w .ensures .3))) k),
     )
 
 pub considered-edge-spec : {M : Type 1} → statement M
@@ -136,6 +140,7 @@ considered-edge-spec =
     window-requires
     add-if3
     returns-3
+    wide-requires-2
     sub-t27
     better-requires
     returns-4)
