@@ -10,4 +10,5 @@ pub mod Hearing
 pub mod Moves
 pub mod Alone
 pub mod Sending
+pub mod Adding
 pub mod Loads

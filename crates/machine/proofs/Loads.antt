@@ -1,6 +1,5 @@
 -- What is known of a node once its words have been read. Assumes nothing.
 use mathlib.Core.Path.{_≡_, sym, ap, ap₂, subst, _∙_}
-use mathlib.Core.Bool.{Bool, true}
 use mathlib.Core.List.{List}
 use Prim.Native.Nat.{ℕ, _+_, _-_, _≤_, _<_}
 use native.Mathlib.Omega.{arith}
@@ -9,20 +8,17 @@ use lib.ListN.{length, drop, length-take, length-drop}
 use lib.Seq.{getD-drop}
 use Rattle.model.specs.Reader.{byte}
 use Rattle.model.specs.Machine
-use Rattle.model.specs.Run.{standOf}
 use Rattle.node.specs.declared.Counts.{Counts}
 use Rattle.node.specs.declared.Node.{Node}
 use Rattle.node.specs.Views.{nodeOf, opIn, Held, Within, Addable}
 use Rattle.node.proofs.Ops.{opens}
 use Rattle.node.proofs.Held.{wider}
 use Rattle.registers.specs.Words.{wordIn, nodeIn, partIn, heldIn, SameNode}
-use Rattle.stand.specs.Stands.{mayFinish}
 use Rattle.machine.specs.Running.{viewIn, NodeStands, Standing}
 use Rattle.machine.specs.Chosen.{opOf, Inside}
 use Rattle.registers.proofs.Frames.{same-part}
 use Rattle.machine.proofs.Frames.{stands-wider}
-use Rattle.machine.proofs.Ops.{addable}
-use Rattle.machine.proofs.Lent.{lent, lent-is, lent-short}
+use Rattle.machine.proofs.Lent.{lent, lent-is}
 
 -- the op, read from the part's bytes as they were lent
 pub op-read : (program l : List ℕ) (v : List ℤ) (c base len at o : ℕ) → base ≡ wordIn l c 21 → len ≡ wordIn l c 22 → at ≡ wordIn l c 0
@@ -50,35 +46,15 @@ module _ {program rows : List ℕ} {n : ℕ} {l : List ℕ} {v : List ℤ} {c ba
   pub view-of : nodeOf (partIn program l c) held r ≡ viewIn program l v c
   view-of = ap₂ (λ (k : Counts) (x : Node). nodeOf (partIn program l c) k x) (a .counts) (a .node)
 
-  view-is : nodeOf bytes held r ≡ viewIn program l v c
-  view-is = ap (λ (x : List ℕ). nodeOf x held r) bytes-are ∙ view-of
-
-  -- the part lies in the program, is short, and the registers are within bounds
+  -- the part lies in the program, and the registers are within bounds
   pub inside : base + len ≤ length program
   inside = let e = a .begins in let f = a .spans in omega (arith, a .stands .inside)
-
-  pub short : length bytes ≤ 65535
-  short = let f = a .spans in lent-short program base len (omega (arith, a .stands .short))
 
   pub held-fine : Held held
   held-fine = subst (λ (k : Counts). Held k) (sym (a .counts)) (a .stands .held)
 
   pub within : Within 4000000000000000000 r
   within = subst (λ (x : Node). Within 4000000000000000000 x) (sym (a .node)) (wider 2000000000000000000 4000000000000000000 (omega arith) (a .stands .within))
-
-  -- whether it may finish its statement
-  pub may : (tick : ℕ) (x y : Bool) → x ≡ mayFinish tick (nodeOf bytes held r) (standOf (nodeOf bytes held r)) → x ≡ y
-      → mayFinish tick (viewIn program l v c) (standOf (viewIn program l v c)) ≡ y
-  may tick x y e f = sym (ap (λ (q : Rattle.model.specs.Machine.Node). mayFinish tick q (standOf q)) view-is) ∙ (sym e ∙ f)
-
-  -- the statement's op
-  pub op-is : (o : ℕ) → o ≡ opIn (drop (r .pc) bytes) → o ≡ opOf program l v c
-  op-is o e = op-read program l v c base len (r .pc) o (a .begins) (a .spans) (ap (λ (x : Node). x .pc) (a .node)) e
-
-  -- an addition that may be finished stays in range
-  pub adds : (tick : ℕ) → mayFinish tick (viewIn program l v c) (standOf (viewIn program l v c)) ≡ true → Addable (drop (r .pc) (partIn program l c)) (heldIn l c) r
-  adds tick e =
-      subst (λ (x : Node). Addable (drop (x .pc) (partIn program l c)) (heldIn l c) x) (sym (a .node)) (addable (partIn program l c) (heldIn l c) (nodeIn l v c) tick e)
 
   -- a send adds nothing
   pub sends-safe : opOf program l v c ≡ 4 → Addable (drop (r .pc) (partIn program l c)) (heldIn l c) r

@@ -15,9 +15,10 @@ use Rattle.node.specs.Views.{nodeOf, Held, Within, Grown, opIn, Addable}
 use Rattle.node.proofs.Held.{wider}
 use Rattle.stand.specs.Stands.{dueTick, lastTick}
 use Rattle.registers.specs.Words.{wordIn, nodeIn, partIn, heldIn, Eight, Stored}
-use Rattle.registers.proofs.Frames.{part-alike, held-alike, same-trans, put-there, put-beside, put-node, put-others, put-eight, stored-eight}
+use Rattle.registers.proofs.Frames.{node-alike, part-alike, held-alike, stored-part, same-trans, put-there, put-beside, put-node, put-others, put-eight, stored-eight}
+use Rattle.statement.specs.Done.{Finished}
 use Rattle.machine.specs.Running.{RowIs, readyAt, viewIn, NodeStands}
-use Rattle.machine.specs.Chosen.{opOf, Inside, NodePut, RowPassed, NodeMoved}
+use Rattle.machine.specs.Chosen.{opOf, Inside, Noted, NodePut, RowPassed, NodeMoved}
 use Rattle.machine.proofs.Lent.{lent, lent-is, lent-short}
 use Rattle.machine.proofs.Sleeps.{sleep-finished, work-finished, message-taken}
 
@@ -71,6 +72,22 @@ module _ (program rows : List ℕ) (n : ℕ) (l : List ℕ) (v : List ℤ) (c : 
             (same-trans (put-others l₁ c 26 due a v₁ i d (omega arith)) (put-others l₂ c 27 last b v₁ i d (omega arith)));
         eight = put-eight l₂ c 27 last b v₁ eight₂;
       }
+
+-- the same, as `note` tells it
+pub node-noted : {program rows : List ℕ} {n : ℕ} {l : List ℕ} {v : List ℤ} {c : ℕ} {q : Node} {l₁ : List ℕ} {v₁ : List ℤ} {l₃ : List ℕ} {p : List ℕ}
+    → Eight l v → c < 8 → Stored l v c q l₁ v₁ → p ≡ partIn program l₁ c → Noted p rows n l₁ c l₃ → NodePut program rows n l v c q l₃ v₁
+node-noted {program} {rows} {n} {l} {v} {c} {q} {l₁} {v₁} {l₃} {p} e h s ep w =
+    let held = heldIn l₁ c in
+    node-put program rows n l v c q l₁ v₁ (w .due) (w .last) e h s (set l₁ (c * 32 + 26) (w .due)) l₃ refl (w .put) p held (readyAt (rowsOf rows n) (wordIn l₁ c 25)) ep refl refl
+    (w .dues held v₁ ∙ ap (λ (x : Node). dueTick (nodeOf p held x) (standOf (nodeOf p held x))) (s .node))
+    (w .lasts held v₁ ∙ ap (λ (x : Node). lastTick (nodeOf p held x) (readyAt (rowsOf rows n) (wordIn l₁ c 25)) (standOf (nodeOf p held x))) (s .node))
+
+-- what `note` asks of node c, whose registers are q
+pub place-stored : {l : List ℕ} {v : List ℤ} {c : ℕ} {q : Node} {l₁ : List ℕ} {v₁ : List ℤ} → Stored l v c q l₁ v₁ → q .pc ≡ wordIn l₁ c 0
+place-stored s = sym (ap (λ (x : Node). x .pc) (s .node))
+
+pub time-stored : {l : List ℕ} {v : List ℤ} {c : ℕ} {q : Node} {l₁ : List ℕ} {v₁ : List ℤ} → Stored l v c q l₁ v₁ → Within 4000000000000000000 q → wordIn l₁ c 1 ≤ 4000000000000000000
+time-stored {q = q} s w = let e = ap (λ (x : Node). x .t) (s .node) in omega (arith, e, w .t)
 
 -- ## Moved
 
@@ -181,16 +198,6 @@ pub passing-eight : (rows : List ℕ) (n : ℕ) (l : List ℕ) (v : List ℤ) (c
 passing-eight rows n l v c op l₁ way e =
     record { words = omega (arith, passing-length rows n l c op l₁ way, e .words); values = e .values }
 
-pub passing-inside : (program rows : List ℕ) (n : ℕ) (l : List ℕ) (c op : ℕ) (l₁ : List ℕ) → Passing rows n l c op l₁ → Inside program l c → Inside program l₁ c
-passing-inside program rows n l c op l₁ way i =
-    ⊎-elim
-    (λ s.
-    let base = s .1 .beside 21 (omega arith) (λ z. omega arith) in
-    let size = s .1 .beside 22 (omega arith) (λ z. omega arith) in
-    record { inside = rw (base, size) (i .inside); short = rw size (i .short) })
-    (λ s. subst (λ (x : List ℕ). Inside program x c) (sym (s .1)) i)
-    way
-
 module _ (program rows : List ℕ) (n : ℕ) (l : List ℕ) (v : List ℤ) (c base size : ℕ) (held : Counts) (q : Node) (l′ : List ℕ) (v′ : List ℤ)
     (b : base ≡ wordIn l c 21) (z : size ≡ wordIn l c 22) (k : held ≡ heldIn l c) where
   -- what is told of the part as it is lent holds of the node's part
@@ -235,3 +242,64 @@ module _ (program rows : List ℕ) (n : ℕ) (l : List ℕ) (v : List ℤ) (c ba
       p
       _
       f₀
+
+-- ## Carried out on the words
+
+-- what finishing on the words asks of them after the row was passed
+pub record Passed (program l : List ℕ) (v : List ℤ) (c base size op : ℕ) (l₁ : List ℕ) : Type 0 where
+  pub short : length (lent program base size) ≤ 65535
+  pub eight : Eight l₁ v
+  pub held : Held (heldIn l₁ c)
+  pub within : Within 4000000000000000000 (nodeIn l₁ v c)
+  pub addable : Addable (drop (wordIn l₁ c 0) (lent program base size)) (heldIn l₁ c) (nodeIn l₁ v c)
+  pub op-is : op ≡ opIn (drop (wordIn l₁ c 0) (lent program base size))
+  -- the registers, the counts and the part are what they were
+  pub node : nodeIn l₁ v c ≡ nodeIn l v c
+  pub counts : heldIn l₁ c ≡ heldIn l c
+  pub part : lent program base size ≡ partIn program l₁ c
+  -- the registers after it have not grown too far
+  pub put : (q : Node) → Grown (nodeIn l₁ v c) q → Within 4000000000000000000 q
+
+pub passes : (program rows : List ℕ) (n : ℕ) (l : List ℕ) (v : List ℤ) (c base size op : ℕ) (l₁ : List ℕ) → base ≡ wordIn l c 21 → size ≡ wordIn l c 22
+    → Eight l v → NodeStands program rows n l v c 3000000000000000000 → op ≡ opOf program l v c → Addable (drop (wordIn l c 0) (partIn program l c)) (heldIn l c) (nodeIn l v c)
+    → Passing rows n l c op l₁ → Passed program l v c base size op l₁
+passes program rows n l v c base size op l₁ b z e s o a way =
+    let same : (k : ℕ) → k < 32 → (k ≡ 25 → ⊥) → wordIn l₁ c k ≡ wordIn l c k = ⊎-elim (λ w. w .1 .beside) (λ w k h d. ap (λ (x : List ℕ). wordIn x c k) (w .1)) way in
+    let fixed : (k : ℕ) → 21 ≤ k → k < 25 → wordIn l₁ c k ≡ wordIn l c k = λ k i m. same k (omega arith) (λ t. omega arith) in
+    let node : nodeIn l₁ v c ≡ nodeIn l v c = node-alike l l₁ v v c (λ k h. same k (omega arith) (λ t. omega arith)) (λ k h. refl) in
+    let counts : heldIn l₁ c ≡ heldIn l c = held-alike l l₁ c fixed in
+    let bytes : lent program base size ≡ partIn program l c = lent-is program l c base size b z in
+    let at : wordIn l₁ c 0 ≡ wordIn l c 0 = same 0 (omega arith) (λ t. omega arith) in
+    record {
+      short = lent-short program base size (omega (arith, s .short));
+      eight = passing-eight rows n l v c op l₁ way e;
+      held = subst Held (sym counts) (s .held);
+      within = subst (Within 4000000000000000000) (sym node) (wider 3000000000000000000 4000000000000000000 (omega arith) (s .within));
+      addable =
+          subst (λ (x : List ℕ). Addable (drop (wordIn l₁ c 0) x) (heldIn l₁ c) (nodeIn l₁ v c)) (sym bytes)
+          (subst (λ (i : ℕ). Addable (drop i (partIn program l c)) (heldIn l₁ c) (nodeIn l₁ v c)) (sym at)
+          (subst (λ (k : Counts). Addable (drop (wordIn l c 0) (partIn program l c)) k (nodeIn l₁ v c)) (sym counts)
+          (subst (λ (x : Node). Addable (drop (wordIn l c 0) (partIn program l c)) (heldIn l c) x) (sym node) a)));
+      op-is = o ∙ ap₂ (λ (i : ℕ) (x : List ℕ). opIn (drop i x)) (sym at) (sym bytes);
+      node = node;
+      counts = counts;
+      part = bytes ∙ sym (part-alike program l l₁ c fixed);
+      put = λ q g. wider 3000000000000131070 4000000000000000000 (omega arith) (g 3000000000000000000 (subst (Within 3000000000000000000) (sym node) (s .within)));
+    }
+
+pub words-moved : (program rows : List ℕ) (n : ℕ) (l : List ℕ) (v : List ℤ) (c base size op pc : ℕ) (l₁ l₂ : List ℕ) (v₂ : List ℤ) (l₃ : List ℕ) → c < 8 → base ≡ wordIn l c 21
+    → size ≡ wordIn l c 22 → op ≡ opOf program l v c → Passing rows n l c op l₁ → Passed program l v c base size op l₁
+    → Finished (lent program base size) l₁ v c pc l₂ v₂ → Noted (lent program base size) rows n l₂ c l₃
+    → NodeMoved program rows n l v c (finish (partIn program l c) (viewIn program l v c) (viewIn program l v c .rest)) l₃ v₂
+words-moved program rows n l v c base size op pc l₁ l₂ v₂ l₃ h b z o way a f w =
+    let bytes = lent program base size in
+    let q = f .node in
+    let ends : nodeOf bytes (heldIn l c) q ≡ finish bytes (nodeOf bytes (heldIn l c) (nodeIn l v c)) (nodeOf bytes (heldIn l c) (nodeIn l v c) .rest) =
+    subst (λ (x : Node). nodeOf bytes (heldIn l c) q ≡ finish bytes (nodeOf bytes (heldIn l c) x) (nodeOf bytes (heldIn l c) x .rest)) (a .node)
+    (subst (λ (k : Counts). nodeOf bytes k q ≡ finish bytes (nodeOf bytes k (nodeIn l₁ v c)) (nodeOf bytes k (nodeIn l₁ v c) .rest)) (a .counts) (f .finished)) in
+    finish-moved program rows n l v c base size (heldIn l c) q l₃ v₂ b z refl (nodeIn l v c) op l₁ refl
+    (o ∙ ap (λ (x : List ℕ). opIn (drop (wordIn l c 0) x)) (sym (lent-is program l c base size b z)))
+    ends
+    (subst (λ (x : Node). Grown x q) (a .node) (f .grown))
+    way
+    (node-noted (a .eight) h (f .stored) (a .part ∙ sym (stored-part (f .stored) program)) w)

@@ -5,15 +5,16 @@ use mathlib.Core.List.{List, [], _∷_, _++_}
 use Prim.Native.Nat.{ℕ, suc, _+_, _*_, _≤_, _<_}
 use lib.Dec.{eqb}
 use lib.IntN.{ℤ}
-use lib.ListN.{length, drop}
+use lib.ListN.{length, drop, set}
 use lib.Seq.{sets}
 use Rattle.model.specs.Lists.{each}
 use Rattle.model.specs.Network.{Observation}
 use Rattle.model.specs.Machine.{finish}
 use Rattle.model.specs.Run.{Run, forbidden, on, standOf, choose1, observationBytes}
 use Rattle.rows.specs.Rows.{rowsOf}
+use Rattle.node.specs.declared.Counts.{Counts}
 use Rattle.node.specs.declared.Node.{Node}
-use Rattle.node.specs.Views.{opIn}
+use Rattle.node.specs.Views.{opIn, nodeOf}
 use Rattle.stand.specs.Stands.{dueTick, lastTick}
 use Rattle.registers.specs.Words.{wordIn, nodeIn, partIn, Eight, SameNode}
 use Rattle.machine.specs.declared.Moved.{Moved}
@@ -27,6 +28,14 @@ opOf program l v c = opIn (drop (wordIn l c 0) (partIn program l c))
 pub record Inside (program l : List ℕ) (c : ℕ) : Type 0 where
   pub inside : wordIn l c 21 + wordIn l c 22 ≤ length program
   pub short : wordIn l c 22 ≤ 65535
+
+-- it is noted when node c, whose part is p, is due and when it is late
+pub record Noted (p rows : List ℕ) (n : ℕ) (l : List ℕ) (c : ℕ) (l′ : List ℕ) : Type 0 where
+  pub due : ℕ
+  pub last : ℕ
+  pub dues : (held : Counts) (v : List ℤ) → due ≡ dueTick (nodeOf p held (nodeIn l v c)) (standOf (nodeOf p held (nodeIn l v c)))
+  pub lasts : (held : Counts) (v : List ℤ) → last ≡ lastTick (nodeOf p held (nodeIn l v c)) (readyAt (rowsOf rows n) (wordIn l c 25)) (standOf (nodeOf p held (nodeIn l v c)))
+  pub put : l′ ≡ set (set l (c * 32 + 26) due) (c * 32 + 27) last
 
 -- node c's registers are q, and it is noted when it is due and when it is late; all of any other node is as it was
 pub record NodePut (program rows : List ℕ) (n : ℕ) (l : List ℕ) (v : List ℤ) (c : ℕ) (q : Node) (l′ : List ℕ) (v′ : List ℤ) : Type 0 where

@@ -12,10 +12,11 @@ ghost use Rattle.model.specs.Schedule.{own};
 ghost use Rattle.model.specs.Machine.{finish};
 ghost use Rattle.model.specs.Run.{Run, standOf, names, listeners, takesMessage};
 ghost use Rattle.rows.specs.Rows.{num, rowsOf};
-ghost use Rattle.node.specs.Views.{Within, opIn, Addable};
+ghost use Rattle.node.specs.Views.{Held, Within, opIn, Addable};
+ghost use Rattle.stand.specs.Stands.{mayFinish};
 ghost use Rattle.registers.specs.Words.{wordIn, nodeIn, partIn, heldIn, Eight};
 ghost use Rattle.machine.specs.Running.{RowsStand, readyAt, viewIn, NodeStands, Standing};
-ghost use Rattle.machine.specs.Chosen.{opOf, Inside, NodePut, RowPassed, IsFirst, NodeMoved, observesNow, Chosen};
+ghost use Rattle.machine.specs.Chosen.{opOf, Inside, Noted, NodePut, RowPassed, IsFirst, NodeMoved, observesNow, Chosen};
 use node::Node;
 
 // Whether a choice was allowed, and how many observations are written now.
@@ -50,6 +51,21 @@ fn next_ready(rows: &[u32], n: usize, row: usize) -> u64
     18446744073709551615
 }
 
+// Notes when node c is due and when it is late; p is its part, and its next statement stands at that place.
+fn note(p: &[u8], rows: &[u32], n: usize, l: &mut [u64], c: usize, pc: usize)
+    requires { ⌜ (256 ≤ length (now l)) × RowsStand (now rows) n × (c < 8) × (wordIn (now l) c 1 ≤ 4000000000000000000) × (pc ≡ wordIn (now l) c 0) ⌝ }
+    ensures { λ _. ⌜ Noted (now (p .entry)) (now (rows .entry)) n (now (l .entry)) c (now (l .exit)) ⌝ }
+{
+    let op = node::op_at(p, pc);
+    let t = registers::word(l, c, 1);
+    let d = registers::half(registers::word(l, c, 7));
+    let next = next_ready(rows, n, registers::word(l, c, 25) as usize);
+    let due = stand::due_by(op, t, d);
+    let last = stand::last_by(op, t, d, next);
+    registers::put_word(l, c, 26, due);
+    registers::put_word(l, c, 27, last);
+}
+
 // Puts the registers of node c back, and notes when it is due and when it is late.
 pub fn put_node(
     program: &[u8],
@@ -66,12 +82,7 @@ pub fn put_node(
     registers::store(l, v, c, q);
     let base = registers::word(l, c, 21) as usize;
     let end = base + registers::word(l, c, 22) as usize;
-    let held = registers::counts(l, c);
-    let next = next_ready(rows, n, registers::word(l, c, 25) as usize);
-    let due = stand::due_tick(&program[base..end], held, q);
-    let last = stand::last_tick(&program[base..end], held, q, next);
-    registers::put_word(l, c, 26, due);
-    registers::put_word(l, c, 27, last);
+    note(&program[base..end], rows, n, l, c, q.pc);
 }
 
 // After a sleep: the row of node c's next passage.
@@ -86,7 +97,7 @@ fn pass_row(rows: &[u32], n: usize, l: &mut [u64], c: usize)
     }
 }
 
-// Node c, whose registers are r, finishes its statement.
+// Node c finishes its statement, whose op that is.
 fn finish_node(
     program: &[u8],
     rows: &[u32],
@@ -94,20 +105,18 @@ fn finish_node(
     l: &mut [u64],
     v: &mut [i16],
     c: usize,
-    r: Node,
+    op: u8,
 )
-    requires { ⌜ Eight (now l) (now v) × RowsStand (now rows) n × (c < 8) × NodeStands (now program) (now rows) n (now l) (now v) c 3000000000000000000 × (r ≡ nodeIn (now l) (now v) c) × Addable (drop (r .pc) (partIn (now program) (now l) c)) (heldIn (now l) c) r ⌝ }
+    requires { ⌜ Eight (now l) (now v) × RowsStand (now rows) n × (c < 8) × NodeStands (now program) (now rows) n (now l) (now v) c 3000000000000000000 × (op ≡ opOf (now program) (now l) (now v) c) × Addable (drop (wordIn (now l) c 0) (partIn (now program) (now l) c)) (heldIn (now l) c) (nodeIn (now l) (now v) c) ⌝ }
     ensures { λ _. ⌜ NodeMoved (now (program .entry)) (now (rows .entry)) n (now (l .entry)) (now (v .entry)) c (finish (partIn (now (program .entry)) (now (l .entry)) c) (viewIn (now (program .entry)) (now (l .entry)) (now (v .entry)) c) (viewIn (now (program .entry)) (now (l .entry)) (now (v .entry)) c .rest)) (now (l .exit)) (now (v .exit)) ⌝ }
 {
     let base = registers::word(l, c, 21) as usize;
     let end = base + registers::word(l, c, 22) as usize;
-    let held = registers::counts(l, c);
-    let op = node::op_at(&program[base..end], r.pc);
-    let q = node::finish(&program[base..end], held, r);
     if op == 0 {
         pass_row(rows, n, l, c);
     }
-    put_node(program, rows, n, l, v, c, q);
+    let pc = statement::finish(&program[base..end], l, v, c, op);
+    note(&program[base..end], rows, n, l, c, pc);
 }
 
 // Node i takes a message on the channel.
@@ -173,15 +182,35 @@ fn send_message(
 {
     let base = registers::word(l, c, 21) as usize;
     let end = base + registers::word(l, c, 22) as usize;
-    let r = registers::load(l, v, c);
-    let k = node::byte_at(&program[base..end], r.pc + 1);
+    let pc = registers::word(l, c, 0) as usize;
+    let k = node::byte_at(&program[base..end], pc + 1);
     let i = listener(program, l, count, c, k);
     if 8 <= i {
         return false;
     }
-    finish_node(program, rows, n, l, v, c, r);
+    finish_node(program, rows, n, l, v, c, 4);
     hear(program, rows, n, l, v, i, k);
     true
+}
+
+// Whether node c, whose statement's op that is, may finish it at that tick without another node.
+fn may_finish(program: &[u8], l: &[u64], v: &[i16], c: usize, op: u8, tick: u64) -> bool
+    requires { ⌜ Eight (now l) (now v) × (c < 8) × Inside (now program) (now l) c × Held (heldIn (now l) c) × (wordIn (now l) c 1 ≤ 4000000000000000000) × (op ≡ opOf (now program) (now l) (now v) c) ⌝ }
+    ensures { λ b. ⌜ b ≡ mayFinish tick (viewIn (now (program .entry)) (now (l .entry)) (now (v .entry)) c) (standOf (viewIn (now (program .entry)) (now (l .entry)) (now (v .entry)) c)) ⌝ }
+{
+    let t = registers::word(l, c, 1);
+    let d = registers::half(registers::word(l, c, 7));
+    let kept = registers::word(l, c, 16) == 1;
+    if op == 2 {
+        let base = registers::word(l, c, 21) as usize;
+        let end = base + registers::word(l, c, 22) as usize;
+        let at = registers::word(l, c, 0) as usize;
+        let p = &program[base..end];
+        let value = registers::value(l, v, c, p[at + 1]);
+        let fits = stand::adds_in_range(&p[at..], value);
+        return stand::may_by(op, tick, t, d, kept, fits);
+    }
+    stand::may_by(op, tick, t, d, kept, true)
 }
 
 // Node c, which does not stand at a send, finishes its statement if it may; a sleep is observed.
@@ -193,32 +222,31 @@ fn go_alone(
     l: &mut [u64],
     v: &mut [i16],
     c: usize,
+    op: u8,
     tick: u64,
     out: &mut [u8],
     written: usize,
 ) -> Moved
-    requires { ⌜ Standing (now program) (now rows) n (now l) (now v) count × (c < count) × (opOf (now program) (now l) (now v) c ≡ 4 → ⊥) × (observesNow (now program) (now l) (now v) c tick ≡ true → written * 32 + 32 ≤ length (now out)) × (written ≤ 1000000) ⌝ }
+    requires { ⌜ Standing (now program) (now rows) n (now l) (now v) count × (c < count) × (op ≡ opOf (now program) (now l) (now v) c) × (opOf (now program) (now l) (now v) c ≡ 4 → ⊥) × (observesNow (now program) (now l) (now v) c tick ≡ true → written * 32 + 32 ≤ length (now out)) × (written ≤ 1000000) ⌝ }
     ensures { λ m. ⌜ ((H : ℕ) → Chosen (now (program .entry)) (now (rows .entry)) n H count tick c (now (l .entry)) (now (v .entry)) (now (out .entry)) written m (now (l .exit)) (now (v .exit)) (now (out .exit))) ⌝ }
 {
-    let base = registers::word(l, c, 21) as usize;
-    let end = base + registers::word(l, c, 22) as usize;
-    let held = registers::counts(l, c);
-    let r = registers::load(l, v, c);
-    if !stand::may_finish(&program[base..end], held, r, tick) {
+    if !may_finish(program, l, v, c, op, tick) {
         return Moved {
             allowed: false,
             written,
         };
     }
-    let op = node::op_at(&program[base..end], r.pc);
-    finish_node(program, rows, n, l, v, c, r);
     if op == 0 {
+        let held = registers::counts(l, c);
+        let r = registers::load(l, v, c);
         observation::put_observation(r, held, c as u8, tick, out, written * 32);
+        finish_node(program, rows, n, l, v, c, 0);
         return Moved {
             allowed: true,
             written: written + 1,
         };
     }
+    finish_node(program, rows, n, l, v, c, op);
     Moved {
         allowed: true,
         written,
@@ -251,9 +279,10 @@ pub fn choose_node(
     let base = registers::word(l, c, 21) as usize;
     let end = base + registers::word(l, c, 22) as usize;
     let pc = registers::word(l, c, 0) as usize;
-    if node::op_at(&program[base..end], pc) == 4 {
+    let op = node::op_at(&program[base..end], pc);
+    if op == 4 {
         let allowed = send_message(program, rows, n, l, v, count, c);
         return Moved { allowed, written };
     }
-    go_alone(program, rows, n, count, l, v, c, tick, out, written)
+    go_alone(program, rows, n, count, l, v, c, op, tick, out, written)
 }

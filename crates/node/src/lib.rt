@@ -1,6 +1,6 @@
 // One node: its registers, and what the statement at its program counter does to them (document 01, 'The program', last paragraph).
 // Any bytes may be the node's part.
-mod candidate;
+pub mod candidate;
 
 ghost use mathlib.Core.Path.{_≡_};
 ghost use mathlib.Core.Bool.{true};
@@ -11,6 +11,8 @@ ghost use lib.ListN.{length, take, drop};
 ghost use Rattle.model.specs.Reader.{byte, word};
 ghost use Rattle.model.specs.Window.{clockAt, valueAt, inRange, paired};
 ghost use Rattle.model.specs.Machine.{blockPlace, statementLength};
+ghost use Rattle.node.specs.declared.Counts.{Counts};
+ghost use Rattle.node.specs.declared.Node.{Node};
 ghost use Rattle.node.specs.Views.{nodeOf, Held, Within, opIn, Addable, Executed, Tried, Grown};
 
 // How many clocks and variables the node has.
@@ -55,7 +57,7 @@ pub struct Node {
     pub sleeps: u64,
 }
 
-fn wide(x: u8) -> usize
+pub fn wide(x: u8) -> usize
     ensures { λ r. ⌜ (r ≡ x) × (r < 256) ⌝ }
 {
     x as usize
@@ -134,32 +136,47 @@ pub fn value_at(values: [i16; 4], n: u8, i: u8) -> i16
     if i < n { values[wide(i)] } else { 0 }
 }
 
-// The trial after a bound, by its op: low (0B), high (0C), the two data bounds (0D, 0E), or a new trial.
+// The trial after a bound on that clock: low (0B) or high (0C).
+pub fn by_clock(h: &[u8], x: Trial, clock: u64) -> Trial
+    requires { ⌜ (4 ≤ length (now h)) × (11 ≤ byte (now h) 0) × (byte (now h) 0 ≤ 12) ⌝ }
+    ensures { λ y. ⌜ ((held : Counts) (r : Node) → r .tried ≡ x → clockAt (take (held .clocks) (r .clocks)) (byte (now (h .entry)) 1) ≡ clock → Tried (now (h .entry)) held r y) ⌝ }
+{
+    let k = parts::word_at(h, 2);
+    if h[0] == 11 {
+        return candidate::raised(x, k, clock);
+    }
+    candidate::lowered(x, k, clock)
+}
+
+// The trial after a bound on that variable (0D or 0E).
+pub fn by_value(h: &[u8], x: Trial, value: i16) -> Trial
+    requires { ⌜ (4 ≤ length (now h)) × (13 ≤ byte (now h) 0) × (byte (now h) 0 ≤ 14) ⌝ }
+    ensures { λ y. ⌜ ((held : Counts) (r : Node) → r .tried ≡ x → valueAt (take (held .variables) (r .values)) (byte (now (h .entry)) 1) ≡ value → Tried (now (h .entry)) held r y) ⌝ }
+{
+    let bound = decoder::signed_at(h, 2);
+    if h[0] == 13 {
+        return candidate::met(x, bound <= value);
+    }
+    candidate::met(x, value <= bound)
+}
+
+// The trial after a bound, by its op, or a new trial (0A).
 fn tried(h: &[u8], held: Counts, r: Node) -> Trial
     requires { ⌜ (4 ≤ length (now h)) × (10 ≤ byte (now h) 0) × (byte (now h) 0 ≤ 14) × Held held ⌝ }
     ensures { λ x. ⌜ Tried (now (h .entry)) held r x ⌝ }
 {
     let op = h[0];
     let a = h[1];
-    let k = parts::word_at(h, 2);
     let x = r.tried;
     let clocks = r.clocks;
     let values = r.values;
     if op == 10 {
         return candidate::no_trial();
     }
-    if op == 11 {
-        return candidate::raised(x, k, clock_at(clocks, held.clocks, a));
+    if op < 13 {
+        return by_clock(h, x, clock_at(clocks, held.clocks, a));
     }
-    if op == 12 {
-        return candidate::lowered(x, k, clock_at(clocks, held.clocks, a));
-    }
-    let bound = decoder::signed_at(h, 2);
-    let value = value_at(values, held.variables, a);
-    if op == 13 {
-        return candidate::met(x, bound <= value);
-    }
-    candidate::met(x, value <= bound)
+    by_value(h, x, value_at(values, held.variables, a))
 }
 
 // A statement of a trial (0A to 0F).
@@ -179,7 +196,7 @@ fn try_statement(h: &[u8], held: Counts, r: Node) -> Node
 }
 
 // A sum that stays in range.
-fn sum(x: i16, z: i16) -> i16
+pub fn sum(x: i16, z: i16) -> i16
     requires { ⌜ inRange (x +ℤ z) ≡ true ⌝ }
     ensures { λ r. ⌜ r ≡ x +ℤ z ⌝ }
 {
@@ -267,7 +284,7 @@ fn work_statement(h: &[u8], held: Counts, r: Node) -> Node
 }
 
 // How many bytes the statement at the front has, a listen's pairs included.
-fn statement_length(h: &[u8]) -> usize
+pub fn statement_length(h: &[u8]) -> usize
     requires { ⌜ 4 ≤ length (now h) ⌝ }
     ensures { λ r. ⌜ (r ≡ statementLength (now (h .entry))) × (r ≤ 1024) ⌝ }
 {

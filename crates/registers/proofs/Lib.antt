@@ -1,3 +1,4 @@
 pub mod Runs
 pub mod Frames
 pub mod Written
+pub mod Puts

@@ -35,12 +35,12 @@ wordsOf r =
     timeWords (r .pc) (r .t) (r .clocks) ++ placeWords (r .n) (r .d) (r .location) (r .edge) (r .taken) (r .goes)
     ++ trialWords (r .tried) ++ keptWords (r .kept) ++ r .sleeps ∷ []
 
-flag-is : (b : Bool) → eqb (flagOf b) 1 ≡ b
+pub flag-is : (b : Bool) → eqb (flagOf b) 1 ≡ b
 flag-is true = refl
 flag-is false = refl
 
 -- a place of another node is before or after
-words-outside : (i c k n : ℕ) → (i ≡ c → ⊥) → k < 32 → n ≤ 32 → (i * 32 + k < c * 32) ⊎ (c * 32 + n ≤ i * 32 + k)
+pub words-outside : (i c k n : ℕ) → (i ≡ c → ⊥) → k < 32 → n ≤ 32 → (i * 32 + k < c * 32) ⊎ (c * 32 + n ≤ i * 32 + k)
 words-outside i c k n d h b = go (ltb i c) refl
   where
     go : (t : Bool) → ltb i c ≡ t → (i * 32 + k < c * 32) ⊎ (c * 32 + n ≤ i * 32 + k)

@@ -113,3 +113,30 @@ pub record Stored (l : List ℕ) (v : List ℤ) (c : ℕ) (r : Node) (l′ : Lis
   pub others : (i : ℕ) → (i ≡ c → ⊥) → SameNode l v l′ v′ i
   pub length-l : length l′ ≡ length l
   pub length-v : length v′ ≡ length v
+
+-- ## Registers changed in part
+
+abbrev pub atPlace : Node → ℕ → Node
+atPlace r pc = record { pc = pc; location = r .location; clocks = r .clocks; values = r .values; t = r .t; n = r .n; d = r .d; edge = r .edge; taken = r .taken; goes = r .goes; tried = r .tried; kept = r .kept; sleeps = r .sleeps }
+
+abbrev pub withClocks : Node → List ℕ → Node
+withClocks r xs = record { pc = r .pc; location = r .location; clocks = xs; values = r .values; t = r .t; n = r .n; d = r .d; edge = r .edge; taken = r .taken; goes = r .goes; tried = r .tried; kept = r .kept; sleeps = r .sleeps }
+
+abbrev pub withValues : Node → List ℤ → Node
+withValues r xs = record { pc = r .pc; location = r .location; clocks = r .clocks; values = xs; t = r .t; n = r .n; d = r .d; edge = r .edge; taken = r .taken; goes = r .goes; tried = r .tried; kept = r .kept; sleeps = r .sleeps }
+
+-- in another location, with no message taken
+abbrev pub entering : Node → ℕ → Node
+entering r x = record { pc = r .pc; location = x; clocks = r .clocks; values = r .values; t = r .t; n = r .n; d = r .d; edge = r .edge; taken = false; goes = r .goes; tried = r .tried; kept = r .kept; sleeps = r .sleeps }
+
+abbrev pub withTrial : Node → Trial → Node
+withTrial r x = record { pc = r .pc; location = r .location; clocks = r .clocks; values = r .values; t = r .t; n = r .n; d = r .d; edge = r .edge; taken = r .taken; goes = r .goes; tried = x; kept = r .kept; sleeps = r .sleeps }
+
+abbrev pub withKept : Node → Kept → Node
+withKept r k = record { pc = r .pc; location = r .location; clocks = r .clocks; values = r .values; t = r .t; n = r .n; d = r .d; edge = r .edge; taken = r .taken; goes = r .goes; tried = r .tried; kept = k; sleeps = r .sleeps }
+
+abbrev pub withPassage : Node → ℕ → ℕ → ℕ → ℕ → Node
+withPassage r edge t n d = record { pc = r .pc; location = r .location; clocks = r .clocks; values = r .values; t = t; n = n; d = d; edge = edge; taken = r .taken; goes = r .goes; tried = r .tried; kept = r .kept; sleeps = r .sleeps }
+
+abbrev pub withSleeps : Node → ℕ → Node
+withSleeps r k = record { pc = r .pc; location = r .location; clocks = r .clocks; values = r .values; t = r .t; n = r .n; d = r .d; edge = r .edge; taken = r .taken; goes = r .goes; tried = r .tried; kept = r .kept; sleeps = k }

@@ -1,26 +1,37 @@
 // The registers of eight nodes as numbers in two lent slices, 32 words and four variables a node, so that a choice touches one node and
 // copies no other.
 ghost use mathlib.Core.Path.{_≡_};
-ghost use Prim.Native.Nat.{_+_, _*_, _%_, _≤_, _<_};
-ghost use lib.ListN.{length, set};
+ghost use mathlib.Core.List.{List};
+ghost use Prim.Native.Nat.{ℕ, _+_, _*_, _%_, _≤_, _<_};
+ghost use lib.IntN.{ℤ};
+ghost use lib.ListN.{length, set, take};
 ghost use lib.Seq.{sets};
+ghost use Rattle.model.specs.Window.{clockAt, valueAt};
+ghost use Rattle.node.specs.Views.{Held};
 ghost use Rattle.registers.specs.Words.{flagOf, wordIn, clocksIn, valuesIn, trialIn, keptIn, nodeIn, heldIn, timeWords, placeWords, trialWords, keptWords, fourOf};
 ghost use Rattle.registers.specs.Words.{Eight, Stored};
+ghost use Rattle.registers.specs.Words.{atPlace, withClocks, withValues, entering, withTrial, withKept, withPassage, withSleeps};
 use node::Counts;
 use node::Kept;
 use node::Node;
 use node::Trial;
 
-fn small(x: u64) -> u8
+pub fn small(x: u64) -> u8
     ensures { λ r. ⌜ r ≡ x % 256 ⌝ }
 {
     (x % 256) as u8
 }
 
-fn half(x: u64) -> u16
+pub fn half(x: u64) -> u16
     ensures { λ r. ⌜ r ≡ x % 65536 ⌝ }
 {
     (x % 65536) as u16
+}
+
+fn wide(x: u8) -> usize
+    ensures { λ r. ⌜ (r ≡ x) × (r < 256) ⌝ }
+{
+    x as usize
 }
 
 // 1 for true.
@@ -56,7 +67,8 @@ pub fn counts(l: &[u64], c: usize) -> Counts
     }
 }
 
-fn load_trial(l: &[u64], c: usize) -> Trial
+// The trial of node c.
+pub fn load_trial(l: &[u64], c: usize) -> Trial
     requires { ⌜ (256 ≤ length (now l)) × (c < 8) ⌝ }
     ensures { λ r. ⌜ r ≡ trialIn (now (l .entry)) c ⌝ }
 {
@@ -68,7 +80,8 @@ fn load_trial(l: &[u64], c: usize) -> Trial
     }
 }
 
-fn load_kept(l: &[u64], c: usize) -> Kept
+// The edge that node c keeps.
+pub fn load_kept(l: &[u64], c: usize) -> Kept
     requires { ⌜ (256 ≤ length (now l)) × (c < 8) ⌝ }
     ensures { λ r. ⌜ r ≡ keptIn (now (l .entry)) c ⌝ }
 {
@@ -201,4 +214,94 @@ pub fn store(l: &mut [u64], v: &mut [i16], c: usize, r: Node)
     store_kept(l, at + 16, kept);
     l[at + 20] = r.sleeps;
     store_values(v, c * 4, values);
+}
+
+// Clock a of node c, 0 for one that the node does not have.
+pub fn clock(l: &[u64], c: usize, a: u8) -> u64
+    requires { ⌜ (256 ≤ length (now l)) × (c < 8) × Held (heldIn (now l) c) ⌝ }
+    ensures { λ r. ⌜ r ≡ clockAt (take (heldIn (now (l .entry)) c .clocks) (clocksIn (now (l .entry)) c)) a ⌝ }
+{
+    if a < small(word(l, c, 23)) {
+        return word(l, c, 2 + wide(a));
+    }
+    0
+}
+
+// Variable a of node c, 0 for one that the node does not have.
+pub fn value(l: &[u64], v: &[i16], c: usize, a: u8) -> i16
+    requires { ⌜ Eight (now l) (now v) × (c < 8) × Held (heldIn (now l) c) ⌝ }
+    ensures { λ r. ⌜ r ≡ valueAt (take (heldIn (now (l .entry)) c .variables) (valuesIn (now (v .entry)) c)) a ⌝ }
+{
+    if a < small(word(l, c, 24)) {
+        return v[c * 4 + wide(a)];
+    }
+    0
+}
+
+// Puts the place of node c's next statement.
+pub fn put_place(l: &mut [u64], c: usize, pc: usize)
+    requires { ⌜ (256 ≤ length (now l)) × (c < 8) ⌝ }
+    ensures { λ _. ⌜ ((v : List ℤ) → Stored (now (l .entry)) v c (atPlace (nodeIn (now (l .entry)) v c) pc) (now (l .exit)) v) ⌝ }
+{
+    put_word(l, c, 0, pc as u64);
+}
+
+// Puts clock a of node c.
+pub fn put_clock(l: &mut [u64], c: usize, a: u8, x: u64)
+    requires { ⌜ (256 ≤ length (now l)) × (c < 8) × (a < 4) ⌝ }
+    ensures { λ _. ⌜ ((v : List ℤ) → Stored (now (l .entry)) v c (withClocks (nodeIn (now (l .entry)) v c) (set (clocksIn (now (l .entry)) c) a x)) (now (l .exit)) v) ⌝ }
+{
+    put_word(l, c, 2 + wide(a), x);
+}
+
+// Puts variable a of node c.
+pub fn put_value(v: &mut [i16], c: usize, a: u8, x: i16)
+    requires { ⌜ (32 ≤ length (now v)) × (c < 8) × (a < 4) ⌝ }
+    ensures { λ _. ⌜ ((l : List ℕ) → Stored l (now (v .entry)) c (withValues (nodeIn l (now (v .entry)) c) (set (valuesIn (now (v .entry)) c) a x)) l (now (v .exit))) ⌝ }
+{
+    v[c * 4 + wide(a)] = x;
+}
+
+// Puts the location of node c; no message is taken.
+pub fn put_location(l: &mut [u64], c: usize, location: u8)
+    requires { ⌜ (256 ≤ length (now l)) × (c < 8) ⌝ }
+    ensures { λ _. ⌜ ((v : List ℤ) → Stored (now (l .entry)) v c (entering (nodeIn (now (l .entry)) v c) location) (now (l .exit)) v) ⌝ }
+{
+    put_word(l, c, 8, location as u64);
+    put_word(l, c, 10, 0);
+}
+
+// Puts the trial of node c.
+pub fn put_trial(l: &mut [u64], c: usize, x: Trial)
+    requires { ⌜ (256 ≤ length (now l)) × (c < 8) ⌝ }
+    ensures { λ _. ⌜ ((v : List ℤ) → Stored (now (l .entry)) v c (withTrial (nodeIn (now (l .entry)) v c) x) (now (l .exit)) v) ⌝ }
+{
+    store_trial(l, c * 32 + 12, x);
+}
+
+// Puts the edge that node c keeps.
+pub fn put_kept(l: &mut [u64], c: usize, k: Kept)
+    requires { ⌜ (256 ≤ length (now l)) × (c < 8) ⌝ }
+    ensures { λ _. ⌜ ((v : List ℤ) → Stored (now (l .entry)) v c (withKept (nodeIn (now (l .entry)) v c) k) (now (l .exit)) v) ⌝ }
+{
+    store_kept(l, c * 32 + 16, k);
+}
+
+// Puts the passage of node c: its edge, t, n and d.
+pub fn put_passage(l: &mut [u64], c: usize, edge: u8, t: u64, n: u16, d: u16)
+    requires { ⌜ (256 ≤ length (now l)) × (c < 8) ⌝ }
+    ensures { λ _. ⌜ ((v : List ℤ) → Stored (now (l .entry)) v c (withPassage (nodeIn (now (l .entry)) v c) edge t n d) (now (l .exit)) v) ⌝ }
+{
+    put_word(l, c, 1, t);
+    put_word(l, c, 6, n as u64);
+    put_word(l, c, 7, d as u64);
+    put_word(l, c, 9, edge as u64);
+}
+
+// Puts the number of sleeps that node c has finished.
+pub fn put_sleeps(l: &mut [u64], c: usize, sleeps: u64)
+    requires { ⌜ (256 ≤ length (now l)) × (c < 8) ⌝ }
+    ensures { λ _. ⌜ ((v : List ℤ) → Stored (now (l .entry)) v c (withSleeps (nodeIn (now (l .entry)) v c) sleeps) (now (l .exit)) v) ⌝ }
+{
+    put_word(l, c, 20, sleeps);
 }

@@ -1,12 +1,17 @@
 -- What the code asks of a node: whether its statement may be finished now, the tick at which it is due, and the last tick before it is late.
-use mathlib.Core.Bool.{Bool, true, false, cond, not}
+use mathlib.Core.Bool.{Bool, true, false, not}
+use mathlib.Core.List.{List}
 use Prim.Native.Nat.{ℕ, _+_}
 use lib.Dec.{eqb}
 use lib.IntN.{_+ℤ_}
+use lib.ListN.{take, drop}
 use Rattle.model.specs.Lists.{isNone}
+use Rattle.model.specs.Reader.{byte, word, complement}
 use Rattle.model.specs.Window.{valueAt, inRange}
 use Rattle.model.specs.Machine.{Node}
 use Rattle.model.specs.Run.{Stand, sleeping, sending, listening, finishing, adding, working, taking, elsewhere, nowhere, windowEnd}
+use Rattle.node.specs.declared.Counts.{Counts}
+use Rattle.node.specs.declared.Node
 
 -- whether the node may finish its statement without another node
 abbrev pub mayFinish : ℕ → Node → Stand → Bool
@@ -19,6 +24,11 @@ mayFinish now r working = true
 mayFinish now r taking = not (isNone (r .kept))
 mayFinish now r elsewhere = true
 mayFinish now r nowhere = false
+
+-- whether the addition that the registers stand at stays in range
+abbrev pub addFits : List ℕ → Counts → Rattle.node.specs.declared.Node.Node → Bool
+addFits p held r =
+    inRange (valueAt (take (held .variables) (r .values)) (byte (drop (r .pc) p) 1) +ℤ complement (word (drop (r .pc) p) 2))
 
 -- a tick that no run reaches
 abbrev pub never : ℕ

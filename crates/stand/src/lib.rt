@@ -1,19 +1,21 @@
 // What a node stands at: the channels it listens on, whether it may finish its statement, when it is due and when it is late
 // (document 01, 'The run').
 ghost use mathlib.Core.Path.{_≡_};
-ghost use Prim.Native.Nat.{_+_, _≤_};
+ghost use mathlib.Core.List.{List};
+ghost use Prim.Native.Nat.{ℕ, _+_, _≤_};
 ghost use lib.Dec.{eqb};
 ghost use lib.IntN.{_+ℤ_};
-ghost use lib.ListN.{length, take, drop};
+ghost use lib.ListN.{length, drop};
 ghost use Rattle.model.specs.Lists.{any};
-ghost use Rattle.model.specs.Reader.{byte, word, complement};
+ghost use Rattle.model.specs.Reader.{word, complement};
 ghost use Rattle.model.specs.Places.{listAt};
-ghost use Rattle.model.specs.Window.{valueAt, inRange, paired};
+ghost use Rattle.model.specs.Window.{inRange, paired};
 ghost use Rattle.model.specs.Machine.{pairAt, startNode};
 ghost use Rattle.model.specs.Run.{standAt, standOf, takesMessage};
 ghost use Rattle.node.specs.declared.Counts.{Counts};
+ghost use Rattle.node.specs.declared.Node.{Node};
 ghost use Rattle.node.specs.Views.{restAt, nodeOf, Held, Within, opIn, Grown};
-ghost use Rattle.stand.specs.Stands.{mayFinish, dueTick, lastTick};
+ghost use Rattle.stand.specs.Stands.{mayFinish, addFits, dueTick, lastTick};
 use node::Counts;
 use node::Kept;
 use node::Node;
@@ -77,23 +79,65 @@ pub fn take_message(p: &[u8], held: Counts, r: Node, k: u8) -> Node
     q
 }
 
-// Whether an addition at a place stays in range.
-fn adds_in_range(h: &[u8], held: Counts, r: Node) -> bool
-    requires { ⌜ (4 ≤ length (now h)) × Held held ⌝ }
-    ensures { λ b. ⌜ b ≡ inRange (valueAt (take (held .variables) (r .values)) (byte (now (h .entry)) 1) +ℤ complement (word (now (h .entry)) 2)) ⌝ }
+// Whether an addition to that value stays in range.
+pub fn adds_in_range(h: &[u8], value: i16) -> bool
+    requires { ⌜ 4 ≤ length (now h) ⌝ }
+    ensures { λ b. ⌜ b ≡ inRange (value +ℤ complement (word (now (h .entry)) 2)) ⌝ }
 {
-    let values = r.values;
-    let value = node::value_at(values, held.variables, h[1]);
     let sum = node::wide32(value) + node::wide32(decoder::signed_at(h, 2));
     parts::both(-32768 <= sum, sum <= 32767)
 }
 
-// The end of the node's window.
-fn window_end(r: Node) -> u64
-    requires { ⌜ Within 4000000000000000000 r ⌝ }
-    ensures { λ e. ⌜ e ≡ r .t + r .d ⌝ }
+// Whether a node may finish a statement of that op at that tick without another node; `kept` says whether an edge is kept, `fits` whether
+// an addition stays in range.
+pub fn may_by(op: u8, tick: u64, t: u64, d: u16, kept: bool, fits: bool) -> bool
+    requires { ⌜ t ≤ 4000000000000000000 ⌝ }
+    ensures { λ b. ⌜ ((p : List ℕ) (held : Counts) (r : Node) → op ≡ opIn (drop (r .pc) p) → t ≡ r .t → d ≡ r .d → kept ≡ r .kept .some → (op ≡ 2 → fits ≡ addFits p held r) → b ≡ mayFinish tick (nodeOf p held r) (standOf (nodeOf p held r))) ⌝ }
 {
-    r.t + node::wide64(r.d)
+    if op == 0 {
+        return tick == t;
+    }
+    if op == 5 {
+        return tick == t + node::wide64(d);
+    }
+    if op == 2 {
+        return fits;
+    }
+    if op == 16 {
+        return kept;
+    }
+    if op == 4 {
+        return false;
+    }
+    op != 255
+}
+
+// The tick at which a node is due that stands at that op.
+pub fn due_by(op: u8, t: u64, d: u16) -> u64
+    requires { ⌜ t ≤ 4000000000000000000 ⌝ }
+    ensures { λ e. ⌜ ((p : List ℕ) (held : Counts) (r : Node) → op ≡ opIn (drop (r .pc) p) → t ≡ r .t → d ≡ r .d → e ≡ dueTick (nodeOf p held r) (standOf (nodeOf p held r))) ⌝ }
+{
+    if op == 0 {
+        return t;
+    }
+    if op == 5 {
+        return t + node::wide64(d);
+    }
+    18446744073709551615
+}
+
+// The last tick before a node is late that stands at that op; its next passage is ready at `next`.
+pub fn last_by(op: u8, t: u64, d: u16, next: u64) -> u64
+    requires { ⌜ t ≤ 4000000000000000000 ⌝ }
+    ensures { λ e. ⌜ ((p : List ℕ) (held : Counts) (r : Node) → op ≡ opIn (drop (r .pc) p) → t ≡ r .t → d ≡ r .d → e ≡ lastTick (nodeOf p held r) next (standOf (nodeOf p held r))) ⌝ }
+{
+    if op == 0 {
+        return 18446744073709551615;
+    }
+    if op < 6 {
+        return t + node::wide64(d);
+    }
+    next
 }
 
 // Whether the node may finish its statement at that tick without another node.
@@ -102,54 +146,15 @@ pub fn may_finish(p: &[u8], held: Counts, r: Node, tick: u64) -> bool
     ensures { λ b. ⌜ b ≡ mayFinish tick (nodeOf (now (p .entry)) held r) (standOf (nodeOf (now (p .entry)) held r)) ⌝ }
 {
     let op = node::op_at(p, r.pc);
-    if op == 0 {
-        return tick == r.t;
-    }
-    if op == 5 {
-        return tick == window_end(r);
-    }
+    let k = r.kept;
     if op == 2 {
         let at = r.pc;
-        return adds_in_range(&p[at..], held, r);
+        let values = r.values;
+        let value = node::value_at(values, held.variables, p[at + 1]);
+        let fits = adds_in_range(&p[at..], value);
+        return may_by(op, tick, r.t, r.d, k.some, fits);
     }
-    if op == 16 {
-        let k = r.kept;
-        return k.some;
-    }
-    if op == 4 {
-        return false;
-    }
-    op != 255
-}
-
-// The tick at which no tick may pass until the node has finished its statement.
-pub fn due_tick(p: &[u8], held: Counts, r: Node) -> u64
-    requires { ⌜ (length (now p) ≤ 65535) × Within 4000000000000000000 r ⌝ }
-    ensures { λ e. ⌜ e ≡ dueTick (nodeOf (now (p .entry)) held r) (standOf (nodeOf (now (p .entry)) held r)) ⌝ }
-{
-    let op = node::op_at(p, r.pc);
-    if op == 0 {
-        return r.t;
-    }
-    if op == 5 {
-        return window_end(r);
-    }
-    18446744073709551615
-}
-
-// The last tick before the node is late; its next passage is ready at `next`.
-pub fn last_tick(p: &[u8], held: Counts, r: Node, next: u64) -> u64
-    requires { ⌜ (length (now p) ≤ 65535) × Within 4000000000000000000 r ⌝ }
-    ensures { λ e. ⌜ e ≡ lastTick (nodeOf (now (p .entry)) held r) next (standOf (nodeOf (now (p .entry)) held r)) ⌝ }
-{
-    let op = node::op_at(p, r.pc);
-    if op == 0 {
-        return 18446744073709551615;
-    }
-    if op < 6 {
-        return window_end(r);
-    }
-    next
+    may_by(op, tick, r.t, r.d, k.some, true)
 }
 
 // A node at its program's start: in the initial location's block, all else 0.

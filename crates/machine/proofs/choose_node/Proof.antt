@@ -80,7 +80,7 @@ go-alone-requires : tie.Need-go-alone-requires
 go-alone-requires c κs =
     let d = c .before .before .before .before .before .before in
     let f = start d in
-    (f .pre .0, present d, (λ e. c .before .before .before .if2 .left (op-there (c .before .before .before .before) ∙ e)), f .pre .2 (present d), f .pre .3)
+    (f .pre .0, present d, op-there (c .before .before .before .before), (λ e. c .before .before .before .if2 .left (op-there (c .before .before .before .before) ∙ e)), f .pre .2 (present d), f .pre .3)
 
 same-length-3 : tie.Need-same-length-3
 same-length-3 c = search needs

@@ -5,12 +5,6 @@ use borrow.Author.Needs.{needs, sfits-of}
 use Rattle.stand.proofs.adds_in_range.Statement.{statement}
 use Rattle.stand.proofs.adds_in_range.Tie as tie
 
-shared-slice-read-value-at : tie.Need-shared-slice-read-value-at
-shared-slice-read-value-at c = search needs
-
-value-at-requires : tie.Need-value-at-requires
-value-at-requires c κs = search needs
-
 wide32-requires : tie.Need-wide32-requires
 wide32-requires c κs = search needs
 
@@ -22,28 +16,20 @@ wide32-requires-2 c κs = search needs
 
 add-sum : tie.Need-add-sum
 add-sum c =
-    let x = c .before .before .before .value-at in
+    let s = c .before .before .before .before in
     let k = c .before .signed-at in
-    wide-fits {x = x .result} {z = k .result} (sfits-of (x .ok)) (sfits-of (k .ok)) (c .before .before .wide32 .ensures) (c .wide322 .ensures)
+    wide-fits {x = s .args .value} {z = k .result} (s .fits .value) (sfits-of (k .ok)) (c .before .before .wide32 .ensures) (c .wide322 .ensures)
 
 both-requires : tie.Need-both-requires
 both-requires c κs = search needs
 
 returns : tie.Need-returns
 returns c =
-    let x = c .before .before .before .before .value-at in
+    let s = c .before .before .before .before .before in
     let k = c .before .before .signed-at in
-    c .both .ensures ∙ rw (wide-back {x = x .result} {z = k .result} (sfits-of (x .ok)) (sfits-of (k .ok)) (c .before .before .before .wide32 .ensures) (c .before .wide322 .ensures), x .ensures, k .ensures)
+    c .both .ensures ∙ rw (wide-back {x = s .args .value} {z = k .result} (s .fits .value) (sfits-of (k .ok)) (c .before .before .before .wide32 .ensures) (c .before .wide322 .ensures), k .ensures)
 
 pub adds-in-range-spec : {M : Type 1} → statement M
 adds-in-range-spec =
     tie.close
-    (tie.spec
-    shared-slice-read-value-at
-    value-at-requires
-    wide32-requires
-    signed-at-requires
-    wide32-requires-2
-    add-sum
-    both-requires
-    returns)
+    (tie.spec wide32-requires signed-at-requires wide32-requires-2 add-sum both-requires returns)

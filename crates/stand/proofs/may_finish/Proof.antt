@@ -1,88 +1,82 @@
 -- `stand::may_finish` meets its contract. Assumes nothing.
-use mathlib.Core.Path.{sym, ap, _∙_}
+use mir.ValLaws.{toZ-ofZ}
+use mir.Syntax.{w16}
+use Rattle.stand.proofs.ByOp.{stands-whole}
 use Prim.Native.Nat.{_+_, _≤_}
-use native.Mathlib.Omega.{arith}
-use lib.Dec.{eqb}
-use lib.ListN.{length, length-drop}
 use Rattle.parts.proofs.Skim.{tail}
-use Rattle.node.specs.Views.{nodeOf}
-use Rattle.stand.specs.Stands.{mayFinish}
-use Rattle.stand.proofs.ByOp.{sort-is, stand-at, stands-whole, kept-some, unbound}
-use borrow.Author.Needs.{needs}
+use lib.Seq.{getD-drop}
+use lib.ListN.{length, length-drop}
+use native.Mathlib.Omega.{arith}
+use mathlib.Core.Path.{refl, _∙_}
+use borrow.Author.Needs.{needs, sfits-of}
 use Rattle.stand.proofs.may_finish.Statement.{statement}
 use Rattle.stand.proofs.may_finish.Tie as tie
+
+-- the addition's four bytes are there
+whole : (c : tie.Then1) → c .before .before .before .before .args .r .pc + 4 ≤ length (c .before .before .before .before .args .p .now)
+whole c =
+    let a = c .before .before .before .before .args in
+    stands-whole (a .p .now) (a .r .pc) (c .before .before .op-at .ensures) 2 (c .if1 .taken) (omega arith)
 
 op-at-requires : tie.Need-op-at-requires
 op-at-requires c κs = search needs
 
-returns : tie.Need-returns
-returns c =
-    let a = c .before .before .before .before .args in
-    sym (ap (mayFinish (a .tick) (nodeOf (a .p .now) (a .held) (a .r))) (stand-at (a .p .now) (a .r .pc) (c .before .before .op-at .ensures) 0 (c .before .if1 .taken)))
+add-value-at : tie.Need-add-value-at
+add-value-at c = let h = whole (c .before) in let a = c .before .before .before .before .before .pre in search needs
 
-window-end-requires : tie.Need-window-end-requires
-window-end-requires c κs = search needs
+shared-slice-read-value-at : tie.Need-shared-slice-read-value-at
+shared-slice-read-value-at c = let h = whole (c .before .before) in search needs
 
-returns-2 : tie.Need-returns-2
-returns-2 c =
-    let a = c .before .before .before .before .before .args in
-    ap (eqb (a .tick)) (c .window-end .ensures) ∙ sym (ap (mayFinish (a .tick) (nodeOf (a .p .now) (a .held) (a .r))) (stand-at (a .p .now) (a .r .pc) (c .before .before .before .op-at .ensures) 5 (c .before .if2 .taken)))
-
--- the addition's four bytes are there
-whole : (c : tie.Then3) → c .before .before .before .before .before .args .r .pc + 4 ≤ length (c .before .before .before .before .before .args .p .now)
-whole c =
-    let a = c .before .before .before .before .before .args in
-    stands-whole (a .p .now) (a .r .pc) (c .before .before .before .op-at .ensures) 2 (c .if3 .taken) (omega arith)
+value-at-requires : tie.Need-value-at-requires
+value-at-requires c κs = search needs
 
 sub-adds-in-range : tie.Need-sub-adds-in-range
-sub-adds-in-range c = let h = whole c in search needs
+sub-adds-in-range c = let h = whole (c .before .before .before) in search needs
 
 part-adds-in-range-start : tie.Need-part-adds-in-range-start
-part-adds-in-range-start c = let h = whole c in search needs
+part-adds-in-range-start c = let h = whole (c .before .before .before) in search needs
 
 part-adds-in-range-end : tie.Need-part-adds-in-range-end
 part-adds-in-range-end c = search needs
 
 adds-in-range-requires : tie.Need-adds-in-range-requires
 adds-in-range-requires c κs =
-    let a = c .before .before .before .before .before .before .args in
-    let h = whole (c .before) in
-    (rw (tail (a .p .now) (a .r .pc)) (simp length-drop (omega arith)), search needs)
+    let a = c .before .before .before .before .before .before .before .before .args in
+    let h = whole (c .before .before .before .before) in
+    rw (tail (a .p .now) (a .r .pc)) (simp length-drop (omega arith))
 
-returns-3 : tie.Need-returns-3
-returns-3 c =
-    let a = c .before .before .before .before .before .before .before .args in
-    c .adds-in-range .ensures ∙ rw (tail (a .p .now) (a .r .pc)) (sym (ap (mayFinish (a .tick) (nodeOf (a .p .now) (a .held) (a .r))) (stand-at (a .p .now) (a .r .pc) (c .before .before .before .before .before .op-at .ensures) 2 (c .before .before .if3 .taken))))
+may-by-requires : tie.Need-may-by-requires
+may-by-requires c κs = search needs
 
-returns-4 : tie.Need-returns-4
-returns-4 c =
-    let a = c .before .before .before .before .before .before .before .args in
-    kept-some (a .r .kept) ∙ sym (ap (mayFinish (a .tick) (nodeOf (a .p .now) (a .held) (a .r))) (stand-at (a .p .now) (a .r .pc) (c .before .before .before .before .before .op-at .ensures) 16 (c .before .if4 .taken)))
+returns : tie.Need-returns
+returns c =
+    let s = c .before .before .before .before .before .before .before .before .before .before in
+    let a = s .args in
+    let v = c .before .before .before .value-at in
+    c .may-by .ensures (a .p .now) (a .held) (a .r) (c .before .before .before .before .before .before .before .before .op-at .ensures) refl refl refl
+    (λ z. c .before .adds-in-range .ensures ∙ rw (tail (a .p .now) (a .r .pc), toZ-ofZ w16 (v .result) (sfits-of (v .ok)), v .ensures, getD-drop (a .r .pc) (a .p .now) 1 0))
 
-returns-5 : tie.Need-returns-5
-returns-5 c =
-    let a = c .before .before .before .before .before .before .before .args in
-    sym (ap (mayFinish (a .tick) (nodeOf (a .p .now) (a .held) (a .r))) (stand-at (a .p .now) (a .r .pc) (c .before .before .before .before .before .op-at .ensures) 4 (c .if5 .taken)))
+may-by-requires-2 : tie.Need-may-by-requires-2
+may-by-requires-2 c κs = search needs
 
-returns-6 : tie.Need-returns-6
-returns-6 c =
-    let a = c .before .before .before .before .before .before .before .args in
-    unbound (a .tick) (nodeOf (a .p .now) (a .held) (a .r)) (sort-is (a .p .now) (a .r .pc) _ (c .before .before .before .before .before .op-at .ensures))
-    (c .before .before .before .before .if1 .left) (c .before .before .before .if2 .left) (c .before .before .if3 .left) (c .before .if4 .left) (c .if5 .left)
+returns-2 : tie.Need-returns-2
+returns-2 c =
+    let a = c .before .before .before .before .before .args in
+    c .may-by2 .ensures (a .p .now) (a .held) (a .r) (c .before .before .before .op-at .ensures) refl refl refl (λ z. absurd (c .before .if1 .left z))
 
 pub may-finish-spec : {M : Type 1} → statement M
 may-finish-spec =
     tie.close
     (tie.spec
     op-at-requires
-    returns
-    window-end-requires
-    returns-2
+    add-value-at
+    shared-slice-read-value-at
+    value-at-requires
     sub-adds-in-range
     part-adds-in-range-start
     part-adds-in-range-end
     adds-in-range-requires
-    returns-3
-    returns-4
-    returns-5
-    returns-6)
+    may-by-requires
+    returns
+    may-by-requires-2
+    returns-2)

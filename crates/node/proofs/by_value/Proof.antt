@@ -1,0 +1,48 @@
+-- `node::by_value` meets its contract. Assumes nothing.
+use mir.ValLaws.{toZ-ofZ}
+use mir.Syntax.{w16}
+use native.Mathlib.Omega.{arith}
+use Rattle.node.proofs.Steps.{trial-data-low, trial-data-high}
+use mathlib.Core.Path.{_∙_}
+use borrow.Author.Needs.{needs, sfits-of}
+use Rattle.node.proofs.by_value.Statement.{statement}
+use Rattle.node.proofs.by_value.Tie as tie
+
+signed-at-requires : tie.Need-signed-at-requires
+signed-at-requires c κs = search needs
+
+shared-slice-read-if1 : tie.Need-shared-slice-read-if1
+shared-slice-read-if1 c = search needs
+
+met-requires : tie.Need-met-requires
+met-requires c κs = search needs
+
+returns : tie.Need-returns
+returns c held r ex ev =
+    let s = c .before .before .before .before .before in
+    let a = s .args in
+    let k = c .before .before .before .signed-at in
+    trial-data-low (a .h .now) held r (s .pre .0) (c .met .result) (c .before .if1 .taken)
+    (c .met .ensures ∙ rw (ex, ev, toZ-ofZ w16 (k .result) (sfits-of (k .ok)), toZ-ofZ w16 (a .value) (s .fits .value), k .ensures))
+
+met-requires-2 : tie.Need-met-requires-2
+met-requires-2 c κs = search needs
+
+returns-2 : tie.Need-returns-2
+returns-2 c held r ex ev =
+    let s = c .before .before .before .before .before in
+    let a = s .args in
+    let k = c .before .before .before .signed-at in
+    trial-data-high (a .h .now) held r (s .pre .0) (c .met2 .result) (omega (arith, c .before .if1 .left, s .pre .2))
+    (c .met2 .ensures ∙ rw (ex, ev, toZ-ofZ w16 (k .result) (sfits-of (k .ok)), toZ-ofZ w16 (a .value) (s .fits .value), k .ensures))
+
+pub by-value-spec : {M : Type 1} → statement M
+by-value-spec =
+    tie.close
+    (tie.spec
+    signed-at-requires
+    shared-slice-read-if1
+    met-requires
+    returns
+    met-requires-2
+    returns-2)
