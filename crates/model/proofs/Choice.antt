@@ -14,24 +14,9 @@ use lib.ListN.{length, getD, length-append}
 use lib.Seq.{append-snoc, getD-at}
 use Rattle.model.specs.Lists.{snoc}
 use Rattle.model.specs.Table.{Arc, Component, noArc, locationOf, arcOf}
-use Rattle.model.specs.Window.{Entry, Pick, readyOf, pastOf, dataHolds, candidate, windowOf, eligible, considered, chosen, choice}
+use Rattle.model.specs.Window.{Entry, Pick, readyOf, pastOf, dataHolds, candidate, considered, chosen, choice}
+pub use Rattle.model.specs.Window.{mayTake, windowAt, TakenEdge}
 use Rattle.model.proofs.Bools.{clash, and-is}
-
--- edge e of the component is an edge from there that is a candidate
-abbrev pub mayTake : Component → Entry → ℕ → Bool
-mayTake C at e = eligible (locationOf C (at .location)) (at .location) (at .clocks) (at .values) (arcOf C e)
-
--- the window of edge e
-abbrev pub windowAt : Component → Entry → ℕ → Pick
-windowAt C at e = windowOf (locationOf C (at .location)) e (arcOf C e) (at .clocks)
-
--- the pick is the window of the edge taken among the first n
-pub record Taken (n : ℕ) (C : Component) (at : Entry) (p : Pick) : Type 0 where
-  pub there : p .edge < n
-  pub candidate : mayTake C at (p .edge) ≡ true
-  pub window : p ≡ windowAt C at (p .edge)
-  pub least : (e : ℕ) → e < n → mayTake C at e ≡ true → p .ready ≤ windowAt C at e .ready
-  pub lowest : (e : ℕ) → e < n → mayTake C at e ≡ true → windowAt C at e .ready ≡ p .ready → p .edge ≤ e
 
 -- what is chosen at the entry: the edge is there, it leaves from the location, its data bounds hold, and the window is the one of its bounds
 pub record Picked (C : Component) (at : Entry) (p : Pick) : Type 0 where
@@ -46,10 +31,10 @@ module _ (C : Component) (at : Entry) where
   -- what is known of the best of the first n
   Best : ℕ → Option Pick → Type 0
   Best n none = (e : ℕ) → e < n → mayTake C at e ≡ false
-  Best n (some p) = Taken n C at p
+  Best n (some p) = TakenEdge n C at p
 
   -- the edge is the first candidate
-  first : (n : ℕ) → Best n none → mayTake C at n ≡ true → Taken (suc n) C at (windowAt C at n)
+  first : (n : ℕ) → Best n none → mayTake C at n ≡ true → TakenEdge (suc n) C at (windowAt C at n)
   unfolding Best
   first n b t =
       record {
@@ -60,9 +45,9 @@ module _ (C : Component) (at : Entry) where
         lowest = λ e h c r. by-cases (ℕ-discrete e n) (λ q. omega arith) (λ q. clash (sym (b e (omega arith)) ∙ c));
       }
 
-  module _ (n : ℕ) (p : Pick) (b : Taken n C at p) where
+  module _ (n : ℕ) (p : Pick) (b : TakenEdge n C at p) where
     -- the edge is no candidate
-    passed : mayTake C at n ≡ false → Taken (suc n) C at p
+    passed : mayTake C at n ≡ false → TakenEdge (suc n) C at p
     passed t =
         record {
           there = omega (arith, b .there);
@@ -73,7 +58,7 @@ module _ (C : Component) (at : Entry) where
         }
 
     -- the edge is a candidate, and not sooner ready
-    kept : p .ready ≤ windowAt C at n .ready → Taken (suc n) C at p
+    kept : p .ready ≤ windowAt C at n .ready → TakenEdge (suc n) C at p
     kept t =
         record {
           there = omega (arith, b .there);
@@ -84,7 +69,7 @@ module _ (C : Component) (at : Entry) where
         }
 
     -- the edge is a candidate, and sooner ready
-    replaced : mayTake C at n ≡ true → windowAt C at n .ready < p .ready → Taken (suc n) C at (windowAt C at n)
+    replaced : mayTake C at n ≡ true → windowAt C at n .ready < p .ready → TakenEdge (suc n) C at (windowAt C at n)
     replaced t s =
         record {
           there = omega arith;
@@ -128,7 +113,7 @@ module _ (C : Component) (at : Entry) where
   best = steps 0 [] (C .arcs) none refl refl (λ e h. absurd (omega arith))
 
   -- the pick is the window of the edge taken
-  pub choice-taken : {p : Pick} → choice C at ≡ some p → Taken (length (C .arcs)) C at p
+  pub choice-taken : {p : Pick} → choice C at ≡ some p → TakenEdge (length (C .arcs)) C at p
   unfolding Best
   choice-taken e = subst (Best (length (C .arcs))) e best
 
@@ -142,7 +127,7 @@ module _ (C : Component) (at : Entry) where
       go (some p) q b f = clash (sym (f (p .edge) (b .there)) ∙ b .candidate)
 
   -- two windows of the edge taken are one
-  taken-same : {p q : Pick} → Taken (length (C .arcs)) C at p → Taken (length (C .arcs)) C at q → p ≡ q
+  taken-same : {p q : Pick} → TakenEdge (length (C .arcs)) C at p → TakenEdge (length (C .arcs)) C at q → p ≡ q
   taken-same {p} {q} s t =
       let a : p .ready ≤ q .ready = rw (t .window) (s .least (q .edge) (t .there) (t .candidate)) in
       let b : q .ready ≤ p .ready = rw (s .window) (t .least (p .edge) (s .there) (s .candidate)) in
@@ -152,10 +137,10 @@ module _ (C : Component) (at : Entry) where
       s .window ∙ ap (windowAt C at) i ∙ sym (t .window)
 
   -- a pick is the choice exactly if it is the window of the edge taken
-  pub choice-is : {p : Pick} → (choice C at ≡ some p) ↔ Taken (length (C .arcs)) C at p
+  pub choice-is : {p : Pick} → (choice C at ≡ some p) ↔ TakenEdge (length (C .arcs)) C at p
   choice-is {p} = (choice-taken, go (choice C at) refl)
     where
-      go : (k : Option Pick) → choice C at ≡ k → Taken (length (C .arcs)) C at p → choice C at ≡ some p
+      go : (k : Option Pick) → choice C at ≡ k → TakenEdge (length (C .arcs)) C at p → choice C at ≡ some p
       go none q t = clash (sym (choice-none .0 q (p .edge) (t .there)) ∙ t .candidate)
       go (some r) q t = q ∙ ap some (taken-same (choice-taken q) t)
 
@@ -164,7 +149,7 @@ module _ (C : Component) (at : Entry) where
   choice-picked {p} h =
       record { present = t .there; source = eqb-true (a .edge .source) (at .location) (from .0); holds = wins .0; ready = first; past = omega (arith, last, less); window = omega (arith, first, last, less) }
     where
-      t : Taken (length (C .arcs)) C at p
+      t : TakenEdge (length (C .arcs)) C at p
       t = choice-taken h
 
       a : Arc

@@ -1,4 +1,4 @@
--- The network's steps as rules, in document 01's words: `step` allows exactly these. Assumes nothing.
+-- `step` allows exactly the rules of specs/NetworkRules.antt. Assumes nothing.
 use mathlib.Core.Path.{_≡_, refl, sym, ap, subst, _∙_}
 use mathlib.Core.Logic.{_↔_}
 use mathlib.Core.Bool.{Bool, true, false, cond, _&&_, not}
@@ -17,43 +17,8 @@ use Rattle.model.specs.Table.{Arc, Component, Table, size, componentOf, 
 use Rattle.model.specs.Window.{clockAt, readyOf, dataHolds, updated, channelOf, listens, leaves}
 use Rattle.model.specs.Schedule.{names}
 use Rattle.model.specs.Network.{State, Place, Taken, noPlace, placeOf, stayed, pastIn, inWindow, atEnd, Label, tick, stepIn, together, stepOut, present, mayTick, allMayTick, mayStepIn, waits, alone, hearsOn, withPlace, entersAt, outOf, mayJoin, step}
+pub use Rattle.model.specs.NetworkRules.{Passes, StepsIn, ByItself, internally, timesOut, Step, ticks, enters, joins, leavesIt}
 use Rattle.model.proofs.Bools.{clash, and-is}
-
--- ## The rules
-
--- Afterwards the invariant of a component that is not waiting holds; one that waits was before its end.
-abbrev pub Passes : Component → ℕ → Place → Option Taken → Type 0
-Passes C now p none =
-    clockAt (p .entry .clocks) (locationOf C (p .entry .location) .clock) + suc (stayed now p) ≤ locationOf C (p .entry .location) .bound
-Passes C now p (some w) = suc (stayed now p) < pastIn C p (w .edge)
-
--- "A component not waiting steps in on an edge from its location whose data bounds hold and updates stay in range, from its ready to its end"
-pub record StepsIn (C : Component) (now : ℕ) (p : Place) (e : ℕ) : Type 0 where
-  pub free : p .waiting ≡ none
-  pub there : e < length (C .arcs)
-  pub source : arcOf C e .edge .source ≡ p .entry .location
-  pub bounds : dataHolds (arcOf C e .dataGuards) (p .entry .values) ≡ true
-  pub ranged : (vs : List ℤ) × (updated (arcOf C e .updates) (p .entry .values) ≡ some vs)
-  pub ready : readyOf (arcOf C e .clockGuards) (p .entry .clocks) ≤ stayed now p
-  pub end : stayed now p < pastIn C p e
-
--- "internal alone, .. a receive alone (timeout) only at its end"
-pub data ByItself (C : Component) (now : ℕ) (p : Place) (e : ℕ) : Action → Type 0 where
-  internally : ByItself C now p e Internal
-  timesOut : suc (stayed now p) ≡ pastIn C p e → ByItself C now p e Receive
-
--- the four rules
-pub data Step (T : Table) (s : State) : Label → State → Type 0 where
-  ticks : ((c : ℕ) → c < size T → (c < length (s .places)) × Passes (componentOf T c) (s .tick) (placeOf s c) (placeOf s c .waiting))
-      → Step T s tick (record { tick = suc (s .tick); places = s .places })
-  enters : {c e : ℕ} → c < size T → StepsIn (componentOf T c) (s .tick) (placeOf s c) e
-      → ByItself (componentOf T c) (s .tick) (placeOf s c) e (arcOf (componentOf T c) e .edge .action) → Step T s (stepIn c e) (withPlace s c (waits (placeOf s c) e none))
-  joins : {a e b f k : ℕ} → a < size T → b < size T → (a ≡ b → ⊥) → StepsIn (componentOf T a) (s .tick) (placeOf s a) e
-      → StepsIn (componentOf T b) (s .tick) (placeOf s b) f → channelOf (arcOf (componentOf T a) e) ≡ some k → listens (arcOf (componentOf T b) f) ≡ true
-      → names (arcOf (componentOf T b) f) (some k) ≡ true
-      → Step T s (together a e b f) (withPlace (withPlace s a (waits (placeOf s a) e (some k))) b (waits (placeOf s b) f (some k)))
-  leavesIt : {c : ℕ} {w : Taken} → c < size T → placeOf s c .waiting ≡ some w → suc (stayed (s .tick) (placeOf s c)) ≡ pastIn (componentOf T c) (placeOf s c) (w .edge)
-      → Step T s (stepOut c) (withPlace s c (entersAt (leaves (arcOf (componentOf T c) (w .edge)) (w .message) (s .tick) (placeOf s c .entry))))
 
 -- ## Tests, taken apart
 

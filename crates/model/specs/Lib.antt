@@ -5,11 +5,12 @@ pub mod Bytes
 pub mod Reader
 pub mod Places
 pub mod Window
+pub mod Network
+pub mod NetworkRules
 pub mod Schedule
 pub mod Checks
 pub mod Chains
 pub mod Program
-pub mod Network
 pub mod Machine
 pub mod Run
 pub mod Demand3

@@ -3,7 +3,7 @@ use mathlib.Core.Path.{_≡_}
 use mathlib.Core.Bool.{Bool, true, false, cond, _&&_, _||_}
 use mathlib.Core.List.{List, [], _∷_}
 use mathlib.Core.Option.{Option, none, some}
-use Prim.Native.Nat.{ℕ, suc, pred, _+_, _-_, min, max, _^_, _/_, _%_, _≤_}
+use Prim.Native.Nat.{ℕ, suc, pred, _+_, _-_, min, max, _^_, _/_, _%_, _≤_, _<_}
 use lib.Dec.{leb, ltb, eqb}
 use lib.IntN.{ℤ, pos, negsuc, _+ℤ_}
 use lib.Signed.{leZ}
@@ -16,7 +16,7 @@ use Rattle.model.specs.declared.DataGuard.{DataGuard}
 use Rattle.model.specs.declared.Update.{Update}
 use Rattle.model.specs.declared.Pair.{Pair}
 use Rattle.model.specs.Lists.{all, orElse}
-use Rattle.model.specs.Table.{Arc, Component, locationOf}
+use Rattle.model.specs.Table.{Arc, Component, locationOf, arcOf}
 
 -- A component as it enters a location: "A component enters a location at its entry tick", with its clocks and variables there.
 pub record Entry : Type 0 where
@@ -100,6 +100,23 @@ chosen l here xs vs e (a ∷ as′) k = chosen l here xs vs (suc e) as′ (consi
 unfoldable pub choice : Component → Entry → Option Pick
 unfolding chosen
 choice C at = chosen (locationOf C (at .location)) (at .location) (at .clocks) (at .values) 0 (C .arcs) none
+
+-- The same without the search: edge e of the component is an edge from the location entered that is a candidate; and its window.
+abbrev pub mayTake : Component → Entry → ℕ → Bool
+mayTake C at e = eligible (locationOf C (at .location)) (at .location) (at .clocks) (at .values) (arcOf C e)
+
+abbrev pub windowAt : Component → Entry → ℕ → Pick
+windowAt C at e = windowOf (locationOf C (at .location)) e (arcOf C e) (at .clocks)
+
+-- "The candidate with the least ready is taken, on a tie the lowest number. Its window is ready to end, both included." p is the window of the edge
+-- taken among the first n edges. The laws `choice-is` and `choice-none` in proofs/Choice.antt: the choice is p exactly if this holds for all edges
+-- of the component, and none exactly if no edge may be taken.
+pub record TakenEdge (n : ℕ) (C : Component) (at : Entry) (p : Pick) : Type 0 where
+  pub there : p .edge < n
+  pub candidate : mayTake C at (p .edge) ≡ true
+  pub window : p ≡ windowAt C at (p .edge)
+  pub least : (e : ℕ) → e < n → mayTake C at e ≡ true → p .ready ≤ windowAt C at e .ready
+  pub lowest : (e : ℕ) → e < n → mayTake C at e ≡ true → windowAt C at e .ready ≡ p .ready → p .edge ≤ e
 
 -- ## What the passage leads to
 
