@@ -83,7 +83,8 @@ pub record After (program rows : List ℕ) (n H count : ℕ) (b : ℕ) (l : List
   pub counted : m .written ≡ written + length seen
   pub bytes : out′ ≡ sets out (written * 32) (each observationBytes seen)
 
--- Choice b of a node. The last two fields say, for all eight places: of any other node nothing has changed, a send excepted; a send
+-- Choice b of a node: "After a choice, one node's registers after the statement and nothing of any other node has changed, send and tick excepted."
+-- The last two fields say, for all eight places: of any other node nothing has changed, a send excepted; a send
 -- changes one other node, its listener.
 pub record Chosen (program rows : List ℕ) (n H count tick b : ℕ) (l : List ℕ) (v : List ℤ) (out : List ℕ) (written : ℕ) (m : Moved) (l′ : List ℕ) (v′ : List ℤ) (out′ : List ℕ) : Type 0 where
   pub refuses : m .allowed ≡ false → (s : Run) → Running program rows n l v count s → s .tick ≡ tick → choose1 (settingIn program H rows n l count) s b ≡ forbidden

@@ -24,7 +24,7 @@ verdictOf (accepted a) = Accepted
 verdictOf (refused n c) = Refused n c
 
 -- The numbers of a verdict where an enum cannot go: 0 for accepted, else document 01's number of the refusal;
--- and the component concerned, 255 where there is none.
+-- and the component concerned, 255 where there is none: "255 for 1 to 3, 13, 14 and later numbers unless said there".
 abbrev pub numberOf : Verdict → ℕ
 numberOf Accepted = 0
 numberOf (Refused n c) = n
@@ -45,7 +45,8 @@ pub record Call : Type 0 where
 abbrev pub refusing : ℕ → ℕ → List ℕ → Call
 refusing n c lent = record { verdict = Refused n c; size = 0; lent = lent }
 
--- A result is laid over the front of what was lent: "on success so do those past the result". 13. "Does the lent buffer hold the result?"
+-- A result is laid over the front of what was lent: "on success so do those past the result". 13. "Does the lent buffer hold the result?" It is tried
+-- after 1 to 12, of an accepted table: "13 and 14 refuse the call alone."
 abbrev pub laid : ℕ → List ℕ → List ℕ → Call
 laid size result lent =
     cond (leb (length result) (length lent))

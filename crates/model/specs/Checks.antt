@@ -49,7 +49,8 @@ collides T H S s = isSend T H s && any (meets T H s) S
 abbrev pub mayHear : Table → Visit → Visit → Bool
 mayHear T r s = isReceive T r && others r s && names (visitArc T r) (channelOf (visitArc T s)) && shareTick r s
 
--- 11. "Is there exactly one ..", "and does it start earlier and end later?"
+-- 11. "Is there exactly one ..", "and does it start earlier and end later?" In code: "For each send the components listening are noted as eight bits,
+-- and exactly one may be set, by one window."
 abbrev pub heardWell : Visit → List Visit → Bool
 heardWell s [] = false
 heardWell s (r ∷ []) = startsEarlier r s && endsLater r s

@@ -1,4 +1,5 @@
--- Demand 3: what holds of every run of an accepted table's programs, as one record with a field for each of its sentences.
+-- Demand 3: what holds of every run of an accepted table's programs, as one record with a field for each of its sentences. "Demand 3 is one claim
+-- about the whole list, not a claim per choice."
 use mathlib.Core.Path.{_≡_}
 use mathlib.Core.Logic.{_⊎_}
 use mathlib.Core.Bool.{Bool, true, false, cond, _&&_, not}
@@ -191,7 +192,7 @@ module _ (t : Read) (H : ℕ) (S : List Visit) (cs : List ℕ) where
     pub reach : last .tick ≡ reached result
     pub scheduled : (c : ℕ) → c < size (t .table) → PassAs (passagesOn (t .table) c (start (t .table)) path) (own c S)
     pub kept : (c : ℕ) → c < size (t .table) → SteppedBefore (last .tick) (passagesOn (t .table) c (start (t .table)) path) (own c S)
-    -- the steps in on the path are the works finished, in their order, at the same ticks; a message is one joint step of the same two nodes
+    -- the steps in on the path are the works finished, in their order, at the same ticks; a message between two nodes is "on a path, their joint step"
     pub worked : worksOn (t .table) (start (t .table)) path ≡ result .state .works
     pub observed : (c : ℕ) → c < size (t .table)
         → Begins (observationsOf c result)

@@ -58,7 +58,7 @@ stayed now p = now - p .entry .tick
 abbrev pub pastIn : Component → Place → ℕ → ℕ
 pastIn C p e = pastOf (locationOf C (p .entry .location)) (arcOf C e .clockGuards) (p .entry .clocks)
 
--- "from its ready to its end"
+-- "from its ready to its end"; in the schedule's words: "Work may finish at any tick of the window"
 abbrev pub inWindow : Component → ℕ → Place → ℕ → Bool
 inWindow C now p e = leb (readyOf (arcOf C e .clockGuards) (p .entry .clocks)) (stayed now p) && ltb (stayed now p) (pastIn C p e)
 
@@ -72,9 +72,11 @@ atEnd C now p e = eqb (suc (stayed now p)) (pastIn C p e)
 
 pub data Label : Type 0 where
   tick : Label
-  stepIn : ℕ → ℕ → Label
-  together : ℕ → ℕ → ℕ → ℕ → Label
-  stepOut : ℕ → Label
+  -- a component steps in on one of its edges, alone
+  stepIn : (component edge : ℕ) → Label
+  -- the sender on its edge and the receiver on its own step in together
+  together : (sender sends receiver receives : ℕ) → Label
+  stepOut : (component : ℕ) → Label
 
 -- "A tick passes, .. unless it breaks a non-waiting component's invariant or a waiting one is at its end."
 abbrev pub mayTick : Component → ℕ → Place → Option Taken → Bool
@@ -172,8 +174,8 @@ passagesOn T c s (l ∷ ls) = leftBy s c l ++ onward (step T s l) (λ t. passage
 
 -- A work finished: a step in of one component, or the joint step of a sender and a receiver on a channel; with its tick.
 pub data Work : Type 0 where
-  one : ℕ → ℕ → Work
-  two : ℕ → ℕ → ℕ → ℕ → Work
+  one : (component tick : ℕ) → Work
+  two : (sender receiver channel tick : ℕ) → Work
 
 abbrev pub channelNumber : Option ℕ → ℕ
 channelNumber none = 255

@@ -50,7 +50,7 @@ abbrev pub dataTests : List DataGuard → List Statement
 dataTests [] = []
 dataTests (g ∷ gs) = dataLow (g .variable) (g .low) ∷ dataHigh (g .variable) (g .high) ∷ dataTests gs
 
--- "0A trial; 0C high for the invariant; per clock bound ..; per data bound ..; 0F keep, k = edge"
+-- "per edge from it, 0A trial; 0C high for the invariant; per clock bound ..; per data bound ..; 0F keep, k = edge"
 abbrev pub trialOf : Location → ℕ → Arc → List Statement
 trialOf l e a = trial ∷ high (l .clock) (l .bound) ∷ (clockTests (a .clockGuards) ++ (dataTests (a .dataGuards) ++ (keep e ∷ [])))
 

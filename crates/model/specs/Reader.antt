@@ -38,7 +38,8 @@ _then_ (ok a r) f = f a r
 _then_ (fault n) f = fault n
 
 infixl 5 _then_
--- "each part must fit before its contents are tried": a part of n bytes at the front, whose contents must be fine.
+-- "each part must fit before its contents are tried": a part of n bytes at the front, whose contents must be fine. 4: does it fit? Then 5: "Is every
+-- number in its range and every mask bit a clock?"
 abbrev pub part : {A : Type 0} → ℕ → (List ℕ → Bool) → (List ℕ → A) → List ℕ → Parsed A
 part n fine value bs = let tried = cond (fine bs) (ok (value bs) (drop n bs)) (fault 5) in cond (leb n (length bs)) tried (fault 4)
 

@@ -81,7 +81,7 @@ unfoldable pub startNodes : List ℕ → ℕ → List Counts → List Node
 startNodes program c [] = []
 startNodes program c (k ∷ ks) = startNode (partBytes program c) (k .clocks) (k .variables) ∷ startNodes program (suc c) ks
 
--- "It starts at tick 0, no observation yet, each node at its program's start"
+-- "It starts at tick 0, no observation yet, each node at its program's start": "All nodes start together at tick 0"
 abbrev pub startRun : Setting → Run
 startRun g = record { tick = 0; used = 0; nodes = startNodes (g .program) 0 (g .counts); observations = []; works = [] }
 
@@ -192,7 +192,7 @@ observes c tick r =
     }
 
 module _ (s : Run) where
-  -- one node moved
+  -- one node moved; its observation, if it has one, comes last: "They stand in finishing order."
   abbrev pub moved : ℕ → Node → List Observation → List Work → Run
   moved c r os ws =
       record { tick = s .tick; used = suc (s .used); nodes = set (s .nodes) c r; observations = s .observations ++ os; works = s .works ++ ws }
@@ -273,7 +273,7 @@ module _ (g : Setting) where
   lateNodes now c [] = []
   lateNodes now c (r ∷ rs) = let rest = lateNodes now (suc c) rs in cond (late (ownTick c now) c r (standOf r)) (c ∷ rest) rest
 
-  -- "2 late (lowest node)"; "0 horizon (tick H ..)"; "late before horizon"
+  -- "2 late (lowest node)"; "0 horizon (tick H ..)"; "late before horizon". "A late tick has passed and is counted."
   abbrev pub afterTick : Run → List ℕ → Outcome
   afterTick s (c ∷ cs) = over s 2 c
   afterTick s [] = cond (eqb (s .tick) (g .horizon)) (over s 0 255) (on s)
@@ -302,6 +302,7 @@ continue s forbidden f = ends s 3 255
 continue s (on t) f = f t
 continue s (over t e n) f = ends t e n
 
+-- "each choice acts on what the last one left, and nothing else writes that"
 unfoldable pub runFrom : Setting → List ℕ → Run → Result
 unfolding choose1
 runFrom g [] s = ends s 1 255

@@ -83,7 +83,7 @@ abbrev pub ranged : ℕ → Option (List ℤ) → Visit → Answer Visit
 ranged c none v = refused 9 c
 ranged c (some vs) v = accepted v
 
--- 8. "Is there a candidate?"
+-- "Then at each opening:" 8. "Is there a candidate? Else 8."
 abbrev pub picked : ℕ → Component → Entry → Option Pick → Answer Visit
 picked c C at none = refused 8 c
 picked c C at (some p) = ranged c (updated (arcOf C (p .edge) .updates) (at .values)) (visitOf c at p (channelOf (arcOf C (p .edge))))

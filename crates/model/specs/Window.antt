@@ -33,11 +33,11 @@ valueAt vs i = getD vs i (pos 0)
 
 -- ## Ready and end
 
--- a clock bound holds for a clock's value; a high of 65,535 is none
+-- a clock bound holds for a clock's value; a high of 65,535 is none. "A low above its high is allowed and holds for no value."
 abbrev pub within : ClockGuard → ℕ → Bool
 within g x = leb (g .low) x && (eqb (g .high) 65535 || leb x (g .high))
 
--- Invariant and clock bounds hold so many ticks after the entry with clocks xs: all clocks grow by 1 a tick.
+-- Invariant ("Its invariant is clock ≤ q") and clock bounds hold so many ticks after the entry with clocks xs: all clocks grow by 1 a tick.
 abbrev pub holdsAfter : Location → List ClockGuard → List ℕ → ℕ → Bool
 holdsAfter l gs xs delay = leb (clockAt xs (l .clock) + delay) (l .bound) && all (λ g. within g (clockAt xs (g .clock) + delay)) gs
 
