@@ -50,7 +50,7 @@ module _ (T : Table) (H : ℕ) where
     pub full : length (p .current) ≡ size T
     pub each : (c : ℕ) → c < size T → visitAt (p .current) c .component ≡ c
 
-  -- what the loop adds to the plan, with so much room
+  -- what the loop adds to the passages opened so far, with so much room
   pub record Added (room : ℕ) (p : Plan) (W : List Visit) : Type 0 where
     pub more : List Visit
     pub is : W ≡ p .listed ++ more

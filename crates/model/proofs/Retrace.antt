@@ -177,7 +177,7 @@ module _ (T : Table) (H : ℕ) (S : List Visit) where
           few = omega (arith, a .few);
         }
 
-    -- the plan after w opened
+    -- the passages after w opened
     planned : opening-of (record { listed = map bare P; current = map bare cur }) (bare w) ≡ record { listed = map bare (snoc P w); current = map bare (set cur i w) }
     planned = ap₂ (λ (l k : List Visit). record { listed = l; current = k }) (sym (map-snoc bare P w)) (sym (map-set bare cur i w))
 

@@ -32,7 +32,7 @@ ready-light (v ∷ vs) (suc k) = ready-light vs k
 ready-rows : (S : List Visit) (c k : ℕ) → readyOfNth (own c (map light S)) k ≡ readyOfNth (own c S) k
 ready-rows S c k = ap (λ (vs : List Visit). readyOfNth vs k) (only-map light (λ v. eqb (v .component) c) S) ∙ ready-light (own c S) k
 
--- one plan at most is accepted
+-- one schedule at most is accepted
 abbrev passagesIn : Answer (List Visit) → List Visit
 passagesIn (accepted S) = S
 passagesIn (refused n c) = []
