@@ -15,7 +15,7 @@ use Rattle.model.specs.Limits.{ActionIn, ArcIn, ComponentIn, InLimits}
 use Rattle.model.specs.Reader.{readTable}
 use Rattle.model.specs.Window.{sends, channelOf, listens}
 use Rattle.model.specs.Schedule.{Visit, visitArc, earliest, heardBy, carried, messageIn}
-use Rattle.model.specs.Checks.{planOf}
+use Rattle.model.specs.Checks.{limit, planOf}
 use Rattle.model.specs.Calls.{planIn}
 use Rattle.model.specs.Chains.{IsSchedule}
 use Rattle.model.proofs.Parts.{after-ok}
@@ -23,7 +23,7 @@ use Rattle.model.proofs.Own.{in-all, all-in}
 use Rattle.model.proofs.Passages.{Entered, entered}
 use Rattle.model.proofs.RoundTrip.{written-read}
 use Rattle.model.proofs.NodeWorking.{arc-in}
-use Rattle.model.proofs.WholeTied.{Given, given, component-in}
+use Rattle.model.proofs.WholeTied.{Given, schedule-at, given, component-in}
 
 -- ## Channels
 
@@ -67,7 +67,7 @@ pub record SmallVisit (v : Visit) : Type 0 where
   pub location : v .entry .location < 256
   pub message : orElse (v .message) 255 < 256
 
-module _ (t : Read) (S : List Visit) (G : Given t S) where
+module _ (t : Read) (S : List Visit) (G : Given t (t .horizon) S) where
   arc-sends : (v : Visit) → Sends (visitArc (t .table) v)
   arc-sends v =
       any-at AllSend noComponent (λ e. omega arith) (components-send (G .limits .channels) (G .limits .components)) (v .component) (v .edge)
@@ -102,11 +102,11 @@ module _ (bs : List ℕ) (b : Bytes bs) (S : List Visit) (e : planIn bs ≡ acce
   unfolding planIn
   its-read = after-ok (readTable bs) planOf e
 
-  its-given : Given (its-read .0) S
+  its-given : Given (its-read .0) (its-read .0 .horizon) S
   its-given = given (its-read .0) S (written-read bs (its-read .0) b (its-read .1) .0) (its-read .2)
 
   pub all-small : All SmallVisit S
   all-small = small-visits (its-read .0) S its-given
 
   pub few-passages : length S ≤ 1024
-  few-passages = its-given .sched .few
+  few-passages = schedule-at (its-read .0 .table) (its-read .0 .horizon) limit S (its-read .2) .0 .few
