@@ -1,0 +1,48 @@
+# Names that changed, old to new. Each file is one pattern space (sed -z), so that an address may ask what a file imports.
+# Run by tools/rename, which also moves what is named after a name.
+
+# A passage is called passage: in the schedule Passage (was Visit), on a path PathPassage (was Place).
+/declared\.Passage\.\{Passage\}/{
+s/Schedule\.\{Visit, /Schedule.{/g
+s/use Rattle\.model\.specs\.Schedule\.\{Visit\}\n//g
+s/\bVisit\b/Rattle.model.specs.Schedule.Passage/g
+}
+s/\bVisit\b/Passage/g
+s/\bvisitArc\b/passageArc/g
+s/\bvisitAt\b/passageAt/g
+s/\bvisitOf\b/passageOf/g
+s/\bnoVisit\b/noPassage/g
+s/\bnewVisit\b/newPassage/g
+s/\browVisit\b/rowPassage/g
+s/\bSmallVisit\b/SmallPassage/g
+s/\bvisit\b/passage/g
+s/\bvisits\b/passages/g
+
+/Network\.\{|unfoldable pub follow :/{
+/Network\.\{[^}]*withPlace|unfoldable pub follow :/s/\bwithPlace\b/withPassage/g
+s/\bPlace\b/PathPassage/g
+s/\bplaceOf\b/passageIn/g
+s/\bnoPlace\b/noPathPassage/g
+s/\bstartPlace\b/startPassage/g
+s/ \.places\b/ .present/g
+s/\bplaces =/present =/g
+s/\bpub places : List PathPassage\b/pub present : List PathPassage/g
+}
+
+# `plan` is left to the slot planner. Plan was the passages opened so far, plan the schedule that 7 to 12 accept.
+/proofs\.proofs\.plan\b/!{
+/\bPlan\b/{
+s/([ ({\n])plan([ ,})\n])/\1soFar\2/g
+s/([ ({\n])plan([ ,})\n])/\1soFar\2/g
+s/ \.plan([ ;,)\n])/ .soFar\1/g
+s/\bPlan\b/OpenedSoFar/g
+}
+s/([ ({\n])plan([ ,})\n])/\1acceptedSchedule\2/g
+s/([ ({\n])plan([ ,})\n])/\1acceptedSchedule\2/g
+s/ \.plan([ ;,)\n])/ .acceptedSchedule\1/g
+}
+s/\bplanOf\b/acceptedScheduleOf/g
+s/\bplanIn\b/acceptedScheduleIn/g
+
+# The choice without its search, among the definitions.
+/proofs\.Choice\.\{[^}]*\bTaken\b/s/\bTaken\b/TakenEdge/g
