@@ -1,5 +1,5 @@
 # Names that changed, old to new. Each file is one pattern space (sed -z), so that an address may ask what a file imports.
-# Run by tools/rename, which also moves what is named after a name.
+# Run by tools/rename.
 
 # A passage is called passage: in the schedule Passage (was Visit), on a path PathPassage (was Place).
 /declared\.Passage\.\{Passage\}/{
