@@ -42,19 +42,17 @@ pub record Given (t : Read) (H : ℕ) (S : List Visit) : Type 0 where
   pub sched : IsSchedule most (t .table) H S
   pub checks : checked (t .table) H S ≡ accepted S
 
--- acceptance at a horizon, with a limit, gives that
-pub given-at : (t : Read) (H most : ℕ) (S : List Visit) → InLimits t → 1 ≤ H → plan most (t .table) H ≡ accepted S → Given t H S
+-- acceptance at a horizon, with a limit: the list is the schedule, and 10 to 12 accept it
+pub plan-is : (T : Table) (H most : ℕ) (S : List Visit) → plan most T H ≡ accepted S → IsSchedule most T H S × (checked T H S ≡ accepted S)
 unfolding plan
-given-at t H most S h k e =
-    let r = after-ok (schedule most (t .table) H) (λ (X : List Visit). checked (t .table) H X) e in
-    let same : r .0 ≡ S = checked-is (t .table) H (r .0) S .0 (r .2) .0 in
-    record {
-      limits = h;
-      least = k;
-      most = most;
-      sched = subst (IsSchedule most (t .table) H) same (schedule-is (t .table) H most (r .1));
-      checks = subst (λ (X : List Visit). checked (t .table) H X ≡ accepted S) same (r .2);
-    }
+plan-is T H most S e =
+    let r = after-ok (schedule most T H) (λ (X : List Visit). checked T H X) e in
+    let same : r .0 ≡ S = checked-is T H (r .0) S .0 (r .2) .0 in
+    (subst (IsSchedule most T H) same (schedule-is T H most (r .1)), subst (λ (X : List Visit). checked T H X ≡ accepted S) same (r .2))
+
+-- it gives that
+pub given-at : (t : Read) (H most : ℕ) (S : List Visit) → InLimits t → 1 ≤ H → plan most (t .table) H ≡ accepted S → Given t H S
+given-at t H most S h k e = let r = plan-is (t .table) H most S e in record { limits = h; least = k; most = most; sched = r .0; checks = r .1 }
 
 -- acceptance gives that
 pub given : (t : Read) (S : List Visit) → InLimits t → planOf t ≡ accepted S → Given t (t .horizon) S
