@@ -1,4 +1,4 @@
--- From every state that a run goes on from, some list of choices leads to the horizon, and every list is soon at an end. Assumes nothing.
+-- From every state that a run goes on from, some list of choices leads to the horizon; and of no list are more carried out than are left. Assumes nothing.
 use mathlib.Core.Path.{_≡_, refl, sym, ap, subst, _∙_}
 use mathlib.Core.Logic.{_⊎_, inl, inr}
 use mathlib.Core.Bool.{Bool, true, false, cond}
@@ -26,14 +26,14 @@ module _ {t : Read} {H : ℕ} {S : List Visit} (G : Given t H S) where
   abbrev pub left : Run → ℕ
   left s = (H - s .tick) + toilOf t S s
 
-  -- choice b carried out in state s: a byte, one more used, to a state that the run goes on from, and less is left
+  -- choice b carried out in state s, to state u: it is a byte, one more is used, the run goes on from u, and less is left
   record Done (s : Run) (b : ℕ) (u : Run) : Type 0 where
     pub byte : b < 256
     pub used : u .used ≡ suc (s .used)
     pub live : Live G u
     pub less : left u < left s
 
-  -- every choice that is carried out is
+  -- so it is with every choice that the run goes on after
   carries : {s : Run} → Live G s → (b : ℕ) {u : Run} → choose1 (settingTo t H S) s b ≡ on u → Done s b u
   carries {s} k b {u} e = go (subst (Leads G s b) e (choice-leads G k b)) (whose G (k .tied) b u e)
     where
