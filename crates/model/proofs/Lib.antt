@@ -74,10 +74,12 @@ pub mod WholeRead
 pub mod WholeLimits
 pub mod WholePromise
 pub mod ProgressWeight
+pub mod ProgressBlock
 pub mod ProgressNode
 pub mod ProgressMove
 pub mod ProgressTick
 pub mod ProgressRun
+pub mod ProgressCount
 pub mod ProgressShown
 pub mod MeaningStep
 pub mod MeaningPath

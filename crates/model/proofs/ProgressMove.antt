@@ -1,11 +1,12 @@
 -- What all nodes together have yet to do falls with each choice of a node. Assumes nothing.
 use mathlib.Core.Path.{_≡_, refl, sym, ap, subst, _∙_}
+use mathlib.Core.Logic.{_⊎_, inl, inr}
 use mathlib.Core.Bool.{Bool, true, false, cond, _&&_, not}
 use mathlib.Core.List.{List, [], _∷_}
 use Prim.Native.Nat.{ℕ, zero, suc, _+_, _≤_, _<_}
 use native.Mathlib.Omega.{arith}
-use borrow.Author.Tests.{eqb-true, eqb-false, lt-ltb, ne-eqb}
-use lib.Dec.{eqb, leb}
+use borrow.Author.Tests.{eqb-true, eqb-false, ltb-true, lt-ltb, ne-eqb}
+use lib.Dec.{eqb, leb, ltb}
 use lib.IntN.{_+ℤ_}
 use lib.ListN.{length, getD, set, length-set}
 use lib.Seq.{getD-set-same, getD-set-other}
@@ -15,7 +16,7 @@ use Rattle.model.specs.Window.{inRange, valueAt}
 use Rattle.model.specs.Schedule.{Visit, own}
 use Rattle.model.specs.Program.{programBytes}
 use Rattle.model.specs.Machine.{Node, partBytes}
-use Rattle.model.specs.Run.{Setting, settingTo, Run, noNode, nodeOf, Stand, sleeping, sending, listening, finishing, adding, working, taking, elsewhere, nowhere, standOf, windowEnd, names, hears, listeners, takesMessage, forbidden, on, finished, sent, finishes, choose1}
+use Rattle.model.specs.Run.{Setting, settingTo, Run, noNode, nodeOf, Stand, sleeping, sending, listening, finishing, adding, working, taking, elsewhere, nowhere, standOf, windowEnd, names, hears, listeners, takesMessage, Outcome, forbidden, on, finished, sent, finishes, choose1}
 use Rattle.model.proofs.Bools.{clash, and-is}
 use Rattle.model.proofs.Members.{only-is}
 use Rattle.model.proofs.WholeTied.{Given, Tied}
@@ -146,6 +147,17 @@ module _ {t : Read} {H : ℕ} {S : List Visit} (G : Given t H S) {s : Run} (k : 
   carried c h u e =
       finishes-carried (settingTo t H S) s c u (standOf (nodeOf s c)) refl
       (rw (ne-eqb c 255 (λ i. omega (arith, G .limits .mostComponents)), lt-ltb c (length (s .nodes)) (omega (arith, k .full))) at e)
+
+  -- a choice carried out is a tick or a node
+  pub whose : (b : ℕ) (u : Run) → choose1 (settingTo t H S) s b ≡ on u → (b ≡ 255) ⊎ (b < size (t .table))
+  unfolding choose1
+  whose b u e = go (eqb b 255) refl (ltb b (length (s .nodes))) refl _ _ e
+    where
+      go : (x : Bool) → eqb b 255 ≡ x → (y : Bool) → ltb b (length (s .nodes)) ≡ y → (tick node : Outcome) → cond x tick (cond y node forbidden) ≡ on u
+          → (b ≡ 255) ⊎ (b < size (t .table))
+      go true p y q tick node f = inl (eqb-true b 255 p)
+      go false p true q tick node f = inr (omega (arith, ltb-true b (length (s .nodes)) q, k .full))
+      go false p false q tick node f = never (settingTo t H S) s b u f
 
   -- a node that finished its statement has less to do
   less : (d : ℕ) → d < size (t .table) → (standOf (nodeOf s d) ≡ taking → isNone (nodeOf s d .kept) ≡ false) → toil (length (own d S)) (finished (settingTo t H S) s d) < toilAt S s d

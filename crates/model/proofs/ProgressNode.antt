@@ -1,48 +1,30 @@
 -- What a node has yet to do falls with each statement that it finishes, in every phase. Assumes nothing.
 use mathlib.Core.Path.{_≡_, refl, sym, ap, subst, _∙_}
-use mathlib.Core.Bool.{Bool, true, false, cond}
-use mathlib.Core.List.{List, [], _∷_, _++_, append-assoc}
+use mathlib.Core.Bool.{true, false}
+use mathlib.Core.List.{List, [], _∷_, _++_}
 use mathlib.Core.Option.{Option, none, some}
-use Prim.Native.Nat.{ℕ, suc, _+_, _≤_, _<_}
+use Prim.Native.Nat.{ℕ, suc, _≤_, _<_}
 use native.Mathlib.Omega.{arith}
 use lib.ListN.{length, length-append}
-use Rattle.model.specs.declared.Update.{Update}
 use Rattle.model.specs.Lists.{all, isNone}
 use Rattle.model.specs.Table.{Component, Read, size, componentOf, arcOf}
 use Rattle.model.specs.Limits.{ComponentIn}
-use Rattle.model.specs.Window.{Entry, Pick, choice, masked}
+use Rattle.model.specs.Window.{Entry, Pick, choice}
 use Rattle.model.specs.Schedule.{Visit, own}
-use Rattle.model.specs.Program.{Statement, sleep, setTo, addTo, done, send, listen, age, reset, enter, takeEdge, choose, updateOf, ageing, locationBlock, edgeBlock, programBytes}
+use Rattle.model.specs.Program.{Statement, sleep, done, send, listen, enter, takeEdge, choose, updateOf, ageing, edgeBlock, programBytes}
 use Rattle.model.specs.Network.{Observation}
 use Rattle.model.specs.Machine.{Node, finish, partBytes}
 use Rattle.model.specs.Run.{taking, standOf}
 use Rattle.model.proofs.Bools.{clash, and-is}
 use Rattle.model.proofs.BlockLaw.{tests}
 use Rattle.model.proofs.Choice.{choice-picked}
-use Rattle.model.proofs.ProgramSize.{allQuads}
-use Rattle.model.proofs.DecodeSize.{location-count, edge-counted}
-use Rattle.model.proofs.NodeChoosing.{Coded, trialsAt, Choosing, left-tests, choosing-taking, at-take, Asleep, take-step, asleep-sleeping}
+use Rattle.model.proofs.NodeChoosing.{Coded, Choosing, left-tests, choosing-taking, at-take, Asleep, take-step, asleep-sleeping}
 use Rattle.model.proofs.NodeAgeing.{Ageing, ageingFrom, Entered, choose-step}
 use Rattle.model.proofs.NodeWorking.{Doing, updating, toSend, toListen, Working}
 use Rattle.model.proofs.NodePhase.{Heading, isAgeing, isEntered, isChoosing}
 use Rattle.model.proofs.WholeTied.{Given, Held, coming, waiting, busy, leaving, resting, Tie, coded, component-in}
-use Rattle.model.proofs.ProgressWeight.{weight, toil, plain, tests-plain, weight-most, weight-tests, plain-falls, less-falls, sleep-falls}
-
--- the second of two lists is no longer than both
-quads-after : (xs ys : List Statement) → allQuads ys ≤ allQuads (xs ++ ys)
-quads-after [] ys = omega arith
-quads-after (x ∷ xs) ys = omega (arith, quads-after xs ys)
-
--- what is left of a location's block is short
-block-few : {channels : ℕ} {C : Component} → ComponentIn channels C → (xs ys : List Statement) (l : ℕ) → xs ++ ys ≡ trialsAt C l → allQuads (ys ++ (takeEdge ∷ [])) ≤ 609
-unfolding locationBlock
-block-few {channels} {C} fits xs ys l e =
-    omega (
-      arith,
-      quads-after xs (ys ++ (takeEdge ∷ [])),
-      ap allQuads (sym (append-assoc xs ys (takeEdge ∷ [])) ∙ ap (λ (x : List Statement). x ++ (takeEdge ∷ [])) e),
-      location-count channels C fits l,
-    )
+use Rattle.model.proofs.ProgressWeight.{weight, toil, tests-plain, plain-falls, less-falls, sleep-falls}
+use Rattle.model.proofs.ProgressBlock.{location-light, update-plain, ageing-plain, edge-light}
 
 -- ## One phase
 
@@ -51,13 +33,6 @@ module _ {p : List ℕ} {channels : ℕ} {C : Component} (codes : Coded p C) (fi
   ageing-falls : Ageing C i at r → toil most (finish p r (r .rest)) < toil most r
   ageing-falls g = go (g .young) refl
     where
-      clock : (x : ℕ) → plain (ageing (g .mask) x) ≡ true
-      clock x = by (masked (g .mask) x)
-        where
-          by : (b : Bool) → plain (cond b (reset x) (age x)) ≡ true
-          by true = refl
-          by false = refl
-
       go : (ys : List ℕ) → g .young ≡ ys → toil most (finish p r (r .rest)) < toil most r
       go [] e =
           plain-falls p most r (enter (g .destination)) (choose ∷ [])
@@ -66,7 +41,7 @@ module _ {p : List ℕ} {channels : ℕ} {C : Component} (codes : Coded p C) (fi
       go (y ∷ ys) e =
           plain-falls p most r (ageing (g .mask) (length (g .old))) (ageingFrom (g .mask) (g .destination) (suc (length (g .old))) (length ys))
           (g .rest ∙ ap (λ (l : List ℕ). ageingFrom (g .mask) (g .destination) (length (g .old)) (length l)) e)
-          (clock (length (g .old)))
+          (ageing-plain (g .mask) (length (g .old)))
 
   -- at the choose
   entered-falls : Entered C i at r → toil most (finish p r (r .rest)) < toil most r
@@ -76,11 +51,7 @@ module _ {p : List ℕ} {channels : ℕ} {C : Component} (codes : Coded p C) (fi
       q = choose-step codes g
 
       light : weight (finish p r (r .rest) .rest) < 611
-      light =
-          let a = weight-tests (q .left) (left-tests q) in
-          let b = ap weight (q .rest) in
-          let c = block-few fits (q .past) (q .left) (at .location) (q .block) in
-          omega arith
+      light = omega (arith, ap weight (q .rest), location-light fits (q .past) (q .left) (at .location) (q .block) (left-tests q))
 
   -- in the location's block
   choosing-falls : Choosing C i at r → i ≤ most → (standOf r ≡ taking → isNone (r .kept) ≡ false) → toil most (finish p r (r .rest)) < toil most r
@@ -91,7 +62,7 @@ module _ {p : List ℕ} {channels : ℕ} {C : Component} (codes : Coded p C) (fi
       take (some k) f e n =
           let q = take-step codes g e f in
           sleep-falls p most r takeEdge [] (g .rest ∙ ap (λ (x : List Statement). x ++ (takeEdge ∷ [])) e) (omega (arith, g .sleeps)) refl (asleep-sleeping q)
-          (omega (arith, ap weight (q .rest), weight-most (edgeBlock C (k .edge)), edge-counted channels C fits (k .edge) (choice-picked C at f .present)))
+          (omega (arith, ap weight (q .rest), edge-light fits (k .edge) (choice-picked C at f .present)))
           (omega arith)
 
       go : (ss : List Statement) → g .left ≡ ss → toil most (finish p r (r .rest)) < toil most r
@@ -116,16 +87,9 @@ module _ {p : List ℕ} {channels : ℕ} {C : Component} (codes : Coded p C) (fi
   pub working-falls : {k : Pick} → Working C i at k r → toil most (finish p r (r .rest)) < toil most r
   working-falls {k} g = go (g .doing)
     where
-      update : (u : Update) → plain (updateOf u) ≡ true
-      update u = by (u .adds)
-        where
-          by : (b : Bool) → plain (cond b (addTo (u .variable) (u .number)) (setTo (u .variable) (u .number))) ≡ true
-          by true = refl
-          by false = refl
-
       go : Doing C (arcOf C (k .edge)) (g .results) r → toil most (finish p r (r .rest)) < toil most r
       go (updating [] act leads rest) = plain-falls p most r done _ rest refl
-      go (updating (u ∷ us) act leads rest) = plain-falls p most r (updateOf u) _ rest (update u)
+      go (updating (u ∷ us) act leads rest) = plain-falls p most r (updateOf u) _ rest (update-plain u)
       go (toSend c act acted rest) = plain-falls p most r (send c) _ rest refl
       go (toListen act acted rest) = plain-falls p most r (listen (arcOf C (k .edge) .pairs)) _ rest refl
 

@@ -1,4 +1,4 @@
--- From every state that a run goes on from, some list of choices leads to the horizon. Assumes nothing.
+-- From every state that a run goes on from, some list of choices leads to the horizon; and of no list are more carried out than are left. Assumes nothing.
 use mathlib.Core.Path.{_≡_, refl, sym, ap, subst, _∙_}
 use mathlib.Core.Logic.{_⊎_, inl, inr}
 use mathlib.Core.Bool.{Bool, true, false, cond}
@@ -7,6 +7,8 @@ use Prim.Native.Nat.{ℕ, zero, suc, _+_, _-_, _≤_, _<_}
 use native.Mathlib.Omega.{arith}
 use borrow.Author.Tests.{eqb-true, eqb-false, ne-eqb}
 use lib.Dec.{eqb}
+use lib.ListN.{length}
+use Rattle.model.specs.Lists.{empty, more, Bytes}
 use Rattle.model.specs.Table.{Read, size}
 use Rattle.model.specs.Schedule.{Visit}
 use Rattle.model.specs.Run.{settingTo, Run, ends, Outcome, forbidden, on, over, ticked, continue, choose1, runFrom}
@@ -14,20 +16,68 @@ use Rattle.model.proofs.Bools.{clash}
 use Rattle.model.proofs.WholeTied.{Given, Tied}
 use Rattle.model.proofs.WholeTick.{Live, Leads, no, onward, arrives, breaks}
 use Rattle.model.proofs.WholeSend.{choice-leads}
-use Rattle.model.proofs.ProgressMove.{toilOf, choice-falls}
+use Rattle.model.proofs.ProgressMove.{toilOf, whose, choice-falls}
 use Rattle.model.proofs.ProgressTick.{none-late, tick-allowed, tick-is}
 
 module _ {t : Read} {H : ℕ} {S : List Visit} (G : Given t H S) where
+  -- ## One choice
+
+  -- what is left until the horizon
+  abbrev pub left : Run → ℕ
+  left s = (H - s .tick) + toilOf t S s
+
+  -- choice b carried out in state s, to state u: it is a byte, one more is used, the run goes on from u, and less is left
+  record Done (s : Run) (b : ℕ) (u : Run) : Type 0 where
+    pub byte : b < 256
+    pub used : u .used ≡ suc (s .used)
+    pub live : Live G u
+    pub less : left u < left s
+
+  -- so it is with every choice that the run goes on after
+  carries : {s : Run} → Live G s → (b : ℕ) {u : Run} → choose1 (settingTo t H S) s b ≡ on u → Done s b u
+  carries {s} k b {u} e = go (subst (Leads G s b) e (choice-leads G k b)) (whose G (k .tied) b u e)
+    where
+      go : Leads G s b (on u) → (b ≡ 255) ⊎ (b < size (t .table)) → Done s b u
+      go (onward w l f i) (inl q) =
+          record {
+            byte = omega arith;
+            used = f;
+            live = l;
+            less =
+                let is = tick-is t H S s u (subst (λ (c : ℕ). choose1 (settingTo t H S) s c ≡ on u) q e) in
+                subst (λ (x : Run). left x < left s) (sym is) (omega (arith, k .below));
+          }
+      go (onward w l f i) (inr h) =
+          let same : u .tick ≡ s .tick = i ∙ ap (λ (x : Bool). cond x (suc (s .tick)) (s .tick)) (ne-eqb b 255 (λ q. omega (arith, G .limits .mostComponents))) in
+          record {
+            byte = omega (arith, G .limits .mostComponents);
+            used = f;
+            live = l;
+            less = omega (arith, choice-falls G (k .tied) b h u e, same);
+          }
+
+  -- a run from here carries out no more choices than are left
+  pub uses : (cs : List ℕ) {s : Run} → Live G s → runFrom (settingTo t H S) cs s .state .used ≤ s .used + left s
+  unfolding runFrom
+  uses [] {s} k = omega arith
+  uses (b ∷ bs) {s} k = go (choose1 (settingTo t H S) s b) refl (choice-leads G k b) (λ u l. uses bs l)
+    where
+      go : (o : Outcome) → choose1 (settingTo t H S) s b ≡ o → Leads G s b o → ((u : Run) → Live G u → runFrom (settingTo t H S) bs u .state .used ≤ u .used + left u)
+          → continue s o (λ v. runFrom (settingTo t H S) bs v) .state .used ≤ s .used + left s
+      go forbidden e no ih = omega arith
+      go (on u) e (onward w l f i) ih = let d = carries k b e in omega (arith, ih u (d .live), d .used, d .less)
+      go (over u x y) e (arrives f p i) ih = omega (arith, k .below)
+      go (over u x y) e (breaks d f p) ih = omega (arith, k .below)
+
+  -- ## To the horizon
+
   -- a choice of a node that is allowed
   record Able (s : Run) : Type 0 where
     pub node : ℕ
-    pub there : node < size (t .table)
     pub next : Run
     pub is : choose1 (settingTo t H S) s node ≡ on next
-    pub live : Live G next
-    pub tick : next .tick ≡ s .tick
 
-  -- a list of choices that leads to the horizon, by a tick of the state before
+  -- a list of choices that leads to the horizon, by a tick of the state before; each a byte, and each carried out
   pub record Arrival (s : Run) : Type 0 where
     pub choices : List ℕ
     pub before : Run
@@ -35,6 +85,8 @@ module _ {t : Read} {H : ℕ} {S : List Visit} (G : Given t H S) where
     pub tied : Tied G (ticked before)
     pub tick : suc (before .tick) ≡ H
     pub is : runFrom (settingTo t H S) choices s ≡ ends (ticked before) 0 255
+    pub bytes : Bytes choices
+    pub used : suc (before .used) ≡ s .used + length choices
 
   -- one node: it can be chosen or not
   can : {s : Run} → Live G s → (c : ℕ) → c < size (t .table) → Able s ⊎ (choose1 (settingTo t H S) s c ≡ forbidden)
@@ -45,16 +97,7 @@ module _ {t : Read} {H : ℕ} {S : List Visit} (G : Given t H S) where
 
       go : (o : Outcome) → choose1 (settingTo t H S) s c ≡ o → Leads G s c o → Able s ⊎ (choose1 (settingTo t H S) s c ≡ forbidden)
       go forbidden e no = inr e
-      go (on u) e (onward w l f i) =
-          inl
-          (record {
-            node = c;
-            there = h;
-            next = w;
-            is = e;
-            live = l;
-            tick = i ∙ ap (λ (x : Bool). cond x (suc (s .tick)) (s .tick)) (ne-eqb c 255 no-tick);
-          })
+      go (on u) e (onward w l f i) = inl (record { node = c; next = w; is = e })
       go (over u x y) e (arrives f p i) = absurd (no-tick f)
       go (over u x y) e (breaks d f p) = absurd (no-tick f)
 
@@ -76,14 +119,11 @@ module _ {t : Read} {H : ℕ} {S : List Visit} (G : Given t H S) where
               by true q = subst (λ (j : ℕ). choose1 (settingTo t H S) s j ≡ forbidden) (sym (eqb-true c n q)) a
               by false q = b c (omega (arith, eqb-false c n q))
 
-  -- what is left until the horizon
-  abbrev pub left : Run → ℕ
-  left s = (H - s .tick) + toilOf t S s
-
   -- one choice more
-  further : {s u : Run} (b : ℕ) → choose1 (settingTo t H S) s b ≡ on u → Arrival u → Arrival s
+  further : {s u : Run} → Live G s → (b : ℕ) → choose1 (settingTo t H S) s b ≡ on u → Arrival u → Arrival s
   unfolding runFrom
-  further {s} {u} b e a =
+  further {s} {u} k b e a =
+      let d = carries k b e in
       record {
         choices = b ∷ a .choices;
         before = a .before;
@@ -91,6 +131,8 @@ module _ {t : Read} {H : ℕ} {S : List Visit} (G : Given t H S) where
         tied = a .tied;
         tick = a .tick;
         is = ap (λ (o : Outcome). continue s o (λ v. runFrom (settingTo t H S) (a .choices) v)) e ∙ a .is;
+        bytes = more (d .byte) (a .bytes);
+        used = omega (arith, a .used, d .used);
       }
 
   -- the last tick
@@ -104,6 +146,8 @@ module _ {t : Read} {H : ℕ} {S : List Visit} (G : Given t H S) where
         tied = p;
         tick = i;
         is = ap (λ (o : Outcome). continue s o (λ v. runFrom (settingTo t H S) [] v)) e;
+        bytes = more {x = 255} (omega arith) empty;
+        used = omega arith;
       }
 
   -- Every node that can be chosen is, and where none can a tick is; so much is left at most.
@@ -112,18 +156,12 @@ module _ {t : Read} {H : ℕ} {S : List Visit} (G : Given t H S) where
   arrive (suc n) {s} k l = go (look k (size (t .table)) (omega arith)) (λ u m i. arrive n m i)
     where
       go : Able s ⊎ ((c : ℕ) → c < size (t .table) → choose1 (settingTo t H S) s c ≡ forbidden) → ((u : Run) → Live G u → left u ≤ n → Arrival u) → Arrival s
-      go (inl a) ih =
-          further (a .node) (a .is)
-          (ih (a .next) (a .live) (let f = choice-falls G (k .tied) (a .node) (a .there) (a .next) (a .is) in omega (arith, a .tick)))
+      go (inl a) ih = let d = carries k (a .node) (a .is) in further k (a .node) (a .is) (ih (a .next) (d .live) (omega (arith, d .less)))
       go (inr still) ih = tick (choose1 (settingTo t H S) s 255) refl (choice-leads G k 255)
         where
           tick : (o : Outcome) → choose1 (settingTo t H S) s 255 ≡ o → Leads G s 255 o → Arrival s
           tick forbidden e no = absurd (tick-allowed G k still e)
-          tick (on u) e (onward w m f i) =
-              further 255 e
-              (ih w m
-              (let q = tick-is t H S s w e in
-              subst (λ (x : Run). left x ≤ n) (sym q) (let b = k .below in omega arith)))
+          tick (on u) e (onward w m f i) = further k 255 e (ih w m (omega (arith, carries k 255 e .less)))
           tick (over u x y) e (arrives f p i) = finally k e p i
           tick (over u x y) e (breaks d f p) = clash (sym (none-late G k still d (p .there)) ∙ p .late)
 
@@ -144,6 +182,6 @@ module _ {t : Read} {H : ℕ} {S : List Visit} (G : Given t H S) where
       go forbidden q no f ih = absurd (omega arith)
       go (on u) q (onward w l h i) f ih =
           let a = ih w l f in
-          record { more = a .more; arrival = further b q (a .arrival); is = ap (λ (x : List ℕ). b ∷ x) (a .is) }
+          record { more = a .more; arrival = further k b q (a .arrival); is = ap (λ (x : List ℕ). b ∷ x) (a .is) }
       go (over u x y) q (arrives h p i) f ih = absurd (omega arith)
       go (over u x y) q (breaks d h p) f ih = absurd (omega arith)

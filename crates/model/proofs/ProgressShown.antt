@@ -1,11 +1,11 @@
--- Something happens: every accepted table has a list of choices that ends with the horizon, with every observation due, and no run gets stuck
--- before it. Assumes nothing.
+-- Something happens: every accepted table has a list of choices that ends with the horizon, with every observation due; no run gets stuck
+-- before it; and the call `run` takes such a list, since no run carries out more than 1,000,000 choices. Assumes nothing.
 use mathlib.Core.Path.{_≡_, refl, sym, ap, subst, _∙_}
 use mathlib.Core.Bool.{Bool, true, cond}
 use mathlib.Core.List.{List, [], _∷_, _++_, map, append-nil, append-cancel-right}
-use Prim.Native.Nat.{ℕ, suc, _+_, _≤_, _<_}
+use Prim.Native.Nat.{ℕ, suc, _+_, _*_, _≤_, _<_}
 use native.Mathlib.Omega.{arith}
-use borrow.Author.Tests.{lt-ltb}
+use borrow.Author.Tests.{lt-ltb, le-ltb}
 use lib.Dec.{ltb}
 use lib.ListN.{length, length-append, length-map}
 use lib.Seq.{append-snoc}
@@ -13,21 +13,22 @@ use Rattle.model.specs.Lists.{only, All, empty, more, accepted}
 use Rattle.model.specs.Table.{Read, size, componentOf}
 use Rattle.model.specs.Limits.{InLimits}
 use Rattle.model.specs.Schedule.{Visit, own}
-use Rattle.model.specs.Checks.{planOf}
+use Rattle.model.specs.Checks.{limit, planOf}
 use Rattle.model.specs.Run.{settingTo, Run, Result, nodeOf, ticked, run, startRun}
+use Rattle.model.specs.Calls.{runCall}
 use Rattle.model.specs.Demand3.{observationsOf}
-use Rattle.model.specs.Progress.{readyPassages, dueOf, ReachesBy, Reaches, Continues, Happens}
+use Rattle.model.specs.Progress.{readyPassages, dueOf, ReachesBy, Reaches, Continues, UsesAtMost, Happens, Answers}
 use Rattle.model.proofs.Words.{all-join}
 use Rattle.model.proofs.Members.{only-append}
 use Rattle.model.proofs.Own.{all-then}
 use Rattle.model.proofs.NetSays.{seen}
 use Rattle.model.proofs.NetWitness.{ahead-rest}
 use Rattle.model.proofs.WholeLimits.{read-limits}
-use Rattle.model.proofs.WholeTied.{Given, given, Held, coming, waiting, busy, leaving, resting, Tie, shownBy, Tied}
-use Rattle.model.proofs.WholeStart.{tied-start}
+use Rattle.model.proofs.WholeTied.{Given, schedule-at, given, Held, coming, waiting, busy, leaving, resting, Tie, shownBy, Tied}
 use Rattle.model.proofs.WholeTick.{Live}
 use Rattle.model.proofs.WholeCount.{none-missing}
 use Rattle.model.proofs.ProgressRun.{Arrival, arrive, left, arrive-after}
+use Rattle.model.proofs.ProgressCount.{start-live, carried-few}
 
 -- ## Lists
 
@@ -99,10 +100,6 @@ module _ {t : Read} {H : ℕ} {S : List Visit} (G : Given t H S) {s : Run} (k : 
 -- ## The law
 
 module _ {t : Read} {H : ℕ} {S : List Visit} (G : Given t H S) where
-  -- the start lies before the horizon
-  start-live : Live G (startRun (settingTo t H S))
-  start-live = record { tied = tied-start G; below = omega (arith, G .least) }
-
   -- an arrival from the start
   reaches-by : (A : Arrival G (startRun (settingTo t H S))) → ReachesBy t H S (A .choices)
   unfolding run
@@ -111,16 +108,18 @@ module _ {t : Read} {H : ℕ} {S : List Visit} (G : Given t H S) where
         end = ap (λ (r : Result). r .end) (A .is);
         tick = ap (λ (r : Result). r .state .tick) (A .is) ∙ A .tick;
         shown = λ c h. ap (observationsOf c) (A .is) ∙ due-shown G (A .live) (A .tied) (A .tick) c h;
+        bytes = A .bytes;
+        used = ap (λ (r : Result). r .state .used) (A .is) ∙ omega (arith, A .used);
       }
 
   -- some choices reach the horizon
   reach : Reaches t H S
-  reach = let a = arrive G (left G (startRun (settingTo t H S))) start-live (omega arith) in (a .choices, reaches-by a)
+  reach = let a = arrive G (left G (startRun (settingTo t H S))) (start-live G) (omega arith) in (a .choices, reaches-by a)
 
   -- and so do some more of any that are used up
   go-on : Continues t H S
   unfolding run
-  go-on cs e = let a = arrive-after G cs start-live e in (a .more, subst (ReachesBy t H S) (a .is) (reaches-by (a .arrival)))
+  go-on cs e = let a = arrive-after G cs (start-live G) e in (a .more, subst (ReachesBy t H S) (a .is) (reaches-by (a .arrival)))
 
 -- every accepted table reaches its horizon
 pub reaches : (t : Read) (S : List Visit) → InLimits t → planOf t ≡ accepted S → Reaches t (t .horizon) S
@@ -130,6 +129,17 @@ reaches t S l a = reach (given t S l a)
 pub continues : (t : Read) (S : List Visit) → InLimits t → planOf t ≡ accepted S → Continues t (t .horizon) S
 continues t S l a = go-on (given t S l a)
 
--- both, for every list of numbers that is read as a table and accepted
+-- and no run of it carries out more than 710,904 choices
+pub uses-at-most : (t : Read) (S : List Visit) → InLimits t → planOf t ≡ accepted S → UsesAtMost 710904 t (t .horizon) S
+uses-at-most t S l a cs = omega (arith, carried-few (given t S l a) cs, schedule-at (t .table) (t .horizon) limit S a .0 .few, l .mostComponents, l .mostHorizon)
+
+-- all three, for every list of numbers that is read as a table and accepted
 pub happens : Happens
-happens bytes t S r e = let l = read-limits bytes t r in (reaches t S l e, continues t S l e)
+happens bytes t S r e = let l = read-limits bytes t r in (reaches t S l e, continues t S l e, λ cs. omega (arith, uses-at-most t S l e cs))
+
+-- so the call `run` refuses no choices that reach the horizon
+pub answers : Answers
+unfolding runCall
+answers bytes t S r e choices a lent h =
+    let few = uses-at-most t S (read-limits bytes t r) e choices in
+    rw (r, e, le-ltb (length lent) (length S * 32) h, le-ltb 1000000 (length choices) (omega (arith, few, a .used)))

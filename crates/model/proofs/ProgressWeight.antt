@@ -4,11 +4,11 @@ use mathlib.Core.Bool.{Bool, true, false}
 use mathlib.Core.List.{List, [], _∷_, _++_}
 use Prim.Native.Nat.{ℕ, suc, _+_, _-_, _*_, _≤_, _<_}
 use native.Mathlib.Omega.{arith}
-use Rattle.model.specs.Lists.{all}
+use Rattle.model.specs.Lists.{All, empty, more}
 use Rattle.model.specs.Program.{Statement, sleep, setTo, addTo, done, send, listen, age, reset, enter, trial, low, high, dataLow, dataHigh, keep, takeEdge, choose}
 use Rattle.model.specs.Machine.{Node, exec, finish, to}
 use Rattle.model.specs.Run.{Stand, sleeping, sending, listening, finishing, adding, working, taking, elsewhere, nowhere, stand, standAt, standOf}
-use Rattle.model.proofs.Bools.{clash, and-is}
+use Rattle.model.proofs.Bools.{clash}
 use Rattle.model.proofs.BlockLaw.{tests}
 use Rattle.model.proofs.ProgramSize.{allQuads}
 use Rattle.model.proofs.NodeFacts.{sleepsAfter, exec-sleeps}
@@ -58,7 +58,7 @@ taken r = r .sleeps + atSleep (standOf r)
 
 -- What a node of so many passages has yet to do: each take yet to finish counts for more than any edge's block.
 abbrev pub toil : ℕ → Node → ℕ
-toil most r = (suc most - taken r) * 9776 + weight (r .rest)
+toil most r = (suc most - taken r) * 626 + weight (r .rest)
 
 -- ## One statement
 
@@ -143,26 +143,6 @@ plain-rest p r (keep e) f = refl
 plain-rest p r takeEdge e = clash e
 plain-rest p r choose e = clash e
 
--- no statement costs more than a choose
-cost-most : (x : Statement) → cost x ≤ 611
-cost-most sleep = omega arith
-cost-most (setTo v k) = omega arith
-cost-most (addTo v k) = omega arith
-cost-most done = omega arith
-cost-most (send k) = omega arith
-cost-most (listen qs) = omega arith
-cost-most (age i) = omega arith
-cost-most (reset i) = omega arith
-cost-most (enter l) = omega arith
-cost-most trial = omega arith
-cost-most (low i k) = omega arith
-cost-most (high i k) = omega arith
-cost-most (dataLow v k) = omega arith
-cost-most (dataHigh v k) = omega arith
-cost-most (keep e) = omega arith
-cost-most takeEdge = omega arith
-cost-most choose = omega arith
-
 -- the sleeps finished after a statement are those before, and the one that it stands at
 sleeps-after : (x : Statement) (n : ℕ) → sleepsAfter x n ≡ n + atSleep (stand x)
 sleeps-after sleep n = omega arith
@@ -183,19 +163,12 @@ sleeps-after (keep e) n = omega arith
 sleeps-after takeEdge n = omega arith
 sleeps-after choose n = omega arith
 
--- ## Blocks
+-- ## Many statements
 
--- a list weighs no more than so many chooses
-pub weight-most : (xs : List Statement) → weight xs ≤ allQuads xs * 611
-weight-most [] = omega arith
-weight-most (x ∷ xs) = omega (arith, cost-most x, weight-most xs)
-
--- tests weigh one each
-pub weight-tests : (xs : List Statement) → all tests xs ≡ true → weight (xs ++ (takeEdge ∷ [])) ≤ allQuads (xs ++ (takeEdge ∷ []))
-weight-tests [] e = omega arith
-weight-tests (x ∷ xs) e =
-    let h = and-is (tests x) (all tests xs) .0 e in
-    omega (arith, plain-cost x (tests-plain x (h .0)), weight-tests xs (h .1))
+-- plain statements weigh no more than the times four bytes that they have
+pub weight-plain : {xs : List Statement} → All (λ x. plain x ≡ true) xs → (ys : List Statement) → weight (xs ++ ys) + allQuads ys ≤ allQuads (xs ++ ys) + weight ys
+weight-plain empty ys = omega arith
+weight-plain (more {x = x} h a) ys = omega (arith, plain-cost x h, weight-plain a ys)
 
 -- ## What falls
 
@@ -232,7 +205,7 @@ module _ (p : List ℕ) (most : ℕ) (r : Node) where
     less-falls h = omega (arith, taken-before, ap weight e)
 
     -- a statement that leads to a sleep
-    pub sleep-falls : r .sleeps ≤ most → atSleep (stand x) ≡ 0 → standOf next ≡ sleeping → weight (next .rest) ≤ 9776 → 1 ≤ cost x → toil most next < toil most r
+    pub sleep-falls : r .sleeps ≤ most → atSleep (stand x) ≡ 0 → standOf next ≡ sleeping → weight (next .rest) ≤ 626 → 1 ≤ cost x → toil most next < toil most r
     sleep-falls l z s w c =
         omega (
           arith,

@@ -29,13 +29,13 @@ use Rattle.model.proofs.WholePromise.{promised}
 
 module _ {A : Type 0} (f : A → ℕ) where
   -- those with a number below n, and those with number n
-  abbrev under : ℕ → List A → List A
+  abbrev pub under : ℕ → List A → List A
   under n xs = only (λ x. ltb (f x) n) xs
 
   abbrev with-number : ℕ → List A → List A
   with-number n xs = only (λ x. eqb (f x) n) xs
 
-  one-on : (n : ℕ) (xs : List A) → length (under (suc n) xs) ≡ length (under n xs) + length (with-number n xs)
+  pub one-on : (n : ℕ) (xs : List A) → length (under (suc n) xs) ≡ length (under n xs) + length (with-number n xs)
   one-on n [] = refl
   one-on n (x ∷ xs) = go (one-on n xs) (ltb (f x) n) (eqb (f x) n) refl refl
     where
@@ -47,7 +47,7 @@ module _ {A : Type 0} (f : A → ℕ) where
       go h false false p q = rw (le-ltb (f x) (suc n) (omega (arith, ltb-false (f x) n p, eqb-false (f x) n q))) (omega arith)
 
   -- none has a number below 0
-  none-under : (xs : List A) → length (under 0 xs) ≡ 0
+  pub none-under : (xs : List A) → length (under 0 xs) ≡ 0
   none-under [] = refl
   none-under (x ∷ xs) = rw (le-ltb (f x) 0 (omega arith)) (none-under xs)
 

@@ -40,7 +40,7 @@ start-at program k (C ∷ Cs) (suc c) h =
 
 module _ {t : Read} {H : ℕ} {S : List Visit} (G : Given t H S) where
   -- node c of the run's start
-  start-node : (c : ℕ) → c < size (t .table)
+  pub start-node : (c : ℕ) → c < size (t .table)
       → nodeOf (startRun (settingTo t H S)) c ≡ startNode (partBytes (programBytes t) c) (componentOf (t .table) c .clocks) (componentOf (t .table) c .variables)
   start-node c h =
       let e : 0 + c ≡ c = omega arith in

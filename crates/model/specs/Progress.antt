@@ -1,20 +1,21 @@
--- Beside demand 3, which speaks of every list of choices: that some list runs to the horizon, with every observation due; and that on every path
--- that keeps to an accepted schedule a sender has exactly one partner.
+-- Beside demand 3, which speaks of every list of choices: that some list, which the call `run` takes, runs to the horizon, with every
+-- observation due; and that on every path that keeps to an accepted schedule a sender has exactly one partner.
 use mathlib.Core.Path.{_≡_}
 use mathlib.Core.Bool.{Bool, true}
 use mathlib.Core.List.{List, [], _∷_, _++_, map}
 use mathlib.Core.Option.{none, some}
-use Prim.Native.Nat.{ℕ, pred, _≤_, _<_}
+use Prim.Native.Nat.{ℕ, pred, _*_, _≤_, _<_}
 use lib.Dec.{ltb}
 use lib.ListN.{length}
-use Rattle.model.specs.Lists.{only, accepted}
+use Rattle.model.specs.Lists.{only, Bytes, accepted}
 use Rattle.model.specs.Table.{Table, Read, size, componentOf}
 use Rattle.model.specs.Reader.{readTable}
 use Rattle.model.specs.Window.{channelOf}
 use Rattle.model.specs.Schedule.{Visit, visitArc, own}
 use Rattle.model.specs.Checks.{mayHear, planOf, visitAt}
 use Rattle.model.specs.Network.{State, Label, together, placeOf, start, mayJoin, follow, passagesOn, Observation, observation}
-use Rattle.model.specs.Run.{settingTo, run}
+use Rattle.model.specs.Run.{settingTo, settingOf, run}
+use Rattle.model.specs.Calls.{ran, runCall}
 use Rattle.model.specs.Demand3.{PassAs, SteppedBefore, observationsOf}
 
 -- ## Something happens
@@ -27,11 +28,14 @@ readyPassages S c now = only (λ v. ltb (v .ready) now) (own c S)
 abbrev pub dueOf : Read → List Visit → ℕ → ℕ → List Observation
 dueOf t S c now = map (λ v. observation (componentOf (t .table) c) c (v .entry) (v .edge)) (readyPassages S c now)
 
--- these choices end with the horizon, at the tick H, and the observations of each node are those of all its passages with ready < H
+-- These choices end with the horizon, at the tick H, and the observations of each node are those of all its passages with ready < H. Each
+-- choice is a byte, and each is carried out.
 pub record ReachesBy (t : Read) (H : ℕ) (S : List Visit) (choices : List ℕ) : Type 0 where
   pub end : run (settingTo t H S) choices .end ≡ 0
   pub tick : run (settingTo t H S) choices .state .tick ≡ H
   pub shown : (c : ℕ) → c < size (t .table) → observationsOf c (run (settingTo t H S) choices) ≡ dueOf t S c H
+  pub bytes : Bytes choices
+  pub used : run (settingTo t H S) choices .state .used ≡ length choices
 
 -- some choices do
 abbrev pub Reaches : Read → ℕ → List Visit → Type 0
@@ -41,9 +45,23 @@ Reaches t H S = (choices : List ℕ) × ReachesBy t H S choices
 abbrev pub Continues : Read → ℕ → List Visit → Type 0
 Continues t H S = (choices : List ℕ) → run (settingTo t H S) choices .end ≡ 1 → (more : List ℕ) × ReachesBy t H S (choices ++ more)
 
--- for every accepted table
+-- Whatever was chosen: of no list, however long, are more than `most` choices carried out.
+abbrev pub UsesAtMost : ℕ → Read → ℕ → List Visit → Type 0
+UsesAtMost most t H S = (choices : List ℕ) → run (settingTo t H S) choices .state .used ≤ most
+
+-- For every accepted table. 14. "Are there at most 1,000,000 choices?" No run carries out more, and the choices that reach the horizon are all
+-- carried out: so there are no more of them, those that were given and the further ones together.
 abbrev pub Happens : Type 0
-Happens = (bytes : List ℕ) (t : Read) (S : List Visit) → readTable bytes ≡ accepted t → planOf t ≡ accepted S → Reaches t (t .horizon) S × Continues t (t .horizon) S
+Happens =
+    (bytes : List ℕ) (t : Read) (S : List Visit) → readTable bytes ≡ accepted t → planOf t ≡ accepted S
+    → Reaches t (t .horizon) S × Continues t (t .horizon) S × UsesAtMost 1000000 t (t .horizon) S
+
+-- So the call `run` refuses none of these lists, where the lent buffer holds 32 bytes for each passage (13): it answers with their run.
+abbrev pub Answers : Type 0
+Answers =
+    (bytes : List ℕ) (t : Read) (S : List Visit) → readTable bytes ≡ accepted t → planOf t ≡ accepted S
+    → (choices : List ℕ) → ReachesBy t (t .horizon) S choices
+    → (lent : List ℕ) → length S * 32 ≤ length lent → runCall bytes choices lent ≡ ran (run (settingOf t S) choices) lent
 
 -- ## Acceptance means it
 
