@@ -45,8 +45,7 @@ make_current() {
     stamp="$(stamp_of "$built")"
     build "$name" "$shown" "$@"
     [[ -e $built ]] || stop "$broken" "$name was not built by: $* (remove target/ to build all from nothing)"
-    mkdir -p "$(dirname "$stamp")"
-    touch "$stamp"
+    { mkdir -p "$(dirname "$stamp")" && touch "$stamp"; } 2>/dev/null || stop "$broken" "$(dirname "$stamp") cannot be written"
 }
 
 # A Rust tool of a package.

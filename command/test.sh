@@ -154,9 +154,19 @@ says 2
 complains 'only one of the files'
 call translate cellar.bin -o -
 gives program.bin
-call translate cellar.bin -o cellar.bin
-check 'a file can be replaced' cmp -s cellar.bin program.bin
-cp "$corpus/probe_and_hub.bin" cellar.bin
+cp program.bin replaced.bin
+call translate cellar.bin -o replaced.bin
+says 0
+check 'a file can be replaced' cmp -s replaced.bin program.bin
+ln -s cellar.bin link.bin
+for words in 'translate cellar.bin -o cellar.bin' 'translate ./cellar.bin -o link.bin' 'choices cellar.bin -o cellar.bin' \
+    'part program.bin 0 -o program.bin' 'table cellar.txt -o ./cellar.txt'; do
+    # shellcheck disable=SC2086 # several words
+    call $words
+    says 2
+    complains '-o names the input'
+done
+check 'the input is as it was' cmp -s cellar.bin "$corpus/probe_and_hub.bin"
 if command -v script >/dev/null; then
     for words in 'translate cellar.bin' 'part program.bin 0' 'choices cellar.bin' 'table cellar.txt'; do
         what="$words, on a terminal" status=0
@@ -280,6 +290,43 @@ complains 'absent: no such file'
 call translate cellar.bin -o folder/absent/file
 says 2
 complains 'folder/absent/file: cannot be written'
+
+## The environment fails: 3, never "no"
+
+# The command with standard output on a full device, or closed.
+call_to() {
+    local to=$1
+    shift
+    what="vanillatarn $* $to" status=0
+    : >out
+    if [[ $to == full ]]; then
+        "$root/vanillatarn" "$@" >/dev/full 2>err || status=$?
+    else
+        "$root/vanillatarn" "$@" >&- 2>err || status=$?
+    fi
+}
+
+for to in full closed; do
+    for words in 'verdict cellar.bin' 'verdict incident.bin' 'schedule cellar.bin' 'translate cellar.bin' 'list program.bin' \
+        'part program.bin 0' 'choices cellar.bin' 'run cellar.bin early.bin' 'run cellar.bin ticks' 'text cellar.bin' 'table cellar.txt'; do
+        # shellcheck disable=SC2086 # several words
+        call_to "$to" $words
+        says 3
+        complains 'standard output cannot be written'
+    done
+done
+call translate cellar.bin -o /dev/full
+says 3
+complains '/dev/full: could not be written to its end'
+
+# A folder for scratch files that is not there, and one in which no file may have a byte.
+what='no scratch folder' status=0
+TMPDIR="$work/absent" "$root/vanillatarn" verdict cellar.bin >out 2>err || status=$?
+says 3
+complains 'no scratch folder can be made'
+what='a scratch folder that is full'
+status="$(ulimit -f 0 && { "$root/vanillatarn" verdict cellar.bin >/dev/null 2>&1 || echo $?; })"
+says 3
 
 ## Wrong use
 
