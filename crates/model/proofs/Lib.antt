@@ -89,3 +89,4 @@ pub mod MeaningLaw
 pub mod ProgramSize
 pub mod ObservationSize
 pub mod WholeFew
+pub mod Acceptance
