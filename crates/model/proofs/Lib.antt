@@ -90,3 +90,5 @@ pub mod ProgramSize
 pub mod ObservationSize
 pub mod WholeFew
 pub mod Acceptance
+pub mod ObservationBack
+pub mod ObservationsBack

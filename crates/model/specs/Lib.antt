@@ -15,6 +15,7 @@ pub mod Run
 pub mod Demand3
 pub mod Calls
 pub mod Acceptance
+pub mod Observations
 pub mod Meetings
 pub mod Build
 pub mod Cases
