@@ -92,3 +92,4 @@ pub mod WholeFew
 pub mod Acceptance
 pub mod ObservationBack
 pub mod ObservationsBack
+pub mod Ends
