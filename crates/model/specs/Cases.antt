@@ -19,7 +19,7 @@ use Rattle.model.specs.Checks.{plan, planOf}
 use Rattle.model.specs.Program.{Statement, blockBytes, locationBlock, edgeBlock, programBytes, partOf}
 use Rattle.model.specs.Machine.{exec}
 use Rattle.model.specs.Run.{choose1, run, observationBytes}
-use Rattle.model.specs.Calls.{verdictOf, planIn, checkCall, RunCall, runCall}
+use Rattle.model.specs.Calls.{verdictOf, planIn, checkCall, RunCall, runCall, endNumber, endNode}
 
 -- "Probe 0: L0 x0 ≤ 5, L1 x0 ≤ 10; e0 send L0 to L1, low 3; e1 internal L1 to L0, low 8, resets x0." By the low of e0.
 abbrev pub probe : ℕ → Component
@@ -89,7 +89,7 @@ fieldsOf (refused n c) = []
 
 -- end, node, tick and choices used, then the observations' bytes
 abbrev pub ranAs : RunCall → List ℕ
-ranAs r = r .end ∷ r .node ∷ r .tick ∷ r .used ∷ take (r .size * 32) (r .lent)
+ranAs r = endNumber (r .end) ∷ endNode (r .end) ∷ r .tick ∷ r .used ∷ take (r .size * 32) (r .lent)
 
 abbrev pub Holds : Row → Type 0
 Holds (bytes t bs) = tableBytes t ≡ bs

@@ -1,0 +1,82 @@
+-- The calls' definitions, from what the reader and the schedule answer. Assumes nothing.
+use mathlib.Core.Path.{_≡_, sym, ap, _∙_}
+use mathlib.Core.List.{List, _++_}
+use Prim.Native.Nat.{ℕ, _+_, _*_, _≤_, _<_}
+use lib.ListN.{length, drop}
+use Rattle.model.specs.declared.Verdict.the-variants.{Accepted, Refused}
+use Rattle.model.specs.Lists.{Answer, accepted, refused, _after_, each}
+use Rattle.model.specs.Table.{Read}
+use Rattle.model.specs.Places.{Valid}
+use Rattle.model.specs.Schedule.{Visit, schedule, sevenOf}
+use Rattle.model.specs.Checks.{plan, planOf}
+use Rattle.model.specs.Calls.{verdictOf, refusing, laid, planIn, checkCall, scheduleWith, scheduleCall}
+use Rattle.model.proofs.Located.{valid-read}
+use Rattle.table.proofs.Answered.{verdict-refused, verdict-accepted}
+use Rattle.rows.specs.Rows.{rowsOf}
+use Rattle.schedule.specs.declared.Scheduled.{Scheduled}
+use Rattle.schedule.specs.Filled as filled
+use Rattle.run.specs.Ends.{Planned}
+use Rattle.schedule.proofs.Fields.{fields-light, laid-fits, laid-short}
+
+-- ## What was planned
+
+pub planned : (bs : List ℕ) → Valid bs → planIn bs ≡ filled.planIn bs
+unfolding planIn
+planned bs v = ap (λ (a : Answer Read). a after planOf) (valid-read bs v)
+
+pub call-refused : (bs lent : List ℕ) {n c : ℕ} → planIn bs ≡ refused n c → scheduleCall bs lent ≡ refusing n c lent
+unfolding scheduleCall
+call-refused bs lent e = ap (scheduleWith lent) e
+
+module _ (bs : List ℕ) (v : Valid bs) (r : Scheduled) (rows : List ℕ) (F : filled.Filled bs (filled.planIn bs) r rows) where
+  -- refused
+  pub plan-refused : {n c : ℕ} → r .verdict ≡ Refused n c → planIn bs ≡ refused n c
+  plan-refused e = planned bs v ∙ verdict-refused (filled.planIn bs) (sym (F .verdict) ∙ e)
+
+  pub verdict-is : r .verdict ≡ checkCall bs
+  unfolding checkCall
+  verdict-is = F .verdict ∙ ap verdictOf (sym (planned bs v))
+
+  -- accepted
+  module _ (e : r .verdict ≡ Accepted) where
+    pub passages : List Visit
+    passages = verdict-accepted (filled.planIn bs) (sym (F .verdict) ∙ e) .0
+
+    plan-is : filled.planIn bs ≡ accepted passages
+    unfolding passages
+    plan-is = verdict-accepted (filled.planIn bs) (sym (F .verdict) ∙ e) .1
+
+    pub count-is : r .count ≡ length passages
+    count-is = F .count passages plan-is
+
+    pub few : r .count ≤ 1024
+    few = rw count-is (F .placed passages plan-is .few)
+
+    pub room : r .count * 9 ≤ length rows
+    room = rw count-is (F .placed passages plan-is .fits)
+
+    -- the rows are the schedule
+    pub is-planned : Planned bs rows (r .count)
+    is-planned =
+        record {
+          passages = passages;
+          plan = plan-is;
+          count = count-is;
+          listed = ap (λ (k : ℕ). rowsOf rows k) count-is ∙ F .rows passages plan-is;
+          stand = record { few = few; fits = room };
+        }
+
+    call-is : (lent : List ℕ) → scheduleCall bs lent ≡ laid (length passages) (each sevenOf passages) lent
+    unfolding scheduleCall
+    call-is lent = ap (scheduleWith lent) (planned bs v ∙ plan-is)
+
+    pub too-short : (lent : List ℕ) → length lent < r .count * 7 → scheduleCall bs lent ≡ refusing 13 255 lent
+    too-short lent h = call-is lent ∙ laid-short passages (r .count) lent count-is h
+
+    pub written : (lent : List ℕ) → r .count * 7 ≤ length lent
+        → scheduleCall bs lent ≡ record { verdict = Accepted; size = r .count; lent = each sevenOf (rowsOf rows (r .count)) ++ drop (r .count * 7) lent }
+    written lent h =
+        call-is lent
+        ∙ laid-fits passages (r .count) (each sevenOf (rowsOf rows (r .count))) lent count-is
+        (ap (λ (k : ℕ). each sevenOf (rowsOf rows k)) count-is ∙ ap (each sevenOf) (F .rows passages plan-is) ∙ fields-light passages)
+        h
