@@ -17,4 +17,6 @@ pub mod Calls
 pub mod Meetings
 pub mod Build
 pub mod Cases
+pub mod DemandCases
+pub mod DemandWrongs
 pub mod Progress
