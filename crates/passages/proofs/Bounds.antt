@@ -10,20 +10,29 @@ use Rattle.model.specs.declared.Action.{Action}
 use Rattle.model.specs.declared.Action.the-variants.{Internal, Send, Receive}
 use Rattle.model.specs.declared.Sizes.{Sizes}
 use Rattle.model.specs.Lists.{All, empty, more, orElse, accepted, _after_, Bytes}
-use Rattle.model.specs.Table.{Arc, Component, Read, noArc, noComponent, size, sizesOf, componentOf, arcOf}
+use Rattle.model.specs.Table.{Arc, Component, Table, Read, noArc, noComponent, size, sizesOf, componentOf, arcOf}
 use Rattle.model.specs.Limits.{ActionIn, ArcIn, ComponentIn, InLimits}
 use Rattle.model.specs.Reader.{readTable}
 use Rattle.model.specs.Window.{sends, channelOf, listens}
-use Rattle.model.specs.Schedule.{Visit, visitArc, earliest, heardBy, carried, messageIn}
-use Rattle.model.specs.Checks.{planOf}
+use Rattle.model.specs.Schedule.{schedule, Visit, visitArc, earliest, heardBy, carried, messageIn}
+use Rattle.model.specs.Checks.{limit, plan, planOf, checked}
 use Rattle.model.specs.Calls.{planIn}
 use Rattle.model.specs.Chains.{IsSchedule}
 use Rattle.model.proofs.Parts.{after-ok}
+use Rattle.model.proofs.Heard.{checked-is}
+use Rattle.model.proofs.Scheduled.{schedule-is}
 use Rattle.model.proofs.Own.{in-all, all-in}
 use Rattle.model.proofs.Passages.{Entered, entered}
 use Rattle.model.proofs.RoundTrip.{written-read}
 use Rattle.model.proofs.NodeWorking.{arc-in}
 use Rattle.model.proofs.WholeTied.{Given, given, component-in}
+
+pub schedule-at : (T : Table) (H most : ℕ) (S : List Visit) → plan most T H ≡ accepted S → IsSchedule most T H S × (checked T H S ≡ accepted S)
+unfolding plan
+schedule-at T H most S e =
+    let r = after-ok (schedule most T H) (λ (X : List Visit). checked T H X) e in
+    let same : r .0 ≡ S = checked-is T H (r .0) S .0 (r .2) .0 in
+    (subst (IsSchedule most T H) same (schedule-is T H most (r .1)), subst (λ (X : List Visit). checked T H X ≡ accepted S) same (r .2))
 
 -- ## Channels
 
@@ -67,7 +76,7 @@ pub record SmallVisit (v : Visit) : Type 0 where
   pub location : v .entry .location < 256
   pub message : orElse (v .message) 255 < 256
 
-module _ (t : Read) (S : List Visit) (G : Given t S) where
+module _ (t : Read) (S : List Visit) (G : Given t (t .horizon) S) where
   arc-sends : (v : Visit) → Sends (visitArc (t .table) v)
   arc-sends v =
       any-at AllSend noComponent (λ e. omega arith) (components-send (G .limits .channels) (G .limits .components)) (v .component) (v .edge)
@@ -102,11 +111,11 @@ module _ (bs : List ℕ) (b : Bytes bs) (S : List Visit) (e : planIn bs ≡ acce
   unfolding planIn
   its-read = after-ok (readTable bs) planOf e
 
-  its-given : Given (its-read .0) S
+  its-given : Given (its-read .0) (its-read .0 .horizon) S
   its-given = given (its-read .0) S (written-read bs (its-read .0) b (its-read .1) .0) (its-read .2)
 
   pub all-small : All SmallVisit S
   all-small = small-visits (its-read .0) S its-given
 
   pub few-passages : length S ≤ 1024
-  few-passages = its-given .sched .few
+  few-passages = schedule-at (its-read .0 .table) (its-read .0 .horizon) limit S (its-read .2) .0 .few
