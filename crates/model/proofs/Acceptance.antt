@@ -19,8 +19,8 @@ use Rattle.model.proofs.RoundTrip.{law}
 use Rattle.model.proofs.Own.{all-in}
 use Rattle.model.proofs.Passages.{entered}
 use Rattle.model.proofs.Exactly.{is-schedule}
-use Rattle.model.proofs.Heard.{checked-is}
 use Rattle.model.proofs.Independence.{independent}
+use Rattle.model.proofs.WholeTied.{schedule-at}
 
 -- an accepting verdict comes of an acceptance
 was-accepted : {A : Type 0} (a : Answer A) → verdictOf a ≡ Accepted → (x : A) × (a ≡ accepted x)
@@ -30,15 +30,7 @@ was-accepted (refused n c) e = absurd (let z : _≡_ {A = ℕ} 0 1 = cc in omega
 -- a plan is a schedule that the checks 10 to 12 accept
 plan-is : (most : ℕ) (T : Table) (H : ℕ) (S : List Visit) → (plan most T H ≡ accepted S) ↔ (IsSchedule most T H S × (checked T H S ≡ accepted S))
 unfolding plan
-plan-is most T H S = (to, λ p. ap (λ (x : Answer (List Visit)). x after λ X. checked T H X) (is-schedule most T H S .1 (p .0)) ∙ p .1)
-  where
-    to : plan most T H ≡ accepted S → IsSchedule most T H S × (checked T H S ≡ accepted S)
-    to e =
-        let r = after-ok (schedule most T H) (λ (X : List Visit). checked T H X) e in
-        let same : r .0 ≡ S = checked-is T H (r .0) S .0 (r .2) .0 in (
-          subst (IsSchedule most T H) same (is-schedule most T H (r .0) .0 (r .1)),
-          subst (λ (X : List Visit). checked T H X ≡ accepted S) same (r .2),
-        )
+plan-is most T H S = (schedule-at T H most S, λ p. ap (λ (x : Answer (List Visit)). x after λ X. checked T H X) (is-schedule most T H S .1 (p .0)) ∙ p .1)
 
 -- no window ends before it starts
 windows : {most : ℕ} {T : Table} {H : ℕ} {S : List Visit} → IsSchedule most T H S → (v : Visit) → v ∈ S → v .ready ≤ v .end

@@ -1,16 +1,19 @@
 -- Document 01, "Probe and hub": the cases marked there, as one table with one theorem.
 use mathlib.Core.Path.{_≡_, refl}
 use mathlib.Core.Bool.{true, false}
-use mathlib.Core.List.{List, [], _∷_}
-use Prim.Native.Nat.{ℕ, _*_}
-use lib.ListN.{take, replicate}
+use mathlib.Core.List.{List, [], _∷_, _++_}
+use mathlib.Core.Option.{Option, none, some}
+use Prim.Native.Nat.{ℕ}
+use lib.ListN.{replicate}
 use lib.IntN.{pos}
 use Rattle.model.specs.declared.Action.the-variants.{Internal, Send, Receive}
 use Rattle.model.specs.declared.Update.{Update}
+use Rattle.model.specs.declared.End.{End}
+use Rattle.model.specs.declared.End.the-variants.{Horizon, UsedUp, Late, NotAllowed}
 use Rattle.model.specs.declared.Verdict.{Verdict}
 use Rattle.model.specs.declared.Verdict.the-variants.{Accepted, Refused}
 use Rattle.model.specs.Lists.{All, empty, more, Answer, accepted, refused, each}
-use Rattle.model.specs.Table.{Component, Read}
+use Rattle.model.specs.Table.{Component, Table, Read}
 use Rattle.model.specs.Build.{location, clockGuard, update, pairOf, arc, component, network}
 use Rattle.model.specs.Bytes.{tableBytes}
 use Rattle.model.specs.Reader.{readTable}
@@ -18,8 +21,9 @@ use Rattle.model.specs.Schedule.{Visit, sevenOf}
 use Rattle.model.specs.Checks.{plan, planOf}
 use Rattle.model.specs.Program.{Statement, blockBytes, locationBlock, edgeBlock, programBytes, partOf}
 use Rattle.model.specs.Machine.{exec}
+use Rattle.model.specs.Network.{Label, tick, stepIn, together, stepOut, start, onward, follow}
 use Rattle.model.specs.Run.{choose1, run, observationBytes}
-use Rattle.model.specs.Calls.{verdictOf, planIn, checkCall, RunCall, runCall, endNumber, endNode}
+use Rattle.model.specs.Calls.{verdictOf, planIn, checkCall, RunCall, runCall}
 
 -- "Probe 0: L0 x0 ≤ 5, L1 x0 ≤ 10; e0 send L0 to L1, low 3; e1 internal L1 to L0, low 8, resets x0." By the low of e0.
 abbrev pub probe : ℕ → Component
@@ -81,15 +85,75 @@ pub data Row : Type 0 where
   plans : Read → Verdict → Row
   passes : Read → List ℕ → Row
   writes : List Statement → List ℕ → Row
-  runs : List ℕ → List ℕ → List ℕ → Row
+  -- a list of steps of the worked network: the tick that it leads to, or none where it is no path
+  walks : List Label → Option ℕ → Row
+  -- table, choices and lent bytes: the verdict, all numbers, and every lent byte afterwards
+  runs : List ℕ → List ℕ → List ℕ → RunCall → Row
 
 abbrev pub fieldsOf : Answer (List Visit) → List ℕ
 fieldsOf (accepted S) = each sevenOf S
 fieldsOf (refused n c) = []
 
--- end, node, tick and choices used, then the observations' bytes
-abbrev pub ranAs : RunCall → List ℕ
-ranAs r = endNumber (r .end) ∷ endNode (r .end) ∷ r .tick ∷ r .used ∷ take (r .size * 32) (r .lent)
+abbrev pub tickAfter : Table → List Label → Option ℕ
+tickAfter T path = onward (follow T (start T) path) (λ s. some (s .tick)) none
+
+-- ## What a run answers
+
+-- an observation's bytes, for one clock and one variable, all below 256: "component, edge, location, 0, tick (4 bytes), four clocks
+-- grown by n (4 each), four variables (2 each); absent ones 0"
+abbrev pub observed : ℕ → ℕ → ℕ → ℕ → ℕ → ℕ → List ℕ
+observed component edge location now clock value =
+    (component ∷ edge ∷ location ∷ 0 ∷ 0 ∷ 0 ∷ 0 ∷ now ∷ 0 ∷ 0 ∷ 0 ∷ clock ∷ replicate 12 0) ++ (0 ∷ value ∷ replicate 6 0)
+
+-- the bytes lent to the runs: four more than the eight passages need
+abbrev pub lent : List ℕ
+lent = replicate 260 0xaa
+
+-- end, tick, choices used and number of observations; the lent bytes afterwards are the observations' bytes and so many that are kept
+abbrev pub answered : End → ℕ → ℕ → ℕ → List ℕ → ℕ → RunCall
+answered end now used size shown kept =
+    record {
+      verdict = Accepted;
+      end = end;
+      tick = now;
+      used = used;
+      size = size;
+      lent = shown ++ replicate kept 0xaa;
+    }
+
+-- a refusal: "Lent buffers keep their bytes"
+abbrev pub refusedWith : ℕ → ℕ → List ℕ → RunCall
+refusedWith n c bs = record { verdict = Refused n c; end = Horizon; tick = 0; used = 0; size = 0; lent = bs }
+
+-- hub's and probe's first sleep
+abbrev pub hubSlept : List ℕ
+hubSlept = observed 1 0 0 2 2 0
+
+abbrev pub bothSlept : List ℕ
+bothSlept = hubSlept ++ observed 0 0 0 3 3 0
+
+-- "They stand in finishing order": one for each passage of the schedule, at its ready
+abbrev pub allSlept : List ℕ
+allSlept =
+    bothSlept ++ observed 0 1 1 8 8 0 ++ observed 1 1 1 9 9 0 ++ observed 1 0 0 12 2 1 ++ observed 0 0 0 13 3 0 ++ observed 0 1 1 18 8 0
+    ++ observed 1 1 1 19 9 1
+
+-- both nodes to their first sleep, two ticks, the hub's sleep, a tick, the probe's sleep
+abbrev pub toTheSend : List ℕ
+toTheSend = 0 ∷ 0 ∷ 0 ∷ 0 ∷ 0 ∷ 1 ∷ 1 ∷ 1 ∷ 1 ∷ 1 ∷ 255 ∷ 255 ∷ 1 ∷ 255 ∷ 0 ∷ []
+
+-- From the send at 3 to tick 10: the message, age, enter and choose of both, probe's block of five and hub's block of five, five ticks, probe's
+-- sleep at 8 and its work, reset, enter, choose and block of five; a tick, hub's sleep at 9 and its work of two, then the same.
+abbrev pub toTheSecondRound : List ℕ
+toTheSecondRound =
+    replicate 9 0 ++ replicate 8 1 ++ replicate 5 255 ++ replicate 10 0 ++ (255 ∷ []) ++ replicate 11 1 ++ (255 ∷ [])
+
+-- the second round: from tick 10, both nodes before their sleep, to the probe's sleep at 13
+abbrev pub toTheSecondSend : List ℕ
+toTheSecondSend = 255 ∷ 255 ∷ 1 ∷ 255 ∷ 0 ∷ []
+
+abbrev pub toTheHorizon : List ℕ
+toTheHorizon = toTheSend ++ toTheSecondRound ++ toTheSecondSend ++ toTheSecondRound
 
 abbrev pub Holds : Row → Type 0
 Holds (bytes t bs) = tableBytes t ≡ bs
@@ -98,7 +162,8 @@ Holds (checks bs v) = checkCall bs ≡ v
 Holds (plans t v) = verdictOf (planOf t) ≡ v
 Holds (passes t l) = fieldsOf (planOf t) ≡ l
 Holds (writes b bs) = blockBytes b ≡ bs
-Holds (runs table choices answer) = ranAs (runCall table choices (replicate 256 0)) ≡ answer
+Holds (walks path t) = tickAfter (worked 20 .table) path ≡ t
+Holds (runs table choices bs answer) = runCall table choices bs ≡ answer
 
 abbrev pub rows : List Row
 rows =
@@ -125,36 +190,61 @@ rows =
     (0x0A ∷ 0 ∷ 0 ∷ 0 ∷ 0x0C ∷ 0 ∷ 0 ∷ 5 ∷ 0x0B ∷ 0 ∷ 0 ∷ 3 ∷ 0x0F ∷ 0 ∷ 0 ∷ 0 ∷ 0x10 ∷ 0 ∷ 0 ∷ 0 ∷ [])
     ∷ writes (edgeBlock (probe 3) 0)
     (0x00 ∷ 0 ∷ 0 ∷ 0 ∷ 0x04 ∷ 0 ∷ 0 ∷ 0 ∷ 0x07 ∷ 0 ∷ 0 ∷ 0 ∷ 0x09 ∷ 0 ∷ 0 ∷ 1 ∷ 0x11 ∷ 0 ∷ 0 ∷ 0 ∷ [])
+    -- to tick 6, the message at 3
+    ∷ walks (tick ∷ tick ∷ tick ∷ together 0 0 1 0 ∷ tick ∷ tick ∷ stepOut 0 ∷ tick ∷ stepOut 1 ∷ []) (some 6)
+    -- the message at the probe's end
+    ∷ walks (tick ∷ tick ∷ tick ∷ tick ∷ tick ∷ together 0 0 1 0 ∷ stepOut 0 ∷ []) (some 5)
+    -- the probe is not ready
+    ∷ walks (tick ∷ tick ∷ together 0 0 1 0 ∷ []) none
+    -- a send alone
+    ∷ walks (tick ∷ tick ∷ tick ∷ stepIn 0 0 ∷ []) none
+    -- a send and a receive that is none
+    ∷ walks (tick ∷ tick ∷ tick ∷ together 0 0 1 1 ∷ []) none
+    -- a second step in, waiting already
+    ∷ walks (tick ∷ tick ∷ tick ∷ together 0 0 1 0 ∷ together 0 0 1 0 ∷ []) none
+    -- a timeout before the end
+    ∷ walks (tick ∷ tick ∷ tick ∷ stepIn 1 0 ∷ []) none
+    -- a step out before the end
+    ∷ walks (tick ∷ tick ∷ tick ∷ together 0 0 1 0 ∷ stepOut 0 ∷ []) none
+    -- a tick past a waiting component's end
+    ∷ walks (tick ∷ tick ∷ tick ∷ together 0 0 1 0 ∷ tick ∷ tick ∷ tick ∷ []) none
+    -- a tick that breaks the probe's invariant
+    ∷ walks (tick ∷ tick ∷ tick ∷ tick ∷ tick ∷ tick ∷ []) none
+    -- an edge from another location
+    ∷ walks (tick ∷ tick ∷ tick ∷ stepIn 0 1 ∷ []) none
+    -- an absent component
+    ∷ walks (stepIn 2 0 ∷ []) none
     -- "No choices: end 1, tick 0."
-    ∷ runs workedBytes [] (1 ∷ 255 ∷ 0 ∷ 0 ∷ [])
+    ∷ runs workedBytes [] lent (answered UsedUp 0 0 0 [] 260)
+    -- a byte too few for the eight passages: 13
+    ∷ runs workedBytes [] (replicate 255 0xaa) (refusedWith 13 255 (replicate 255 0xaa))
+    -- just enough
+    ∷ runs workedBytes [] (replicate 256 0xaa) (answered UsedUp 0 0 0 [] 256)
+    -- a table that is refused is not run
+    ∷ runs (tableBytes (worked 0)) (255 ∷ []) lent (refusedWith 3 255 lent)
     -- byte 254
-    ∷ runs workedBytes (254 ∷ []) (3 ∷ 255 ∷ 0 ∷ 0 ∷ [])
+    ∷ runs workedBytes (254 ∷ []) lent (answered NotAllowed 0 0 0 [] 260)
+    -- an absent node
+    ∷ runs workedBytes (2 ∷ []) lent (answered NotAllowed 0 0 0 [] 260)
     -- ticks only: hub yet to reach its sleep at 2
-    ∷ runs workedBytes (255 ∷ 255 ∷ 255 ∷ 255 ∷ 255 ∷ []) (2 ∷ 1 ∷ 3 ∷ 3 ∷ [])
+    ∷ runs workedBytes (255 ∷ 255 ∷ 255 ∷ 255 ∷ 255 ∷ []) lent (answered (Late 1) 3 3 0 [] 260)
     -- tick while a sleep is due
-    ∷ runs workedBytes (1 ∷ 1 ∷ 1 ∷ 1 ∷ 1 ∷ 255 ∷ 255 ∷ 255 ∷ []) (3 ∷ 255 ∷ 2 ∷ 7 ∷ [])
+    ∷ runs workedBytes (1 ∷ 1 ∷ 1 ∷ 1 ∷ 1 ∷ 255 ∷ 255 ∷ 255 ∷ []) lent (answered NotAllowed 2 7 0 [] 260)
     -- listen before its end
-    ∷ runs workedBytes (1 ∷ 1 ∷ 1 ∷ 1 ∷ 1 ∷ 255 ∷ 255 ∷ 1 ∷ 1 ∷ []) (3 ∷ 255 ∷ 2 ∷ 8
-    ∷ 1 ∷ 0 ∷ 0 ∷ 0 ∷ 0 ∷ 0 ∷ 0 ∷ 2 ∷ 0 ∷ 0 ∷ 0 ∷ 2 ∷ 0 ∷ 0 ∷ 0 ∷ 0 ∷ 0 ∷ 0 ∷ 0 ∷ 0 ∷ 0 ∷ 0 ∷ 0 ∷ 0 ∷ 0 ∷ 0 ∷ 0 ∷ 0 ∷ 0 ∷ 0 ∷ 0 ∷ 0
-    ∷ [])
+    ∷ runs workedBytes (1 ∷ 1 ∷ 1 ∷ 1 ∷ 1 ∷ 255 ∷ 255 ∷ 1 ∷ 1 ∷ []) lent (answered NotAllowed 2 8 1 hubSlept 228)
     -- send at its end 5
-    ∷ runs workedBytes (0 ∷ 0 ∷ 0 ∷ 0 ∷ 0 ∷ 1 ∷ 1 ∷ 1 ∷ 1 ∷ 1 ∷ 255 ∷ 255 ∷ 1 ∷ 255 ∷ 0 ∷ 255 ∷ 255 ∷ 0 ∷ []) (1 ∷ 255 ∷ 5 ∷ 18
-    ∷ 1 ∷ 0 ∷ 0 ∷ 0 ∷ 0 ∷ 0 ∷ 0 ∷ 2 ∷ 0 ∷ 0 ∷ 0 ∷ 2 ∷ 0 ∷ 0 ∷ 0 ∷ 0 ∷ 0 ∷ 0 ∷ 0 ∷ 0 ∷ 0 ∷ 0 ∷ 0 ∷ 0 ∷ 0 ∷ 0 ∷ 0 ∷ 0 ∷ 0 ∷ 0 ∷ 0 ∷ 0
-    ∷ 0 ∷ 0 ∷ 0 ∷ 0 ∷ 0 ∷ 0 ∷ 0 ∷ 3 ∷ 0 ∷ 0 ∷ 0 ∷ 3 ∷ 0 ∷ 0 ∷ 0 ∷ 0 ∷ 0 ∷ 0 ∷ 0 ∷ 0 ∷ 0 ∷ 0 ∷ 0 ∷ 0 ∷ 0 ∷ 0 ∷ 0 ∷ 0 ∷ 0 ∷ 0 ∷ 0 ∷ 0
-    ∷ [])
+    ∷ runs workedBytes (toTheSend ++ (255 ∷ 255 ∷ 0 ∷ [])) lent (answered UsedUp 5 18 2 bothSlept 196)
+    -- no send by its end 5: late at 6
+    ∷ runs workedBytes (toTheSend ++ (255 ∷ 255 ∷ 255 ∷ 255 ∷ [])) lent (answered (Late 0) 6 18 2 bothSlept 196)
     -- send at 3, listener's statement is finished too
-    ∷ runs workedBytes (0 ∷ 0 ∷ 0 ∷ 0 ∷ 0 ∷ 1 ∷ 1 ∷ 1 ∷ 1 ∷ 1 ∷ 255 ∷ 255 ∷ 1 ∷ 255 ∷ 0 ∷ 0 ∷ 1 ∷ 1 ∷ 1 ∷ []) (1 ∷ 255 ∷ 3 ∷ 19
-    ∷ 1 ∷ 0 ∷ 0 ∷ 0 ∷ 0 ∷ 0 ∷ 0 ∷ 2 ∷ 0 ∷ 0 ∷ 0 ∷ 2 ∷ 0 ∷ 0 ∷ 0 ∷ 0 ∷ 0 ∷ 0 ∷ 0 ∷ 0 ∷ 0 ∷ 0 ∷ 0 ∷ 0 ∷ 0 ∷ 0 ∷ 0 ∷ 0 ∷ 0 ∷ 0 ∷ 0 ∷ 0
-    ∷ 0 ∷ 0 ∷ 0 ∷ 0 ∷ 0 ∷ 0 ∷ 0 ∷ 3 ∷ 0 ∷ 0 ∷ 0 ∷ 3 ∷ 0 ∷ 0 ∷ 0 ∷ 0 ∷ 0 ∷ 0 ∷ 0 ∷ 0 ∷ 0 ∷ 0 ∷ 0 ∷ 0 ∷ 0 ∷ 0 ∷ 0 ∷ 0 ∷ 0 ∷ 0 ∷ 0 ∷ 0
-    ∷ [])
+    ∷ runs workedBytes (toTheSend ++ (0 ∷ 1 ∷ 1 ∷ 1 ∷ [])) lent (answered UsedUp 3 19 2 bothSlept 196)
     -- hub ahead, probe not: late at 9
-    ∷ runs workedBytes (0 ∷ 0 ∷ 0 ∷ 0 ∷ 0 ∷ 1 ∷ 1 ∷ 1 ∷ 1 ∷ 1 ∷ 255 ∷ 255 ∷ 1 ∷ 255 ∷ 0 ∷ 0 ∷ 1 ∷ 1 ∷ 1 ∷ 1 ∷ 1 ∷ 1 ∷ 1 ∷ 1 ∷ 255 ∷ 255 ∷ 255 ∷ 255 ∷ 255 ∷ 255 ∷ []) (2 ∷ 0 ∷ 9 ∷ 30
-    ∷ 1 ∷ 0 ∷ 0 ∷ 0 ∷ 0 ∷ 0 ∷ 0 ∷ 2 ∷ 0 ∷ 0 ∷ 0 ∷ 2 ∷ 0 ∷ 0 ∷ 0 ∷ 0 ∷ 0 ∷ 0 ∷ 0 ∷ 0 ∷ 0 ∷ 0 ∷ 0 ∷ 0 ∷ 0 ∷ 0 ∷ 0 ∷ 0 ∷ 0 ∷ 0 ∷ 0 ∷ 0
-    ∷ 0 ∷ 0 ∷ 0 ∷ 0 ∷ 0 ∷ 0 ∷ 0 ∷ 3 ∷ 0 ∷ 0 ∷ 0 ∷ 3 ∷ 0 ∷ 0 ∷ 0 ∷ 0 ∷ 0 ∷ 0 ∷ 0 ∷ 0 ∷ 0 ∷ 0 ∷ 0 ∷ 0 ∷ 0 ∷ 0 ∷ 0 ∷ 0 ∷ 0 ∷ 0 ∷ 0 ∷ 0
-    ∷ [])
+    ∷ runs workedBytes (toTheSend ++ (0 ∷ replicate 8 1 ++ replicate 6 255)) lent (answered (Late 0) 9 30 2 bothSlept 196)
+    -- to the horizon, all eight observations; later choices are ignored
+    ∷ runs workedBytes (toTheHorizon ++ (0 ∷ 255 ∷ 254 ∷ [])) lent (answered Horizon 20 110 8 allSlept 4)
     ∷ []
 
 pub cases : All Holds rows
-unfolding tableBytes readTable checkCall planIn plan each blockBytes locationBlock edgeBlock runCall run programBytes observationBytes partOf choose1 exec
+unfolding tableBytes readTable checkCall planIn plan each blockBytes locationBlock edgeBlock follow runCall run programBytes observationBytes partOf choose1 exec
 cases =
-    more refl (more refl (more refl (more refl (more refl (more refl (more refl (more refl (more refl (more refl (more refl (more refl (more refl (more refl (more refl (more refl (more refl (more refl (more refl (more refl (more refl (more refl empty)))))))))))))))))))))
+    more refl (more refl (more refl (more refl (more refl (more refl (more refl (more refl (more refl (more refl (more refl (more refl (more refl (more refl (more refl (more refl (more refl (more refl (more refl (more refl (more refl (more refl (more refl (more refl (more refl (more refl (more refl (more refl (more refl (more refl (more refl (more refl (more refl (more refl (more refl (more refl (more refl (more refl (more refl (more refl empty)))))))))))))))))))))))))))))))))))))))

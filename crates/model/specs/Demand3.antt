@@ -169,6 +169,93 @@ unfolding choose1
 states g [] s = s ∷ []
 states g (b ∷ bs) s = s ∷ furtherStates (choose1 g s b) (λ t. states g bs t)
 
+-- ## The sentences of the demand, each of any path, any record of a run and any states that it went through. `Demand3` says them of the run's
+-- own; `DemandCases` holds each against right and wrong ones.
+
+-- one path of the network, for all nodes together
+abbrev pub Valid : Table → List Label → State → Type 0
+Valid T path last = follow T (start T) path ≡ some last
+
+abbrev pub Reach : State → Result → Type 0
+Reach last result = last .tick ≡ reached result
+
+abbrev pub Scheduled : Table → List Visit → List Label → Type 0
+Scheduled T S path = (c : ℕ) → c < size T → PassAs (passagesOn T c (start T) path) (own c S)
+
+abbrev pub Kept : Table → List Visit → List Label → State → Type 0
+Kept T S path last = (c : ℕ) → c < size T → SteppedBefore (last .tick) (passagesOn T c (start T) path) (own c S)
+
+-- the steps in on the path are the works finished, in their order, at the same ticks; a message is one joint step of the same two nodes
+abbrev pub Worked : Table → List Label → Result → Type 0
+Worked T path result = worksOn T (start T) path ≡ result .state .works
+
+abbrev pub Observed : Table → List Visit → List Label → State → Result → Type 0
+Observed T S path last result =
+    (c : ℕ) → c < size T
+    → Begins (observationsOf c result)
+    (observationsOn (componentOf T c) c (last .tick) (passagesOn T c (start T) path) (map (λ v. v .edge) (own c S)))
+
+-- passages of c due before the tick
+abbrev pub dueBefore : List Visit → ℕ → ℕ → ℕ
+dueBefore S c now = length (only (λ v. ltb (v .ready) now) (own c S))
+
+abbrev pub Complete : Table → List Visit → Result → Type 0
+Complete T S result =
+    (c : ℕ) → c < size T
+    → dueBefore S c (result .state .tick) ≤ length (observationsOf c result) + cond (isLateEnd result && isLate S (result .state) c) 1 0
+
+-- by the state after k choices carried out
+module _ (T : Table) (S : List Visit) (cs : List ℕ) (result : Result) (stateAfter : ℕ → Run) where
+  abbrev pub Listened : Type 0
+  Listened = (k : ℕ) → k ≤ result .state .used → (c : ℕ) → c < size T → HasListener (stateAfter k) c (standOf (nodeOf (stateAfter k) c))
+
+  -- choice k is a tick that takes node c past its window's end or its next sleep
+  abbrev pub TakesLate : ℕ → ℕ → Type 0
+  TakesLate k c = (getD cs k 0 ≡ 255) × (isLate S (stateAfter (suc k)) c ≡ true)
+
+  -- a late node at choice k: the run ends there and then, with the lowest one
+  abbrev pub LateEnds : Type 0
+  LateEnds =
+      (k : ℕ) → k < result .state .used → (c : ℕ) → c < size T → TakesLate k c → (suc k ≡ result .state .used) × (result .end ≡ 2) × (result .node ≤ c)
+
+  abbrev pub LateIs : Type 0
+  LateIs = result .end ≡ 2 → (0 < result .state .used) × (result .node < size T) × TakesLate (pred (result .state .used)) (result .node)
+
+abbrev pub NodeOf : Result → Type 0
+NodeOf result = (result .end ≡ 2 → ⊥) → result .node ≡ 255
+
+abbrev pub UsedOf : List ℕ → Result → Type 0
+UsedOf cs result = result .state .used ≤ length cs
+
+abbrev pub TicksOf : List ℕ → Result → Type 0
+TicksOf cs result = result .state .tick ≡ ticksIn (take (result .state .used) cs)
+
+abbrev pub NotBefore : ℕ → Result → (ℕ → Run) → Type 0
+NotBefore H result stateAfter = (k : ℕ) → k < result .state .used → stateAfter k .tick < H
+
+-- no choice that the schedule bars was carried out
+abbrev pub Allowed : Table → List Visit → List ℕ → Result → (ℕ → Run) → Type 0
+Allowed T S cs result stateAfter = (k : ℕ) → k < result .state .used → Barred T S (stateAfter k) (getD cs k 0) → ⊥
+
+module _ (t : Read) (H : ℕ) (S : List Visit) (cs : List ℕ) (result : Result) where
+  -- how the run ended, and that it had not ended before
+  pub data EndedBy : Type 0 where
+    horizon : result .end ≡ 0 → result .state .tick ≡ H → ((c : ℕ) → c < size (t .table) → isLate S (result .state) c ≡ false) → EndedBy
+    usedUp : result .end ≡ 1 → result .state .used ≡ length cs → result .state .tick < H → EndedBy
+    late : result .end ≡ 2 → EndedBy
+    notAllowed : result .end ≡ 3 → result .state .used < length cs
+        → choose1 (settingTo t H S) (result .state) (getD cs (result .state .used) 0) ≡ forbidden → EndedBy
+
+  -- why a choice was not allowed, in the words of the schedule
+  pub data RefusedBy (b : ℕ) : Type 0 where
+    noNode : size (t .table) ≤ b → (b ≡ 255 → ⊥) → RefusedBy b
+    notDue : b < size (t .table) → NotDueIn (own b S) (result .state .tick) (nodeOf (result .state) b) (standOf (nodeOf (result .state) b)) → RefusedBy b
+    due : b ≡ 255 → (c : ℕ) → c < size (t .table) → DueIn (own c S) (result .state .tick) (nodeOf (result .state) c) (standOf (nodeOf (result .state) c))
+        → RefusedBy b
+
+  abbrev pub WhyRefused : Type 0
+  WhyRefused = result .end ≡ 3 → RefusedBy (getD cs (result .state .used) 0)
+
 -- ## The demand
 
 module _ (t : Read) (H : ℕ) (S : List Visit) (cs : List ℕ) where
@@ -184,53 +271,35 @@ module _ (t : Read) (H : ℕ) (S : List Visit) (cs : List ℕ) where
 
   -- "LateAt k c": choice k is a tick that takes node c past its window's end or its next sleep
   abbrev pub LateAt : ℕ → ℕ → Type 0
-  LateAt k c = (getD cs k 0 ≡ 255) × (isLate S (stateAfter (suc k)) c ≡ true)
+  LateAt = TakesLate (t .table) S cs result stateAfter
 
-  -- passages of c due before the tick
-  abbrev pub dueBefore : ℕ → ℕ → ℕ
-  dueBefore c now = length (only (λ v. ltb (v .ready) now) (own c S))
+  abbrev pub Ended : Type 0
+  Ended = EndedBy t H S cs result
 
-  -- how the run ended, and that it had not ended before
-  pub data Ended : Type 0 where
-    horizon : result .end ≡ 0 → result .state .tick ≡ H → ((c : ℕ) → c < size (t .table) → isLate S (result .state) c ≡ false) → Ended
-    usedUp : result .end ≡ 1 → result .state .used ≡ length cs → result .state .tick < H → Ended
-    late : result .end ≡ 2 → Ended
-    notAllowed : result .end ≡ 3 → result .state .used < length cs → choose1 setting (result .state) (getD cs (result .state .used) 0) ≡ forbidden → Ended
-
-  -- why a choice was not allowed, in the words of the schedule
-  pub data Refused (b : ℕ) : Type 0 where
-    noNode : size (t .table) ≤ b → (b ≡ 255 → ⊥) → Refused b
-    notDue : b < size (t .table) → NotDueIn (own b S) (result .state .tick) (nodeOf (result .state) b) (standOf (nodeOf (result .state) b)) → Refused b
-    due : b ≡ 255 → (c : ℕ) → c < size (t .table) → DueIn (own c S) (result .state .tick) (nodeOf (result .state) c) (standOf (nodeOf (result .state) c)) → Refused b
+  abbrev pub Refused : ℕ → Type 0
+  Refused = RefusedBy t H S cs result
 
   pub record Demand3 : Type 0 where
-    -- one path of the network, for all nodes together
     pub path : List Label
     pub last : State
-    pub valid : follow (t .table) (start (t .table)) path ≡ some last
-    pub reach : last .tick ≡ reached result
-    pub scheduled : (c : ℕ) → c < size (t .table) → PassAs (passagesOn (t .table) c (start (t .table)) path) (own c S)
-    pub kept : (c : ℕ) → c < size (t .table) → SteppedBefore (last .tick) (passagesOn (t .table) c (start (t .table)) path) (own c S)
-    -- the steps in on the path are the works finished, in their order, at the same ticks; a message between two nodes is "on a path, their joint step"
-    pub worked : worksOn (t .table) (start (t .table)) path ≡ result .state .works
-    pub observed : (c : ℕ) → c < size (t .table)
-        → Begins (observationsOf c result)
-        (observationsOn (componentOf (t .table) c) c (last .tick) (passagesOn (t .table) c (start (t .table)) path) (map (λ v. v .edge) (own c S)))
-    pub complete : (c : ℕ) → c < size (t .table)
-        → dueBefore c (result .state .tick) ≤ length (observationsOf c result) + cond (isLateEnd result && isLate S (result .state) c) 1 0
-    pub listener : (k : ℕ) → k ≤ result .state .used → (c : ℕ) → c < size (t .table) → HasListener (stateAfter k) c (standOf (nodeOf (stateAfter k) c))
-    -- a late node at choice k: the run ends there and then, with the lowest one
-    pub lateEnds : (k : ℕ) → k < result .state .used → (c : ℕ) → c < size (t .table) → LateAt k c
-        → (suc k ≡ result .state .used) × (result .end ≡ 2) × (result .node ≤ c)
-    pub lateIs : result .end ≡ 2 → (0 < result .state .used) × (result .node < size (t .table)) × LateAt (pred (result .state .used)) (result .node)
-    pub node : (result .end ≡ 2 → ⊥) → result .node ≡ 255
-    pub used : result .state .used ≤ length cs
-    pub ticks : result .state .tick ≡ ticksIn (take (result .state .used) cs)
+    pub valid : Valid (t .table) path last
+    pub reach : Reach last result
+    pub scheduled : Scheduled (t .table) S path
+    pub kept : Kept (t .table) S path last
+    pub worked : Worked (t .table) path result
+    pub observed : Observed (t .table) S path last result
+    pub complete : Complete (t .table) S result
+    pub listener : Listened (t .table) S cs result stateAfter
+    pub lateEnds : LateEnds (t .table) S cs result stateAfter
+    pub lateIs : LateIs (t .table) S cs result stateAfter
+    pub node : NodeOf result
+    pub used : UsedOf cs result
+    pub ticks : TicksOf cs result
     pub ended : Ended
-    pub notBefore : (k : ℕ) → k < result .state .used → stateAfter k .tick < H
-    pub refused : result .end ≡ 3 → Refused (getD cs (result .state .used) 0)
+    pub notBefore : NotBefore H result stateAfter
+    pub refused : WhyRefused t H S cs result
     -- the other way: no such choice was ever carried out
-    pub allowed : (k : ℕ) → k < result .state .used → Barred (t .table) S (stateAfter k) (getD cs k 0) → ⊥
+    pub allowed : Allowed (t .table) S cs result stateAfter
 
 -- for every accepted table and every list of choices
 abbrev pub Promise : Type 0

@@ -20,4 +20,6 @@ pub mod Observations
 pub mod Meetings
 pub mod Build
 pub mod Cases
+pub mod DemandCases
+pub mod DemandWrongs
 pub mod Progress
