@@ -9,14 +9,17 @@ use native.Mathlib.Omega.{arith}
 use borrow.Author.Tests.{eq-eqb, ne-eqb}
 use lib.Dec.{eqb}
 use lib.ListN.{length, take, drop, length-append}
+use Rattle.model.specs.declared.Action.the-variants.{Internal, Send, Receive}
+use Rattle.model.specs.declared.Edge.{Edge}
 use Rattle.model.specs.declared.Location.{Location}
 use Rattle.model.specs.Lists.{each, from, below}
 use Rattle.model.specs.Table.{Arc}
 use Rattle.model.specs.Reader.{byte, clockGuardAt, dataGuardAt, updateAt, pairAt}
-use Rattle.model.specs.Places.{listAt, itemsPlace, arcLength, arcAt, updatesAt, pairsAt}
+use Rattle.model.specs.Places.{listAt, itemsPlace, arcLength, arcAt}
 use Rattle.model.specs.Program.{Statement, done, age, reset, enter, keep, takeEdge, choose, clockTests, dataTests, trialOf, trials, updateOf, workOf, ageing, edgeBlockOf, quad, pairQuad, code, blockBytes}
 use Rattle.model.proofs.Walk.{list-length}
 use Rattle.model.proofs.ProgramSize.{block-join}
+use Rattle.decoder.proofs.ByAction.{internal-length, internal-updates, receive-length, receive-pairs}
 use Rattle.parts.proofs.Skim.{tail}
 use Rattle.blocks.specs.declared.Kind.the-variants.{ClockGuards, DataGuards, Updates, Pairs}
 use Rattle.blocks.specs.Put.{Room, Put}
@@ -54,13 +57,15 @@ bounds-fit h f = (omega arith, omega arith)
 -- ## The edges from a location
 
 module _ (l : Location) (here e : ℕ) where
-  pub skipped : (h : List ℕ) → (byte h 1 ≡ here → ⊥) → [] ≡ blockBytes (trials l here e (arcAt h ∷ []))
-  unfolding trials arcAt blockBytes each
-  skipped h q = rw (ne-eqb (byte h 1) here q)
+  -- by the decoded edge
+  module _ (h : List ℕ) (edge : Edge) (is : edge ≡ arcAt h .edge) where
+    pub skipped : (edge .source ≡ here → ⊥) → [] ≡ blockBytes (trials l here e (arcAt h ∷ []))
+    unfolding trials blockBytes each
+    skipped q = rw (ne-eqb (arcAt h .edge .source) here (λ z. q (ap (λ (x : Edge). x .source) is ∙ z)))
 
-  pub tried : (h : List ℕ) → byte h 1 ≡ here → blockBytes (trialOf l e (arcAt h)) ≡ blockBytes (trials l here e (arcAt h ∷ []))
-  unfolding trials arcAt
-  tried h q = rw (eq-eqb (byte h 1) here q, append-nil (trialOf l e (arcAt h)))
+    pub tried : edge .source ≡ here → blockBytes (trialOf l e (arcAt h)) ≡ blockBytes (trials l here e (arcAt h ∷ []))
+    unfolding trials
+    tried q = rw (eq-eqb (arcAt h .edge .source) here (sym (ap (λ (x : Edge). x .source) is) ∙ q), append-nil (trialOf l e (arcAt h)))
 
   trials-cons : (a : Arc) (as′ : List Arc) → trials l here e (a ∷ as′) ≡ trials l here e (a ∷ []) ++ trials l here (suc e) as′
   unfolding trials
@@ -127,40 +132,36 @@ take-left l here e n h {o₀} {all} {o} {at₀} {at} q w =
 
 -- ## Work
 
-pub from-two : (k : ℕ) → (k ≡ 0 → ⊥) → (k ≡ 1 → ⊥) → k ≡ suc (suc (k - 2))
-from-two k a b = omega arith
-
 module _ (h : List ℕ) where
   -- the work's bytes
   abbrev pub workBytes : List ℕ
   workBytes = blockBytes (workOf (arcAt h) (arcAt h .edge .action))
 
-  pub internal-work : byte h 0 ≡ 0 → allMade Updates (byte h 6) (drop (itemsPlace h) h) ++ quad 0x03 0 0 ≡ workBytes
-  unfolding arcAt updatesAt blockBytes each code
-  internal-work q =
-      rw (q, updates-made (byte h 6) (drop (itemsPlace h) h))
-      (sym (block-join (map updateOf (listAt updateAt 4 (byte h 6) (drop (itemsPlace h) h))) (done ∷ [])))
+  module _ (e : Internal ≡ arcAt h .edge .action) where
+    pub internal-work : allMade Updates (byte h 6) (drop (itemsPlace h) h) ++ quad 0x03 0 0 ≡ workBytes
+    unfolding blockBytes each code
+    internal-work =
+        rw (← e, internal-updates h e, updates-made (byte h 6) (drop (itemsPlace h) h))
+        (sym (block-join (map updateOf (listAt updateAt 4 (byte h 6) (drop (itemsPlace h) h))) (done ∷ [])))
 
-  pub send-work : byte h 0 ≡ 1 → quad 0x04 (byte h (itemsPlace h)) 0 ≡ workBytes
-  unfolding arcAt blockBytes each code
-  send-work q = rw q
+    -- the items stand in the edge
+    pub updates-stand : arcLength h ≤ length h → itemsPlace h + byte h 6 * 4 ≤ length h
+    updates-stand f = omega (arith, f, internal-length h e)
 
-  pub receive-work : (byte h 0 ≡ 0 → ⊥) → (byte h 0 ≡ 1 → ⊥) → quad 0x05 (byte h 6) 0 ++ allMade Pairs (byte h 6) (drop (itemsPlace h) h) ≡ workBytes
-  unfolding arcAt pairsAt blockBytes each code
-  receive-work a b =
-      let ps = listAt pairAt 2 (byte h 6) (drop (itemsPlace h) h) in
-      rw (from-two (byte h 0) a b, pairs-made (byte h 6) (drop (itemsPlace h) h), list-length pairAt 2 (byte h 6) (drop (itemsPlace h) h))
-      (sym (append-nil (quad 0x05 (byte h 6) 0 ++ each pairQuad ps)))
+  pub send-work : (channel : ℕ) → Send channel ≡ arcAt h .edge .action → quad 0x04 channel 0 ≡ workBytes
+  unfolding blockBytes each code
+  send-work channel e = rw (← e)
 
-  -- the items stand in the edge
-  pub updates-stand : byte h 0 ≡ 0 → arcLength h ≤ length h → itemsPlace h + byte h 6 * 4 ≤ length h
-  updates-stand q f = rw q at f
+  module _ (e : Receive ≡ arcAt h .edge .action) where
+    pub receive-work : quad 0x05 (byte h 6) 0 ++ allMade Pairs (byte h 6) (drop (itemsPlace h) h) ≡ workBytes
+    unfolding blockBytes each code
+    receive-work =
+        let ps = listAt pairAt 2 (byte h 6) (drop (itemsPlace h) h) in
+        rw (← e, receive-pairs h e, pairs-made (byte h 6) (drop (itemsPlace h) h), list-length pairAt 2 (byte h 6) (drop (itemsPlace h) h))
+        (sym (append-nil (quad 0x05 (byte h 6) 0 ++ each pairQuad ps)))
 
-  pub channel-stands : byte h 0 ≡ 1 → arcLength h ≤ length h → itemsPlace h < length h
-  channel-stands q f = let g = rw q at f in omega arith
-
-  pub pairs-stand : (byte h 0 ≡ 0 → ⊥) → (byte h 0 ≡ 1 → ⊥) → arcLength h ≤ length h → itemsPlace h + byte h 6 * 2 ≤ length h
-  pairs-stand a b f = rw (from-two (byte h 0) a b) at f
+    pub pairs-stand : arcLength h ≤ length h → itemsPlace h + byte h 6 * 2 ≤ length h
+    pairs-stand f = omega (arith, f, receive-length h e)
 
 -- ## Clocks
 
@@ -210,21 +211,22 @@ clocks-done mask i n {o₀} {all} {o} {at₀} {at} q w =
 
 -- ## An edge's block
 
-module _ (clocks : ℕ) (h : List ℕ) where
+-- by the decoded edge
+module _ (clocks : ℕ) (h : List ℕ) (edge : Edge) where
   -- what follows its first statement, its work, its clocks
   abbrev pub fromEnter : List ℕ
-  fromEnter = quad 0x09 0 (byte h 2) ++ quad 0x11 0 0
+  fromEnter = quad 0x09 0 (edge .destination) ++ quad 0x11 0 0
 
   abbrev pub fromAges : List ℕ
-  fromAges = blockBytes (map (ageing (byte h 3)) (below clocks)) ++ (quad 0x09 0 (byte h 2) ++ quad 0x11 0 0)
+  fromAges = blockBytes (map (ageing (edge .mask)) (below clocks)) ++ (quad 0x09 0 (edge .destination) ++ quad 0x11 0 0)
 
   abbrev pub fromWork : List ℕ
-  fromWork = workBytes h ++ (blockBytes (map (ageing (byte h 3)) (below clocks)) ++ (quad 0x09 0 (byte h 2) ++ quad 0x11 0 0))
+  fromWork = workBytes h ++ (blockBytes (map (ageing (edge .mask)) (below clocks)) ++ (quad 0x09 0 (edge .destination) ++ quad 0x11 0 0))
 
-  pub edge-made : quad 0x00 0 0 ++ fromWork ≡ blockBytes (edgeBlockOf clocks (arcAt h))
-  unfolding blockBytes each code arcAt
-  edge-made =
+  pub edge-made : edge ≡ arcAt h .edge → quad 0x00 0 0 ++ fromWork ≡ blockBytes (edgeBlockOf clocks (arcAt h))
+  unfolding blockBytes each code
+  edge-made e =
       let W = workOf (arcAt h) (arcAt h .edge .action) in
-      let M = map (ageing (byte h 3)) (below clocks) in
-      let E = enter (byte h 2) ∷ choose ∷ [] in
-      rw (block-join W (M ++ E), block-join M E)
+      let M = map (ageing (arcAt h .edge .mask)) (below clocks) in
+      let E = enter (arcAt h .edge .destination) ∷ choose ∷ [] in
+      rw (e, block-join W (M ++ E), block-join M E)

@@ -12,6 +12,7 @@ ghost use Rattle.model.specs.Program.{age, reset, takeEdge, clockTests, dataTes
 ghost use Rattle.blocks.specs.Put.{Room, Put};
 ghost use Rattle.blocks.specs.Made.{widthOf, madeOf, allMade};
 ghost use Rattle.blocks.specs.FrontEdges.{arcsAt, ArcsFit};
+use model::Action;
 use model::Location;
 
 // The parts of an edge from which statements are made.
@@ -147,7 +148,8 @@ fn put_trial_from(h: &[u8], here: u8, l: Location, e: u8, out: &mut [u8], at: us
     requires { ⌜ (arcLength (now h) ≤ length (now h)) × Room (now out) at (blockBytes (trials l here e (arcAt (now h) ∷ []))) ⌝ }
     ensures { λ r. ⌜ Put (now (out .entry)) at (blockBytes (trials l here e (arcAt (now (h .entry)) ∷ []))) r (now (out .exit)) ⌝ }
 {
-    if h[1] != here {
+    let edge = decoder::edge_at(h);
+    if edge.source != here {
         return at;
     }
     put_trial(h, l, e, out, at)
@@ -181,17 +183,19 @@ fn put_work(h: &[u8], out: &mut [u8], at: usize) -> usize
     requires { ⌜ (arcLength (now h) ≤ length (now h)) × Room (now out) at (blockBytes (workOf (arcAt (now h)) (arcAt (now h) .edge .action))) ⌝ }
     ensures { λ r. ⌜ Put (now (out .entry)) at (blockBytes (workOf (arcAt (now (h .entry))) (arcAt (now (h .entry)) .edge .action))) r (now (out .exit)) ⌝ }
 {
-    let kind = h[0];
     let items = decoder::items_place(h);
-    if kind == 0 {
-        let next = put_parts(Kind::Updates, &h[items..], h[6], out, at);
-        return put_quad(out, next, 0x03, 0, 0);
+    let action = decoder::action_at(h);
+    match action {
+        Action::Internal => {
+            let next = put_parts(Kind::Updates, &h[items..], h[6], out, at);
+            put_quad(out, next, 0x03, 0, 0)
+        }
+        Action::Send(channel) => put_quad(out, at, 0x04, channel, 0),
+        Action::Receive => {
+            let next = put_quad(out, at, 0x05, h[6], 0);
+            put_parts(Kind::Pairs, &h[items..], h[6], out, next)
+        }
     }
-    if kind == 1 {
-        return put_quad(out, at, 0x04, h[items], 0);
-    }
-    let next = put_quad(out, at, 0x05, h[6], 0);
-    put_parts(Kind::Pairs, &h[items..], h[6], out, next)
 }
 
 // Clock i: zero if the lowest bit is set, else age.
@@ -226,9 +230,10 @@ pub fn put_edge_block(h: &[u8], clocks: u8, out: &mut [u8], at: usize) -> usize
     requires { ⌜ (arcLength (now h) ≤ length (now h)) × Room (now out) at (blockBytes (edgeBlockOf clocks (arcAt (now h)))) ⌝ }
     ensures { λ r. ⌜ Put (now (out .entry)) at (blockBytes (edgeBlockOf clocks (arcAt (now (h .entry))))) r (now (out .exit)) ⌝ }
 {
+    let edge = decoder::edge_at(h);
     let first = put_quad(out, at, 0x00, 0, 0);
     let second = put_work(h, out, first);
-    let third = put_clocks(h[3], clocks, out, second);
-    let fourth = put_quad(out, third, 0x09, 0, wide16(h[2]));
+    let third = put_clocks(edge.mask, clocks, out, second);
+    let fourth = put_quad(out, third, 0x09, 0, wide16(edge.destination));
     put_quad(out, fourth, 0x11, 0, 0)
 }

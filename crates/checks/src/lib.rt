@@ -13,6 +13,7 @@ ghost use Rattle.model.specs.Checks.{shareTick, startsEarlier, endsLater, isSen
 ghost use Rattle.model.specs.Calls.{verdictOf};
 ghost use Rattle.rows.specs.Rows.{num, messageOf, rowVisit, rowsOf, RowKnown, RowsPlaced};
 ghost use Rattle.checks.specs.Faults.{faultView, FaultBelow, RowStands, from12, from11};
+use model::Action;
 use model::Verdict;
 
 // The first row at fault.
@@ -27,7 +28,12 @@ fn row_sends(s: &[u8], l: &[u32], i: usize) -> bool
     ensures { λ r. ⌜ r ≡ not (isNone (channelOf (visitArc (readOf (now (s .entry)) .table) (rowVisit (now (l .entry)) i)))) ⌝ }
 {
     let at = rows::index(l, i, 7);
-    s[at] == 1
+    let action = decoder::action_at(&s[at..]);
+    match action {
+        Action::Internal => false,
+        Action::Send(_) => true,
+        Action::Receive => false,
+    }
 }
 
 // Whether row i is a send that is ready before the tick h.

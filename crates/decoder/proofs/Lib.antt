@@ -1,5 +1,5 @@
-pub mod Filled
 pub mod ByKind
+pub mod ByAction
+pub mod Found
 pub mod Walk
-pub mod Assembled
 pub mod Callers

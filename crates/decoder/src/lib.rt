@@ -1,10 +1,10 @@
 // Decodes the parts of an accepted table, one at a time, from the part's first byte on.
 ghost use mathlib.Core.Path.{_≡_};
 ghost use Prim.Native.Nat.{ℕ, _+_, _*_, _≤_, _<_};
-ghost use lib.ListN.{length, take};
+ghost use lib.ListN.{length};
 ghost use Rattle.model.specs.Reader.{word, complement, locationAt, clockGuardAt, dataGuardAt, updateAt, pairAt};
-ghost use Rattle.model.specs.Places.{listAt, itemsLength, itemsPlace, arcLength, arcAt, arcPlace};
-ghost use Rattle.decoder.specs.Decoded.{Decodable, Walkable, viewOf, updateCount, pairCount};
+ghost use Rattle.model.specs.Places.{itemsLength, itemsPlace, arcLength, arcAt, arcPlace};
+ghost use Rattle.decoder.specs.Decoded.{Walkable};
 use model::Action;
 use model::ClockGuard;
 use model::DataGuard;
@@ -12,24 +12,6 @@ use model::Edge;
 use model::Location;
 use model::Pair;
 use model::Update;
-
-// How many parts of each kind an edge has.
-pub struct Counts {
-    pub clocks: u8,
-    pub datas: u8,
-    pub updates: u8,
-    pub pairs: u8,
-}
-
-// An edge with its parts: of each array the first so many.
-pub struct DecodedEdge {
-    pub edge: Edge,
-    pub counts: Counts,
-    pub clocks: [ClockGuard; 4],
-    pub datas: [DataGuard; 4],
-    pub updates: [Update; 4],
-    pub pairs: [Pair; 8],
-}
 
 fn wide(x: u8) -> usize
     ensures { λ r. ⌜ (r ≡ x) × (r < 256) ⌝ }
@@ -136,8 +118,9 @@ pub fn arc_length(h: &[u8]) -> usize
     items_place(h) + items_length(h[0], h[6])
 }
 
-// What an edge does; a send's channel is its one item.
-fn action_at(h: &[u8]) -> Action
+// What the edge at the front does; a send's channel is its one item. (The items of the two others stand behind the bounds, from
+// `items_place` on, and are decoded one at a time.)
+pub fn action_at(h: &[u8]) -> Action
     requires { ⌜ (7 ≤ length (now h)) × (arcLength (now h) ≤ length (now h)) ⌝ }
     ensures { λ r. ⌜ r ≡ arcAt (now (h .entry)) .edge .action ⌝ }
 {
@@ -152,6 +135,7 @@ fn action_at(h: &[u8]) -> Action
     Action::Receive
 }
 
+// The edge at the front, without its bounds and items.
 pub fn edge_at(h: &[u8]) -> Edge
     requires { ⌜ (7 ≤ length (now h)) × (arcLength (now h) ≤ length (now h)) ⌝ }
     ensures { λ r. ⌜ r ≡ arcAt (now (h .entry)) .edge ⌝ }
@@ -161,119 +145,6 @@ pub fn edge_at(h: &[u8]) -> Edge
         destination: h[2],
         mask: h[3],
         action: action_at(h),
-    }
-}
-
-// The first n of the answer are the n clock bounds.
-pub fn clock_guards_at(h: &[u8], n: u8) -> [ClockGuard; 4]
-    requires { ⌜ (n ≤ 4) × (n * 5 ≤ length (now h)) ⌝ }
-    ensures { λ r. ⌜ take n r ≡ listAt clockGuardAt 5 n (now (h .entry)) ⌝ }
-{
-    let m = wide(n);
-    let mut a = [ClockGuard {
-        clock: 0,
-        low: 0,
-        high: 0,
-    }; 4];
-    let mut i: usize = 0;
-    while i < m {
-        let g = clock_guard_at(&h[i * 5..]);
-        a[i] = g;
-        i += 1;
-    }
-    a
-}
-
-pub fn data_guards_at(h: &[u8], n: u8) -> [DataGuard; 4]
-    requires { ⌜ (n ≤ 4) × (n * 5 ≤ length (now h)) ⌝ }
-    ensures { λ r. ⌜ take n r ≡ listAt dataGuardAt 5 n (now (h .entry)) ⌝ }
-{
-    let m = wide(n);
-    let mut a = [DataGuard {
-        variable: 0,
-        low: 0,
-        high: 0,
-    }; 4];
-    let mut i: usize = 0;
-    while i < m {
-        let g = data_guard_at(&h[i * 5..]);
-        a[i] = g;
-        i += 1;
-    }
-    a
-}
-
-pub fn updates_at(h: &[u8], n: u8) -> [Update; 4]
-    requires { ⌜ (n ≤ 4) × (n * 4 ≤ length (now h)) ⌝ }
-    ensures { λ r. ⌜ take n r ≡ listAt updateAt 4 n (now (h .entry)) ⌝ }
-{
-    let m = wide(n);
-    let mut a = [Update {
-        variable: 0,
-        adds: false,
-        number: 0,
-    }; 4];
-    let mut i: usize = 0;
-    while i < m {
-        let u = update_at(&h[i * 4..]);
-        a[i] = u;
-        i += 1;
-    }
-    a
-}
-
-pub fn pairs_at(h: &[u8], n: u8) -> [Pair; 8]
-    requires { ⌜ (n ≤ 8) × (n * 2 ≤ length (now h)) ⌝ }
-    ensures { λ r. ⌜ take n r ≡ listAt pairAt 2 n (now (h .entry)) ⌝ }
-{
-    let m = wide(n);
-    let mut a = [Pair {
-        channel: 0,
-        location: 0,
-    }; 8];
-    let mut i: usize = 0;
-    while i < m {
-        let p = pair_at(&h[i * 2..]);
-        a[i] = p;
-        i += 1;
-    }
-    a
-}
-
-// The count of updates of an edge with n items.
-fn update_count(kind: u8, n: u8) -> u8
-    ensures { λ r. ⌜ r ≡ updateCount kind n ⌝ }
-{
-    if kind == 0 { n } else { 0 }
-}
-
-// The count of pairs of an edge with n items.
-fn pair_count(kind: u8, n: u8) -> u8
-    ensures { λ r. ⌜ r ≡ pairCount kind n ⌝ }
-{
-    if kind < 2 { 0 } else { n }
-}
-
-// An edge with its parts.
-pub fn decode(h: &[u8]) -> DecodedEdge
-    requires { ⌜ Decodable (now h) ⌝ }
-    ensures { λ r. ⌜ viewOf r ≡ arcAt (now (h .entry)) ⌝ }
-{
-    let counts = Counts {
-        clocks: h[4],
-        datas: h[5],
-        updates: update_count(h[0], h[6]),
-        pairs: pair_count(h[0], h[6]),
-    };
-    let first = 7 + wide(h[4]) * 5;
-    let items = items_place(h);
-    DecodedEdge {
-        edge: edge_at(h),
-        counts,
-        clocks: clock_guards_at(&h[7..], counts.clocks),
-        datas: data_guards_at(&h[first..], counts.datas),
-        updates: updates_at(&h[items..], counts.updates),
-        pairs: pairs_at(&h[items..], counts.pairs),
     }
 }
 

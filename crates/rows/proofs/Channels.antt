@@ -1,4 +1,4 @@
--- The channel of a send, and the channels that a receive lists, by the bytes of an edge. Assumes nothing.
+-- The channel of a send, and the channels that a receive lists, by what an edge does. Assumes nothing.
 use mathlib.Core.Path.{_≡_, refl, sym, ap, subst, _∙_}
 use mathlib.Core.Bool.{Bool, true, false, _||_}
 use mathlib.Core.List.{List, []}
@@ -9,13 +9,14 @@ use borrow.Author.Tests.{eq-eqb, ne-eqb}
 use lib.Dec.{eqb}
 use lib.ListN.{length, drop, getD}
 use lib.Seq.{drop-drop}
+use Rattle.model.specs.declared.Action.the-variants.{Send, Receive}
 use Rattle.model.specs.declared.Pair.{Pair}
 use Rattle.model.specs.Lists.{any}
 use Rattle.model.specs.Window.{sends, channelOf}
 use Rattle.model.specs.Reader.{byte, pairAt}
-use Rattle.model.specs.Places.{listAt, itemsPlace, actionAt, pairsAt, arcAt}
+use Rattle.model.specs.Places.{listAt, itemsPlace, arcAt}
 use Rattle.model.specs.Schedule.{names}
-use Rattle.decoder.proofs.ByKind.{send-length, receive-length}
+use Rattle.decoder.proofs.ByAction.{receive-length, receive-pairs}
 use Rattle.parts.proofs.Skim.{first-of}
 use Rattle.rows.specs.Rows.{messageOf, EdgeStands}
 
@@ -26,27 +27,15 @@ is-message m h = rw (ne-eqb m 255 h)
 pub no-message : (m : ℕ) → m ≡ 255 → messageOf m ≡ none
 no-message m h = rw (eq-eqb m 255 h)
 
-module _ (h : List ℕ) (d : EdgeStands h) where
-  -- the channel of a send stands there
-  pub sent-within : byte h 0 ≡ 1 → itemsPlace h < length h
-  sent-within e = omega (arith, d .whole, send-length (byte h 0) (byte h 6) e)
+-- ## What the decoded action tells of the channel
 
-  pub sent-is : (at : ℕ) → byte h 0 ≡ 1 → at ≡ itemsPlace h → messageOf (byte h at) ≡ channelOf (arcAt h)
-  unfolding arcAt
-  sent-is at e p = rw (p, is-message (byte h (itemsPlace h)) (λ q. omega (arith, d .channel e)), e)
+module _ (h : List ℕ) (d : EdgeStands h) where
+  pub sent-is : (channel : ℕ) → Send channel ≡ arcAt h .edge .action → messageOf channel ≡ channelOf (arcAt h)
+  sent-is channel e = is-message channel (λ q. omega (arith, d .channel channel e)) ∙ ap sends e
 
   -- the pairs of a receive stand whole
-  pub lists-within : 2 ≤ byte h 0 → itemsPlace h + byte h 6 * 2 ≤ length h
-  lists-within e = omega (arith, d .whole, receive-length (byte h 0) (byte h 6) (λ z. omega arith) (λ z. omega arith))
-
-silent : (kind k : ℕ) → (kind ≡ 1 → ⊥) → none ≡ sends (actionAt kind k)
-silent zero k h = refl
-silent (suc zero) k h = absurd (h refl)
-silent (suc (suc n)) k h = refl
-
-pub sent-none : (h : List ℕ) → (byte h 0 ≡ 1 → ⊥) → none ≡ channelOf (arcAt h)
-unfolding arcAt
-sent-none h e = silent (byte h 0) (byte h (itemsPlace h)) e
+  pub lists-within : Receive ≡ arcAt h .edge .action → itemsPlace h + byte h 6 * 2 ≤ length h
+  lists-within e = omega (arith, d .whole, receive-length h e)
 
 -- ## A receive
 
@@ -57,37 +46,18 @@ has channel ps = any (λ q. eqb (q .channel) channel) ps
 pub lists-none : (h : List ℕ) (channel : ℕ) → channel ≡ 255 → false ≡ names (arcAt h) (messageOf channel)
 lists-none h channel e = rw (no-message channel e)
 
--- an edge that does not receive lists nothing
-nothing : (m : Option ℕ) (h : List ℕ) → arcAt h .pairs ≡ [] → false ≡ names (arcAt h) m
-nothing none h e = refl
-nothing (some k) h e = rw e
-
-no-pairs-at : (kind n : ℕ) (bs : List ℕ) → kind < 2 → pairsAt kind n bs ≡ []
-unfolding pairsAt
-no-pairs-at zero n bs h = refl
-no-pairs-at (suc zero) n bs h = refl
-no-pairs-at (suc (suc k)) n bs h = absurd (omega arith)
-
-pub lists-nothing : (h : List ℕ) (channel : ℕ) → byte h 0 < 2 → false ≡ names (arcAt h) (messageOf channel)
-unfolding arcAt
-lists-nothing h channel e = nothing (messageOf channel) h (no-pairs-at (byte h 0) (byte h 6) (drop (itemsPlace h) h) e)
-
--- the pairs of a receive
-pairs-there : (kind n : ℕ) (bs : List ℕ) → 2 ≤ kind → listAt pairAt 2 n bs ≡ pairsAt kind n bs
-unfolding pairsAt
-pairs-there zero n bs h = absurd (omega arith)
-pairs-there (suc zero) n bs h = absurd (omega arith)
-pairs-there (suc (suc k)) n bs h = refl
+-- an edge without pairs lists nothing
+pub lists-nothing : (m : Option ℕ) (h : List ℕ) → arcAt h .pairs ≡ [] → false ≡ names (arcAt h) m
+lists-nothing none h e = refl
+lists-nothing (some k) h e = rw e
 
 module _ (h : List ℕ) (channel : ℕ) where
   -- the channels from a place on, so many
   abbrev pub hasFrom : ℕ → ℕ → Bool
   hasFrom at k = has channel (listAt pairAt 2 k (drop at h))
 
-  pub lists-start : (at : ℕ) → (channel ≡ 255 → ⊥) → 2 ≤ byte h 0 → at ≡ itemsPlace h → hasFrom at (byte h 6) ≡ names (arcAt h) (messageOf channel)
-  unfolding arcAt
-  lists-start at c e p =
-      rw (p, is-message channel c) (ap (has channel) (pairs-there (byte h 0) (byte h 6) (drop (itemsPlace h) h) e))
+  pub lists-start : (at : ℕ) → (channel ≡ 255 → ⊥) → Receive ≡ arcAt h .edge .action → at ≡ itemsPlace h → hasFrom at (byte h 6) ≡ names (arcAt h) (messageOf channel)
+  lists-start at c e p = rw (p, is-message channel c) (ap (has channel) (sym (receive-pairs h e)))
 
   -- one more than the rest
   counted : (at k : ℕ) (x : Bool) → 0 < k → hasFrom at k ≡ x → hasFrom at (suc (k - 1)) ≡ x

@@ -4,4 +4,3 @@ pub mod Channels
 pub mod Sought
 pub mod Relabelled
 pub mod Grown
-pub mod EdgeKind

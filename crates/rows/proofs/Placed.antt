@@ -1,21 +1,17 @@
 -- What is known of a row of a valid table's passages: its edge stands at its place, whole, and is within the limits. Assumes nothing.
-use mathlib.Core.Path.{_≡_, refl, ap, subst}
+use mathlib.Core.Path.{_≡_, sym, ap, subst}
 use mathlib.Core.List.{List}
-use Prim.Native.Nat.{ℕ, zero, suc, _+_, _-_, _≤_, _<_}
+use Prim.Native.Nat.{ℕ, _+_, _-_, _≤_, _<_}
 use native.Mathlib.Omega.{arith}
-use borrow.Author.Tests.{le-leb}
 use mir.Val.{Fits}
 use mir.Syntax.{w8}
-use lib.Dec.{leb}
 use lib.ListN.{length, take, drop, getD, length-drop}
 use Rattle.model.specs.declared.Sizes.{Sizes}
 use Rattle.model.specs.declared.Action.the-variants.{Send}
 use Rattle.model.specs.Lists.{Bytes}
-use Rattle.model.specs.Table.{sizesOf, noArc, size}
+use Rattle.model.specs.Table.{Arc, sizesOf, noArc, size}
 use Rattle.model.specs.Limits.{ActionIn, ArcIn}
-use Rattle.model.specs.Window.{receives, listens}
-use Rattle.model.specs.Reader.{byte}
-use Rattle.model.specs.Places.{itemsPlace, arcLength, actionAt, arcAt, startOf, arcPlace, ComponentAt, Valid, readOf, componentIn}
+use Rattle.model.specs.Places.{arcLength, arcAt, startOf, arcPlace, ComponentAt, Valid, readOf, componentIn}
 use Rattle.model.specs.Schedule.{visitArc}
 use Rattle.model.proofs.Words.{byte-small}
 use Rattle.model.proofs.Walk.{all-at}
@@ -23,25 +19,14 @@ use Rattle.model.proofs.Located.{are-bytes, valid-read, valid-located, valid-in
 use Rattle.model.proofs.RoundTrip.{written-read}
 use Rattle.decoder.specs.Decoded.{Decodable}
 use Rattle.decoder.proofs.Callers.{decodable}
-use Rattle.parts.proofs.Skim.{tail, first-of}
+use Rattle.parts.proofs.Skim.{tail}
 use Rattle.rows.specs.Rows.{num, rowVisit, RowPlaced, RowsPlaced, EdgeStands, RowKnown}
 
 -- a send's channel is one of the table's
-channel-below : (s : Sizes) (h : List ℕ) → ArcIn s (arcAt h) → byte h 0 ≡ 1 → byte h (itemsPlace h) < s .channels
-unfolding arcAt
-channel-below s h a e =
-    let p : ActionIn s (arcAt h) (Send (byte h (itemsPlace h))) = subst (λ (k : ℕ). ActionIn s (arcAt h) (actionAt k (byte h (itemsPlace h)))) e (a .action) in
+channel-below : (s : Sizes) (a : Arc) (k : ℕ) → ArcIn s a → Send k ≡ a .edge .action → k < s .channels
+channel-below s a k i e =
+    let p : ActionIn s a (Send k) = subst (ActionIn s a) (sym e) (i .action) in
     p .channel
-
--- kinds from 2 on receive
-receiving : (kind k : ℕ) → leb 2 kind ≡ receives (actionAt kind k)
-receiving zero k = refl
-receiving (suc zero) k = refl
-receiving (suc (suc n)) k = le-leb 2 (suc (suc n)) (omega arith)
-
-receives-is : (h : List ℕ) → leb 2 (byte h 0) ≡ listens (arcAt h)
-unfolding arcAt
-receives-is h = receiving (byte h 0) (byte h (itemsPlace h))
 
 module _ (bs l : List ℕ) (i : ℕ) (b : Bytes bs) (v : Valid bs) (r : RowPlaced bs l i) where
   component-there : ComponentAt bs (startOf bs (num l i 0)) (componentIn bs (num l i 0))
@@ -62,7 +47,7 @@ module _ (bs l : List ℕ) (i : ℕ) (b : Bytes bs) (v : Valid bs) (r : RowPlace
   pub row-decodable : Decodable (drop (num l i 7) bs)
   row-decodable =
       let h = drop (num l i 7) bs in
-      decodable _ h (arcAt h) (simp length-drop (omega (arith, row-whole))) refl row-in
+      decodable h (simp length-drop (omega (arith, row-whole)))
 
   pub row-stands : EdgeStands (drop (num l i 7) bs)
   row-stands =
@@ -70,7 +55,7 @@ module _ (bs l : List ℕ) (i : ℕ) (b : Bytes bs) (v : Valid bs) (r : RowPlace
       record {
         head = row-decodable .head;
         whole = row-decodable .whole;
-        channel = λ e. omega (arith, channel-below _ h row-in e, valid-located bs b v .channels, byte-small b 4);
+        channel = λ k e. omega (arith, channel-below _ (arcAt h) k row-in e, valid-located bs b v .channels, byte-small b 4);
       }
 
 -- ## Small places
@@ -103,8 +88,3 @@ module _ (bs l : List ℕ) (i at : ℕ) (b : (j : ℕ) → Fits w8 (getD bs j 0)
 
   pub at-arc : arcAt (take (length bs - at) (drop at bs)) ≡ visitArc (readOf bs .table) (rowVisit l i)
   at-arc = rw (tail bs at, e) (row-arc bs l i (known-bytes bs b) (r .valid) (r .row))
-
-  -- the kind tells whether the edge receives
-  pub at-receives : leb 2 (getD bs at 0) ≡ listens (visitArc (readOf bs .table) (rowVisit l i))
-  at-receives =
-      rw (e, ← first-of bs (num l i 7), receives-is (drop (num l i 7) bs)) (ap listens (row-arc bs l i (known-bytes bs b) (r .valid) (r .row)))

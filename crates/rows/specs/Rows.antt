@@ -6,9 +6,9 @@ use mathlib.Core.Option.{Option, none, some}
 use Prim.Native.Nat.{ℕ, zero, suc, _+_, _*_, _≤_, _<_}
 use lib.Dec.{eqb, ltb}
 use lib.ListN.{length, getD}
+use Rattle.model.specs.declared.Action.the-variants.{Send}
 use Rattle.model.specs.Table.{size}
-use Rattle.model.specs.Reader.{byte}
-use Rattle.model.specs.Places.{itemsPlace, arcLength, arcPlace, startOf, Valid, readOf, componentIn}
+use Rattle.model.specs.Places.{arcLength, arcAt, arcPlace, startOf, Valid, readOf, componentIn}
 use Rattle.model.specs.Schedule.{Visit, others, heardBy, endsSooner, sooner, messageIn}
 
 -- number k of row i. A row has nine: component, edge, location, entry, ready, end, message (255: none), the place of the edge in the
@@ -79,7 +79,7 @@ pub record MessagesPut (bs : List ℕ) (H n : ℕ) (before after : List ℕ) : T
 pub record EdgeStands (h : List ℕ) : Type 0 where
   pub head : 7 ≤ length h
   pub whole : arcLength h ≤ length h
-  pub channel : byte h 0 ≡ 1 → byte h (itemsPlace h) < 255
+  pub channel : (k : ℕ) → Send k ≡ arcAt h .edge .action → k < 255
 
 -- what is known of one row of a valid table's passages
 pub record RowKnown (bs l : List ℕ) (i : ℕ) : Type 0 where

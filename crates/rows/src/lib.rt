@@ -9,6 +9,7 @@ ghost use Rattle.model.specs.Window.{channelOf, listens};
 ghost use Rattle.model.specs.Places.{arcAt, readOf};
 ghost use Rattle.model.specs.Schedule.{visitArc, names, heardBy, endsSooner, sooner, earliest, messageIn};
 ghost use Rattle.rows.specs.Rows.{num, messageOf, rowVisit, rowsOf, RowsPlaced, MessagesPut, EdgeStands, RowKnown, Linked, inTime, bestOf, heardRow, soonerFirst, heardFirst};
+use model::Action;
 
 fn wide(x: u8) -> u32
     ensures { λ r. ⌜ (r ≡ x) × (r < 256) ⌝ }
@@ -81,11 +82,12 @@ pub fn sent(h: &[u8]) -> u8
     requires { ⌜ EdgeStands (now h) ⌝ }
     ensures { λ r. ⌜ messageOf r ≡ channelOf (arcAt (now (h .entry))) ⌝ }
 {
-    if h[0] == 1 {
-        let at = decoder::items_place(h);
-        return h[at];
+    let action = decoder::action_at(h);
+    match action {
+        Action::Internal => 255,
+        Action::Send(channel) => channel,
+        Action::Receive => 255,
     }
-    255
 }
 
 // Whether the edge at the front lists the channel (255: no).
@@ -96,8 +98,15 @@ pub fn lists(h: &[u8], channel: u8) -> bool
     if channel == 255 {
         return false;
     }
-    if h[0] < 2 {
-        return false;
+    let action = decoder::action_at(h);
+    match action {
+        Action::Internal => {
+            return false;
+        }
+        Action::Send(_) => {
+            return false;
+        }
+        Action::Receive => {}
     }
     let mut at = decoder::items_place(h);
     let mut k = h[6];
@@ -117,7 +126,12 @@ pub fn row_receives(s: &[u8], l: &[u32], i: usize) -> bool
     ensures { λ r. ⌜ r ≡ listens (visitArc (readOf (now (s .entry)) .table) (rowVisit (now (l .entry)) i)) ⌝ }
 {
     let at = index(l, i, 7);
-    2 <= s[at]
+    let action = decoder::action_at(&s[at..]);
+    match action {
+        Action::Internal => false,
+        Action::Send(_) => false,
+        Action::Receive => true,
+    }
 }
 
 // The channel that row i's edge sends on (255: none).

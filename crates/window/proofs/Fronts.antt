@@ -1,18 +1,19 @@
 -- The edge at the front of bytes: its parts, and that the functions over them may be called. Assumes nothing.
-use mathlib.Core.Path.{_≡_, refl}
+use mathlib.Core.Path.{_≡_, refl, subst}
 use mathlib.Core.Bool.{Bool}
 use mathlib.Core.List.{List}
 use Prim.Native.Nat.{ℕ, _+_, _-_, _*_, _≤_, _<_}
 use native.Mathlib.Omega.{arith}
 use lib.IntN.{ℤ}
 use lib.ListN.{length, take, drop, length-drop}
+use Rattle.model.specs.declared.Action.the-variants.{Internal, Receive}
 use Rattle.model.specs.declared.Location.{Location}
 use Rattle.model.specs.Lists.{All}
 use Rattle.model.specs.Reader.{byte, clockGuardAt, dataGuardAt, updateAt}
-use Rattle.model.specs.Places.{listAt, itemsPlace, itemsLength, updatesAt, arcAt}
+use Rattle.model.specs.Places.{listAt, itemsPlace, arcAt}
 use Rattle.model.specs.Window.{readyOf, pastOf, dataHolds}
-use Rattle.decoder.proofs.Assembled.{found}
-use Rattle.decoder.proofs.ByKind.{receive-length}
+use Rattle.decoder.proofs.Found.{found}
+use Rattle.decoder.proofs.ByAction.{internal-length, internal-updates, receive-length}
 use Rattle.parts.proofs.Skim.{tail}
 use Rattle.window.specs.Views.{ArcReady}
 
@@ -27,17 +28,14 @@ module _ (h : List ℕ) (r : ArcReady h) where
   unfolding arcAt
   data-guards-asked at e = rw (tail h at, e) (simp length-drop (omega (arith, r .decodable .whole)), r .dataGuards)
 
-  pub updates-asked : (at : ℕ) → at ≡ itemsPlace h → byte h 0 ≡ 0 → (byte h 6 * 4 ≤ length (take (length h - at) (drop at h)))
+  pub updates-asked : (at : ℕ) → at ≡ itemsPlace h → Internal ≡ arcAt h .edge .action → (byte h 6 * 4 ≤ length (take (length h - at) (drop at h)))
       × All (λ u. u .variable < 4) (listAt updateAt 4 (byte h 6) (take (length h - at) (drop at h)))
-  unfolding arcAt updatesAt
   updates-asked at e z =
-      let w : byte h 6 * 4 ≤ length (drop (itemsPlace h) h) = simp length-drop (omega (arith, rw z at (r .decodable .whole))) in
-      rw (tail h at, e) (w, rw z at (r .updates))
+      let w : byte h 6 * 4 ≤ length (drop (itemsPlace h) h) = simp length-drop (omega (arith, internal-length h z, r .decodable .whole)) in
+      rw (tail h at, e) (w, subst (All (λ u. u .variable < 4)) (internal-updates h z) (r .updates))
 
-  pub pairs-asked : (at : ℕ) → at ≡ itemsPlace h → 2 ≤ byte h 0 → byte h 6 * 2 ≤ length (take (length h - at) (drop at h))
-  pairs-asked at e z =
-      let s : itemsLength (byte h 0) (byte h 6) ≡ byte h 6 * 2 = receive-length (byte h 0) (byte h 6) (λ q. omega arith) (λ q. omega arith) in
-      rw (tail h at, e) (simp length-drop (omega (arith, r .decodable .whole)))
+  pub pairs-asked : (at : ℕ) → at ≡ itemsPlace h → Receive ≡ arcAt h .edge .action → byte h 6 * 2 ≤ length (take (length h - at) (drop at h))
+  pairs-asked at e z = rw (tail h at, e) (simp length-drop (omega (arith, receive-length h z, r .decodable .whole)))
 
 -- what the functions over an edge's parts say of the edge
 module _ (h : List ℕ) where

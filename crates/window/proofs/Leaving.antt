@@ -12,9 +12,9 @@ use lib.IntN.{ℤ}
 use lib.ListN.{length, drop, getD}
 use Rattle.model.specs.Lists.{All, empty, more, orElse}
 use Rattle.model.specs.Table.{Arc}
-use Rattle.model.specs.Reader.{byte, pairAt}
-use Rattle.model.specs.Places.{listAt, itemsPlace, actionAt, pairsAt, arcAt}
-use Rattle.model.specs.Window.{Entry, masked, aged, updated, leadsTo, leaves, receives, paired}
+use Rattle.model.specs.Reader.{pairAt}
+use Rattle.model.specs.Places.{listAt}
+use Rattle.model.specs.Window.{Entry, masked, aged, updated, leadsTo, leaves, listens, paired}
 use Rattle.window.specs.Views.{messageOf}
 use Rattle.window.proofs.Rests.{next, no-more, all-as}
 
@@ -75,32 +75,13 @@ leaves-to a m end at p q r = rw (p, q, r)
 
 -- ## Where an edge leads
 
-no-receive : (kind k : ℕ) → kind < 2 → receives (actionAt kind k) ≡ false
-no-receive zero k h = refl
-no-receive (suc zero) k h = refl
-no-receive (suc (suc n)) k h = absurd (omega arith)
-
-receive : (kind k : ℕ) → 2 ≤ kind → receives (actionAt kind k) ≡ true
-receive zero k h = absurd (omega arith)
-receive (suc zero) k h = absurd (omega arith)
-receive (suc (suc n)) k h = refl
-
-its-pairs : (kind n : ℕ) (bs : List ℕ) → 2 ≤ kind → pairsAt kind n bs ≡ listAt pairAt 2 n bs
-unfolding pairsAt
-its-pairs zero n bs h = absurd (omega arith)
-its-pairs (suc zero) n bs h = absurd (omega arith)
-its-pairs (suc (suc k)) n bs h = refl
-
-module _ (h : List ℕ) (message : ℕ) where
-  pub leads-without : message ≡ 255 → byte h 2 ≡ leadsTo (arcAt h) (messageOf message)
-  unfolding arcAt
+module _ (a : Arc) (message : ℕ) where
+  pub leads-without : message ≡ 255 → a .edge .destination ≡ leadsTo a (messageOf message)
   leads-without e = rw (eq-eqb message 255 e)
 
-  pub leads-plain : (message ≡ 255 → ⊥) → byte h 0 < 2 → byte h 2 ≡ leadsTo (arcAt h) (messageOf message)
-  unfolding arcAt
-  leads-plain n l = rw (ne-eqb message 255 n, no-receive (byte h 0) (byte h (itemsPlace h)) l)
+  -- an edge that does not receive
+  pub leads-plain : (message ≡ 255 → ⊥) → false ≡ listens a → a .edge .destination ≡ leadsTo a (messageOf message)
+  leads-plain n l = rw (ne-eqb message 255 n, ← l)
 
-  pub leads-paired : (message ≡ 255 → ⊥) → 2 ≤ byte h 0 → paired (listAt pairAt 2 (byte h 6) (drop (itemsPlace h) h)) message (byte h 2) ≡ leadsTo (arcAt h) (messageOf message)
-  unfolding arcAt
-  leads-paired n l =
-      rw (ne-eqb message 255 n, receive (byte h 0) (byte h (itemsPlace h)) l, its-pairs (byte h 0) (byte h 6) (drop (itemsPlace h) h) l)
+  pub leads-paired : (message ≡ 255 → ⊥) → true ≡ listens a → paired (a .pairs) message (a .edge .destination) ≡ leadsTo a (messageOf message)
+  leads-paired n l = rw (ne-eqb message 255 n, ← l)

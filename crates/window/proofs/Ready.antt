@@ -30,7 +30,7 @@ updates-in s a Receive v i = rw (i .updates) empty
 pub arc-ready : (s : Sizes) (h : List ℕ) (a : Arc) → s .clocks ≤ 4 → s .variables ≤ 4 → arcLength h ≤ length h → arcAt h ≡ a → ArcIn s a → ArcReady h
 arc-ready s h a c v w e l =
     record {
-      decodable = decodable s h a w e l;
+      decodable = decodable h w;
       clockGuards = rw e (all-as (λ g q. omega (arith, q .clock)) (l .clockGuards));
       dataGuards = rw e (all-as (λ g q. omega (arith, q .variable)) (l .dataGuards));
       updates = rw e (updates-in s a (a .edge .action) v (l .action));

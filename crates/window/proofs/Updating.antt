@@ -1,7 +1,7 @@
 -- Updates in order, from update to update. Assumes nothing.
 use mathlib.Core.Path.{_≡_, refl, _∙_}
 use mathlib.Core.Bool.{Bool, true, false, cond}
-use mathlib.Core.List.{List}
+use mathlib.Core.List.{List, []}
 use mathlib.Core.Option.{Option, none, some}
 use Prim.Native.Nat.{ℕ, zero, suc, _+_, _-_, _≤_, _<_}
 use native.Mathlib.Omega.{arith}
@@ -9,7 +9,7 @@ use lib.IntN.{ℤ, _+ℤ_}
 use lib.ListN.{drop, set}
 use Rattle.model.specs.declared.Update.{Update}
 use Rattle.model.specs.Reader.{updateAt}
-use Rattle.model.specs.Places.{listAt, updatesAt}
+use Rattle.model.specs.Places.{listAt}
 use Rattle.model.specs.Window.{valueAt, inRange, newValue, updated}
 use Rattle.window.specs.declared.NewValue.{NewValue}
 use Rattle.window.specs.declared.NewValue.the-variants.{Fits, Out}
@@ -55,13 +55,7 @@ module _ (h : List ℕ) (at k : ℕ) (vs : List ℤ) (x : Option (List ℤ)) (i 
   unfolding updated
   update-done e = rw (no-more updateAt 4 (drop at h) k e) at i
 
--- ## By kind
-
-pub no-updates : (kind n : ℕ) (bs : List ℕ) (vs : List ℤ) → (kind ≡ 0 → ⊥) → some vs ≡ updated (updatesAt kind n bs) vs
-unfolding updated updatesAt
-no-updates zero n bs vs h = absurd (h refl)
-no-updates (suc k) n bs vs h = refl
-
-pub some-updates : (kind n : ℕ) (bs : List ℕ) (vs : List ℤ) → kind ≡ 0 → updated (listAt updateAt 4 n bs) vs ≡ updated (updatesAt kind n bs) vs
-unfolding updatesAt
-some-updates kind n bs vs e = rw e
+-- an edge without updates
+pub no-updates : (us : List Update) (vs : List ℤ) → us ≡ [] → some vs ≡ updated us vs
+unfolding updated
+no-updates us vs e = rw e

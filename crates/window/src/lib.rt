@@ -13,6 +13,7 @@ ghost use Rattle.model.specs.Places.{listAt, arcAt, arcPlace, startOf, Valid, r
 ghost use Rattle.model.specs.Window.{readyOf, pastOf, dataWithin, dataHolds, considered, choice, updated, aged, paired, leadsTo, leaves};
 ghost use Rattle.model.specs.Schedule.{opening};
 ghost use Rattle.window.specs.Views.{entryOf, pickOf, Kept, updatedOf, messageOf, openingOf, ArcReady, Placed, betterOf, newOf};
+use model::Action;
 use model::ClockGuard;
 use model::DataGuard;
 use model::Location;
@@ -179,7 +180,8 @@ fn considered_edge(h: &[u8], e: u8, place: usize, l: Location, at: Entry, best: 
     ensures picks { λ r. ⌜ pickOf r ≡ considered l (at .location) (at .clocks) (at .values) e (arcAt (now (h .entry))) (pickOf best) ⌝ }
     ensures keeps { λ r. ⌜ ((f : ℕ → ℕ) → f e ≡ place → Kept f best → Kept f r) ⌝ }
 {
-    if h[1] != at.location {
+    let edge = decoder::edge_at(h);
+    if edge.source != at.location {
         return best;
     }
     let first = 7 + wide(h[4]) * 5;
@@ -288,11 +290,15 @@ pub fn edge_update(h: &[u8], values: [i16; 4]) -> Updated
     requires { ⌜ ArcReady (now h) ⌝ }
     ensures { λ r. ⌜ updatedOf r ≡ updated (arcAt (now (h .entry)) .updates) values ⌝ }
 {
-    if h[0] != 0 {
-        return Updated { fits: true, values };
+    let action = decoder::action_at(h);
+    match action {
+        Action::Internal => {
+            let items = decoder::items_place(h);
+            update(&h[items..], h[6], values)
+        }
+        Action::Send(_) => Updated { fits: true, values },
+        Action::Receive => Updated { fits: true, values },
     }
-    let items = decoder::items_place(h);
-    update(&h[items..], h[6], values)
 }
 
 fn aged_clock(bit: u8, grown: u32, x: u32) -> u32
@@ -337,14 +343,19 @@ pub fn leads_to(h: &[u8], message: u8) -> u8
     requires { ⌜ ArcReady (now h) ⌝ }
     ensures { λ r. ⌜ r ≡ leadsTo (arcAt (now (h .entry))) (messageOf message) ⌝ }
 {
+    let edge = decoder::edge_at(h);
     if message == 255 {
-        return h[2];
+        return edge.destination;
     }
-    if h[0] < 2 {
-        return h[2];
+    let action = edge.action;
+    match action {
+        Action::Internal => edge.destination,
+        Action::Send(_) => edge.destination,
+        Action::Receive => {
+            let items = decoder::items_place(h);
+            paired_location(&h[items..], h[6], message, edge.destination)
+        }
     }
-    let items = decoder::items_place(h);
-    paired_location(&h[items..], h[6], message, h[2])
 }
 
 // The variables after updates that fit, else those before.
@@ -363,7 +374,8 @@ pub fn leave(h: &[u8], message: u8, end: u32, at: Entry) -> Entry
     let before = at.values;
     let values = kept_values(edge_update(h, before), before);
     let young = at.clocks;
-    let clocks = age(h[3], end - at.tick, young);
+    let edge = decoder::edge_at(h);
+    let clocks = age(edge.mask, end - at.tick, young);
     Entry {
         location: leads_to(h, message),
         tick: end,

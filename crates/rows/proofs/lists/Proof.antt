@@ -1,11 +1,12 @@
 -- `rows::lists` meets its contract. Assumes nothing.
-use mathlib.Core.Path.{_≡_}
+use mathlib.Core.Path.{_≡_, sym, _∙_}
 use Prim.Native.Nat.{_+_, _*_, _≤_}
 use native.Mathlib.Omega.{arith}
 use borrow.Author.Needs.{needs}
 use lib.ListN.{length}
 use Rattle.model.specs.Places.{arcAt}
 use Rattle.model.specs.Schedule.{names}
+use Rattle.decoder.proofs.ByAction.{internal-pairs, send-pairs}
 use Rattle.rows.specs.Rows.{messageOf}
 use Rattle.rows.proofs.Channels.{hasFrom, lists-none, lists-nothing, lists-start, lists-found, lists-turn, lists-done, lists-within}
 use Rattle.rows.proofs.lists.Statement.{statement}
@@ -22,13 +23,27 @@ returns c =
     let e = c .before .before in
     lists-none (e .args .h .now) (e .args .channel) (c .if1 .taken)
 
-shared-slice-read-if2 : tie.Need-shared-slice-read-if2 Inv-loop μ-loop
-shared-slice-read-if2 c = search needs
+action-at-requires : tie.Need-action-at-requires Inv-loop μ-loop
+action-at-requires c κs = search needs
+
+enum-told : tie.Need-enum-told Inv-loop μ-loop
+enum-told c = search needs
 
 returns-2 : tie.Need-returns-2 Inv-loop μ-loop
 returns-2 c =
-    let e = c .before .before .before .before in
-    lists-nothing (e .args .h .now) (e .args .channel) (c .if2 .taken)
+    let e = c .before .before .before .before .before in
+    lists-nothing (messageOf (e .args .channel)) (e .args .h .now) (internal-pairs (e .args .h .now) (sym (c .enum-told .given .1) ∙ c .before .before .action-at .ensures))
+
+enum-told-2 : tie.Need-enum-told-2 Inv-loop μ-loop
+enum-told-2 c = search needs
+
+returns-3 : tie.Need-returns-3 Inv-loop μ-loop
+returns-3 c =
+    let e = c .before .before .before .before .before in
+    lists-nothing (messageOf (e .args .channel)) (e .args .h .now) (send-pairs (e .args .h .now) _ (sym (c .enum-told2 .given .1) ∙ c .before .before .action-at .ensures))
+
+enum-told-3 : tie.Need-enum-told-3 Inv-loop μ-loop
+enum-told-3 c = search needs
 
 items-place-requires : tie.Need-items-place-requires Inv-loop μ-loop
 items-place-requires c κs = search needs
@@ -38,17 +53,19 @@ shared-slice-read-k c = search needs
 
 loop-holds : tie.Need-loop-holds Inv-loop μ-loop
 loop-holds c =
-    let e = c .before .before .before .before .before .before in
-    (omega (arith, c .before .items-place .ensures, lists-within (e .args .h .now) (e .pre) (c .before .before .if2 .left)), lists-start (e .args .h .now) (e .args .channel) (c .before .items-place .result) (c .before .before .before .before .if1 .left) (c .before .before .if2 .left) (c .before .items-place .ensures))
+    let e = c .before .before .before .before .before .before .before in
+    let p = c .before .items-place .ensures in
+    let receive = sym (c .before .before .enum-told3 .given .1) ∙ c .before .before .before .before .action-at .ensures in
+    (omega (arith, p, lists-within (e .args .h .now) (e .pre) receive), lists-start (e .args .h .now) (e .args .channel) (c .before .items-place .result) (c .before .before .before .before .before .if1 .left) receive p)
 
-shared-slice-read-if3 : tie.Need-shared-slice-read-if3 Inv-loop μ-loop
-shared-slice-read-if3 c = search needs
+shared-slice-read-if2 : tie.Need-shared-slice-read-if2 Inv-loop μ-loop
+shared-slice-read-if2 c = search needs
 
-returns-3 : tie.Need-returns-3 Inv-loop μ-loop
-returns-3 c =
-    let a = c .before .before .before .before .before .before .before .before .before .before .args in
+returns-4 : tie.Need-returns-4 Inv-loop μ-loop
+returns-4 c =
+    let a = c .before .before .before .before .before .before .before .before .before .before .before .args in
     let l = c .before .before .before .loop in
-    lists-found (a .h .now) (a .channel) (l .at) (l .k) _ (c .before .before .loop-test .taken) (c .if3 .taken) (l .inv .1)
+    lists-found (a .h .now) (a .channel) (l .at) (l .k) _ (c .before .before .loop-test .taken) (c .if2 .taken) (l .inv .1)
 
 add-at : tie.Need-add-at Inv-loop μ-loop
 add-at c = search needs
@@ -61,13 +78,13 @@ loop-less c = search needs
 
 loop-again : tie.Need-loop-again Inv-loop μ-loop
 loop-again c =
-    let a = c .before .before .before .before .before .before .before .before .before .before .args in
+    let a = c .before .before .before .before .before .before .before .before .before .before .before .args in
     let l = c .before .before .before .loop in
-    (omega arith, lists-turn (a .h .now) (a .channel) (l .at) (l .k) _ (c .before .before .loop-test .taken) (c .if3 .left) (l .inv .1))
+    (omega arith, lists-turn (a .h .now) (a .channel) (l .at) (l .k) _ (c .before .before .loop-test .taken) (c .if2 .left) (l .inv .1))
 
-returns-4 : tie.Need-returns-4 Inv-loop μ-loop
-returns-4 c =
-    let a = c .before .before .before .before .before .before .before .before .args in
+returns-5 : tie.Need-returns-5 Inv-loop μ-loop
+returns-5 c =
+    let a = c .before .before .before .before .before .before .before .before .before .args in
     let l = c .before .loop in
     lists-done (a .h .now) (a .channel) (l .at) (l .k) _ (c .loop-test .left) (l .inv .1)
 
@@ -78,15 +95,19 @@ lists-spec =
     Inv-loop
     μ-loop
     returns
-    shared-slice-read-if2
+    action-at-requires
+    enum-told
     returns-2
+    enum-told-2
+    returns-3
+    enum-told-3
     items-place-requires
     shared-slice-read-k
     loop-holds
-    shared-slice-read-if3
-    returns-3
+    shared-slice-read-if2
+    returns-4
     add-at
     sub-k
     loop-less
     loop-again
-    returns-4)
+    returns-5)

@@ -8,7 +8,7 @@ use Rattle.model.specs.Reader.{locationAt}
 use Rattle.model.specs.Table.{arcOf}
 use Rattle.model.specs.Places.{arcPlace, componentIn, locationPlace}
 use Rattle.model.specs.Window.{considered, chosen, choice}
-use Rattle.decoder.proofs.Assembled.{found}
+use Rattle.decoder.proofs.Found.{found}
 use Rattle.decoder.proofs.Walk.{first}
 use Rattle.window.specs.Views.{entryOf, pickOf, Kept}
 use Rattle.window.proofs.Rests.{tail-long}

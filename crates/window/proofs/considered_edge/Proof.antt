@@ -4,6 +4,7 @@ use Prim.Native.Nat.{_+_, _-_, _*_}
 use native.Mathlib.Omega.{arith}
 use borrow.Author.Tests.{not-true, not-false}
 use lib.ListN.{getD}
+use Rattle.model.specs.declared.Edge.{Edge}
 use Rattle.model.specs.Places.{arcAt}
 use Rattle.window.specs.declared.Choice.{Choice}
 use Rattle.window.specs.Views.{pickOf, Kept}
@@ -13,14 +14,13 @@ use borrow.Author.Needs.{needs}
 use Rattle.window.proofs.considered_edge.Statement.{statement}
 use Rattle.window.proofs.considered_edge.Tie as tie
 
-shared-slice-read-if1 : tie.Need-shared-slice-read-if1
-shared-slice-read-if1 c = search needs
+edge-at-requires : tie.Need-edge-at-requires
+edge-at-requires c κs = search needs
 
 returns : tie.Need-returns
-unfolding arcAt
 returns c =
-    let a = c .before .before .before .before .args in
-    (elsewhere (a .l) (a .at .location) (a .at .clocks) (a .at .values) (a .e) (arcAt (a .h .now)) (pickOf (a .best)) (c .if1 .taken), λ f p k. k)
+    let a = c .before .before .before .before .before .args in
+    (elsewhere (a .l) (a .at .location) (a .at .clocks) (a .at .values) (a .e) (arcAt (a .h .now)) (pickOf (a .best)) (λ q. c .if1 .taken (ap (λ (edge : Edge). edge .source) (c .before .before .before .edge-at .ensures) ∙ q)), λ f p k. k)
 
 shared-slice-read-wide : tie.Need-shared-slice-read-wide
 shared-slice-read-wide c = search needs
@@ -48,13 +48,13 @@ shared-slice-read-data-hold c = search needs
 
 data-hold-requires : tie.Need-data-hold-requires
 data-hold-requires c κs =
-    let h = c .before .before .before .before .before .before .before .before .before .args .h .now in
+    let h = c .before .before .before .before .before .before .before .before .before .before .args .h .now in
     let at : 7 + c .before .before .before .wide .result * 5 ≡ 7 + getD h 4 0 * 5 = rw (c .before .before .before .wide .ensures .0) in
-    data-guards-asked h (c .before .before .before .before .before .before .before .before .before .pre .0) _ at
+    data-guards-asked h (c .before .before .before .before .before .before .before .before .before .before .pre .0) _ at
 
 returns-2 : tie.Need-returns-2
 returns-2 c =
-    let a = c .before .before .before .before .before .before .before .before .before .before .before .args in
+    let a = c .before .before .before .before .before .before .before .before .before .before .before .before .args in
     let h = a .h .now in
     let at : 7 + c .before .before .before .before .before .wide .result * 5 ≡ 7 + getD h 4 0 * 5 = rw (c .before .before .before .before .before .wide .ensures .0) in
     let d = data-found h _ (a .at .values) at (c .before .data-hold .ensures) in
@@ -74,7 +74,7 @@ shared-slice-read-window c = search needs
 
 window-requires : tie.Need-window-requires
 window-requires c κs =
-    let s = c .before .before .before .before .before .before .before .before .before .before .before .before .before .before in
+    let s = c .before .before .before .before .before .before .before .before .before .before .before .before .before .before .before in
     let g = clock-guards-asked (s .args .h .now) (s .pre .0) in
     (g .0, s .pre .1, g .1)
 
@@ -83,7 +83,7 @@ add-if3 c = search needs
 
 returns-3 : tie.Need-returns-3
 returns-3 c =
-    let a = c .before .before .before .before .before .before .before .before .before .before .before .before .before .before .before .before .before .before .args in
+    let a = c .before .before .before .before .before .before .before .before .before .before .before .before .before .before .before .before .before .before .before .args in
     let h = a .h .now in
     let w = c .before .before .before .window in
     let r = ready-found h (a .at .clocks) (w .ensures .0) in
@@ -100,9 +100,8 @@ better-requires : tie.Need-better-requires
 better-requires c κs = search needs
 
 returns-4 : tie.Need-returns-4
-unfolding arcAt
 returns-4 c =
-    let a = c .before .before .before .before .before .before .before .before .before .before .before .before .before .before .before .before .before .before .before .before .before .args in
+    let a = c .before .before .before .before .before .before .before .before .before .before .before .before .before .before .before .before .before .before .before .before .before .before .args in
     let h = a .h .now in
     let w = c .before .before .before .before .before .before .window in
     let at : 7 + c .before .before .before .before .before .before .before .before .before .before .before .before .before .before .before .wide .result * 5 ≡ 7 + getD h 4 0 * 5 = rw (c .before .before .before .before .before .before .before .before .before .before .before .before .before .before .before .wide .ensures .0) in
@@ -112,7 +111,7 @@ returns-4 c =
     let n = c .before .before .wide2 .ensures in
     let t : Choice = record { edge = c .before .before .wide2 .result; place = a .place; ready = w .result .ready; end = w .result .past - 1 } in
     let e = better-window (a .l) (a .at .clocks) (arcAt h) (a .best) t (a .e) (omega (arith, w .ensures .2)) (n .0) r (omega arith) in
-    let is = candidate-is (a .l) (a .at .location) (a .at .clocks) (a .at .values) (a .e) (arcAt h) (pickOf (a .best)) (c .before .before .before .before .before .before .before .before .before .before .before .before .before .before .before .before .before .if1 .left) (sym d ∙ not-false _ (c .before .before .before .before .before .before .before .before .before .before .if2 .left)) (omega arith) in (
+    let is = candidate-is (a .l) (a .at .location) (a .at .clocks) (a .at .values) (a .e) (arcAt h) (pickOf (a .best)) (sym (ap (λ (edge : Edge). edge .source) (c .before .before .before .before .before .before .before .before .before .before .before .before .before .before .before .before .before .before .before .before .edge-at .ensures)) ∙ c .before .before .before .before .before .before .before .before .before .before .before .before .before .before .before .before .before .if1 .left) (sym d ∙ not-false _ (c .before .before .before .before .before .before .before .before .before .before .if2 .left)) (omega arith) in (
       ap pickOf (c .better .ensures) ∙ e ∙ is,
       λ f q k. subst (Kept f) (sym (c .better .ensures)) (better-kept f (a .best) t (λ z. (sym q ∙ ap f (sym (n .0)), n .1, omega (arith, w .ensures .3))) k),
     )
@@ -121,7 +120,7 @@ pub considered-edge-spec : {M : Type 1} → statement M
 considered-edge-spec =
     tie.close
     (tie.spec
-    shared-slice-read-if1
+    edge-at-requires
     returns
     shared-slice-read-wide
     wide-requires

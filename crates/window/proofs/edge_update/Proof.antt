@@ -1,25 +1,22 @@
 -- `window::edge_update` meets its contract. Assumes nothing.
-use mathlib.Core.Path.{_∙_}
-use lib.ListN.{drop, getD}
+use mathlib.Core.Path.{sym, ap, _∙_}
+use lib.ListN.{getD}
 use Rattle.model.specs.Reader.{updateAt}
 use Rattle.model.specs.Places.{listAt, itemsPlace, arcAt}
 use Rattle.model.specs.Window.{updated}
-use Rattle.decoder.proofs.Assembled.{found}
+use Rattle.decoder.proofs.Found.{found}
+use Rattle.decoder.proofs.ByAction.{internal-updates, send-updates, receive-updates}
 use Rattle.window.proofs.Fronts.{updates-asked}
-use Rattle.window.proofs.Updating.{no-updates, some-updates}
+use Rattle.window.proofs.Updating.{no-updates}
 use borrow.Author.Needs.{needs}
 use Rattle.window.proofs.edge_update.Statement.{statement}
 use Rattle.window.proofs.edge_update.Tie as tie
 
-shared-slice-read-if1 : tie.Need-shared-slice-read-if1
-shared-slice-read-if1 c = search needs
+action-at-requires : tie.Need-action-at-requires
+action-at-requires c κs = search needs
 
-returns : tie.Need-returns
-unfolding arcAt
-returns c =
-    let a = c .before .before .before .args in
-    let h = a .h .now in
-    no-updates (getD h 0 0) (getD h 6 0) (drop (itemsPlace h) h) (a .values) (c .if1 .taken)
+enum-told : tie.Need-enum-told
+enum-told c = search needs
 
 items-place-requires : tie.Need-items-place-requires
 items-place-requires c κs = search needs
@@ -38,26 +35,48 @@ shared-slice-read-update c = search needs
 
 update-requires : tie.Need-update-requires
 update-requires c κs =
-    updates-asked (c .before .before .before .before .before .before .args .h .now) (c .before .before .before .before .before .before .pre) (c .before .before .items-place .result) (c .before .before .items-place .ensures) (c .before .before .before .if1 .left)
+    let e = c .before .before .before .before .before .before .before in
+    let items = c .before .before .items-place in
+    updates-asked (e .args .h .now) (e .pre) (items .result) (items .ensures) (sym (c .before .before .before .enum-told .given .1) ∙ c .before .before .before .before .before .action-at .ensures)
+
+enum-told-2 : tie.Need-enum-told-2
+enum-told-2 c = search needs
+
+enum-told-3 : tie.Need-enum-told-3
+enum-told-3 c = search needs
+
+returns : tie.Need-returns
+returns c =
+    let a = c .before .before .before .before .before .before .before .before .args in
+    let h = a .h .now in
+    let items = c .before .before .before .items-place in
+    found (λ bs. updated (listAt updateAt 4 (getD h 6 0) bs) (a .values)) h (items .result) (itemsPlace h) (items .ensures) (c .update .ensures)
+    ∙ ap (λ us. updated us (a .values)) (sym (internal-updates h (sym (c .before .before .before .before .enum-told .given .1) ∙ c .before .before .before .before .before .before .action-at .ensures)))
 
 returns-2 : tie.Need-returns-2
-unfolding arcAt
 returns-2 c =
-    let a = c .before .before .before .before .before .before .before .args in
-    let h = a .h .now in
-    found (λ bs. updated (listAt updateAt 4 (getD h 6 0) bs) (a .values)) h (c .before .before .before .items-place .result) (itemsPlace h) (c .before .before .before .items-place .ensures) (c .update .ensures)
-    ∙ some-updates (getD h 0 0) (getD h 6 0) (drop (itemsPlace h) h) (a .values) (c .before .before .before .before .if1 .left)
+    let a = c .before .before .before .before .args in
+    no-updates (arcAt (a .h .now) .updates) (a .values) (send-updates (a .h .now) _ (sym (c .enum-told2 .given .1) ∙ c .before .before .action-at .ensures))
+
+returns-3 : tie.Need-returns-3
+returns-3 c =
+    let a = c .before .before .before .before .args in
+    no-updates (arcAt (a .h .now) .updates) (a .values) (receive-updates (a .h .now) (sym (c .enum-told3 .given .1) ∙ c .before .before .action-at .ensures))
 
 pub edge-update-spec : {M : Type 1} → statement M
 edge-update-spec =
     tie.close
     (tie.spec
-    shared-slice-read-if1
-    returns
+    action-at-requires
+    enum-told
     items-place-requires
     sub-update
     part-update-start
     part-update-end
     shared-slice-read-update
     update-requires
-    returns-2)
+    enum-told-2
+    enum-told-3
+    returns
+    returns-2
+    returns-3)

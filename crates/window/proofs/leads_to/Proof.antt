@@ -1,31 +1,34 @@
 -- `window::leads_to` meets its contract. Assumes nothing.
-use native.Mathlib.Omega.{arith}
-use mathlib.Core.Path.{_∙_}
+use mathlib.Core.Path.{sym, ap, _∙_}
 use lib.ListN.{getD}
+use Rattle.model.specs.declared.Edge.{Edge}
 use Rattle.model.specs.Reader.{pairAt}
-use Rattle.model.specs.Places.{listAt, itemsPlace}
-use Rattle.model.specs.Window.{paired}
-use Rattle.decoder.proofs.Assembled.{found}
+use Rattle.model.specs.Places.{listAt, itemsPlace, arcAt}
+use Rattle.model.specs.Window.{receives, paired}
+use Rattle.decoder.proofs.Found.{found}
+use Rattle.decoder.proofs.ByAction.{receive-pairs}
 use Rattle.window.proofs.Fronts.{pairs-asked}
 use Rattle.window.proofs.Leaving.{leads-without, leads-plain, leads-paired}
 use borrow.Author.Needs.{needs}
 use Rattle.window.proofs.leads_to.Statement.{statement}
 use Rattle.window.proofs.leads_to.Tie as tie
 
-shared-slice-read-result : tie.Need-shared-slice-read-result
-shared-slice-read-result c = search needs
+edge-at-requires : tie.Need-edge-at-requires
+edge-at-requires c κs = search needs
 
 returns : tie.Need-returns
-returns c = leads-without (c .before .before .before .args .h .now) (c .before .before .before .args .message) (c .before .if1 .taken)
+returns c =
+    let a = c .before .before .before .args in
+    ap (λ (e : Edge). e .destination) (c .before .edge-at .ensures) ∙ leads-without (arcAt (a .h .now)) (a .message) (c .if1 .taken)
 
-shared-slice-read-if2 : tie.Need-shared-slice-read-if2
-shared-slice-read-if2 c = search needs
+enum-told : tie.Need-enum-told
+enum-told c = search needs
 
-shared-slice-read-result-2 : tie.Need-shared-slice-read-result-2
-shared-slice-read-result-2 c = search needs
+enum-told-2 : tie.Need-enum-told-2
+enum-told-2 c = search needs
 
-returns-2 : tie.Need-returns-2
-returns-2 c = leads-plain (c .before .before .before .before .before .args .h .now) (c .before .before .before .before .before .args .message) (c .before .before .before .if1 .left) (omega arith)
+enum-told-3 : tie.Need-enum-told-3
+enum-told-3 c = search needs
 
 items-place-requires : tie.Need-items-place-requires
 items-place-requires c κs = search needs
@@ -42,34 +45,51 @@ part-paired-location-end c = search needs
 shared-slice-read-paired-location : tie.Need-shared-slice-read-paired-location
 shared-slice-read-paired-location c = search needs
 
-shared-slice-read-paired-location-2 : tie.Need-shared-slice-read-paired-location-2
-shared-slice-read-paired-location-2 c = search needs
-
 paired-location-requires : tie.Need-paired-location-requires
 paired-location-requires c κs =
-    pairs-asked (c .before .before .before .before .before .before .before .before .args .h .now) (c .before .before .before .before .before .before .before .before .pre) (c .before .before .before .items-place .result) (c .before .before .before .items-place .ensures) (c .before .before .before .before .if2 .left)
+    let s = c .before .before .before .before .before .before .before .before in
+    let items = c .before .before .items-place in
+    pairs-asked (s .args .h .now) (s .pre) (items .result) (items .ensures) (sym (c .before .before .before .enum-told3 .given .1) ∙ ap (λ (e : Edge). e .action) (c .before .before .before .before .before .before .edge-at .ensures))
+
+returns-2 : tie.Need-returns-2
+returns-2 c =
+    let a = c .before .before .before .before .before .args in
+    let edge = c .before .before .before .edge-at .ensures in
+    let plain = ap receives (sym (c .enum-told .given .1) ∙ ap (λ (e : Edge). e .action) edge) in
+    ap (λ (e : Edge). e .destination) edge ∙ leads-plain (arcAt (a .h .now)) (a .message) (c .before .before .if1 .left) plain
 
 returns-3 : tie.Need-returns-3
 returns-3 c =
+    let a = c .before .before .before .before .before .args in
+    let edge = c .before .before .before .edge-at .ensures in
+    let plain = ap receives (sym (c .enum-told2 .given .1) ∙ ap (λ (e : Edge). e .action) edge) in
+    ap (λ (e : Edge). e .destination) edge ∙ leads-plain (arcAt (a .h .now)) (a .message) (c .before .before .if1 .left) plain
+
+returns-4 : tie.Need-returns-4
+returns-4 c =
     let a = c .before .before .before .before .before .before .before .before .before .args in
     let h = a .h .now in
-    found (λ bs. paired (listAt pairAt 2 (getD h 6 0) bs) (a .message) (getD h 2 0)) h (c .before .before .before .before .items-place .result) (itemsPlace h) (c .before .before .before .before .items-place .ensures) (c .paired-location .ensures)
-    ∙ leads-paired h (a .message) (c .before .before .before .before .before .before .before .if1 .left) (c .before .before .before .before .before .if2 .left)
+    let edge = c .before .before .before .before .before .before .before .edge-at in
+    let items = c .before .before .before .items-place in
+    let receive = sym (c .before .before .before .before .enum-told3 .given .1) ∙ ap (λ (e : Edge). e .action) (edge .ensures) in
+    found (λ bs. paired (listAt pairAt 2 (getD h 6 0) bs) (a .message) (edge .result .destination)) h (items .result) (itemsPlace h) (items .ensures) (c .paired-location .ensures)
+    ∙ rw (← receive-pairs h receive, edge .ensures) (leads-paired (arcAt h) (a .message) (c .before .before .before .before .before .before .if1 .left) (ap receives receive))
 
 pub leads-to-spec : {M : Type 1} → statement M
 leads-to-spec =
     tie.close
     (tie.spec
-    shared-slice-read-result
+    edge-at-requires
     returns
-    shared-slice-read-if2
-    shared-slice-read-result-2
-    returns-2
+    enum-told
+    enum-told-2
+    enum-told-3
     items-place-requires
     sub-paired-location
     part-paired-location-start
     part-paired-location-end
     shared-slice-read-paired-location
-    shared-slice-read-paired-location-2
     paired-location-requires
-    returns-3)
+    returns-2
+    returns-3
+    returns-4)
