@@ -1,5 +1,5 @@
 pub mod Sending
 pub mod Swept
 pub mod Questions
-pub mod Listeners
+pub mod Listening
 pub mod Answers

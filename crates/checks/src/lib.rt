@@ -13,6 +13,7 @@ ghost use Rattle.model.specs.Checks.{shareTick, startsEarlier, endsLater, isSen
 ghost use Rattle.model.specs.Calls.{verdictOf};
 ghost use Rattle.rows.specs.Rows.{num, messageOf, rowVisit, rowsOf, RowKnown, RowsPlaced};
 ghost use Rattle.checks.specs.Faults.{faultView, FaultBelow, RowStands, from12, from11};
+ghost use Rattle.checks.specs.Listening.{repeatedWith, Noted};
 use model::Action;
 use model::Verdict;
 
@@ -20,6 +21,13 @@ use model::Verdict;
 pub enum Fault {
     Nothing,
     At(usize),
+}
+
+// Who listens to a send: the components as eight bits, those of them that do so by more than one window, and each one's row.
+struct Listeners {
+    listening: u8,
+    repeated: u8,
+    row: [usize; 8],
 }
 
 // Whether row i's edge sends.
@@ -142,30 +150,60 @@ fn surrounds(l: &[u32], k: usize, i: usize) -> bool
     parts::both(earlier, rows::number(l, i, 5) < rows::number(l, k, 5))
 }
 
-// Whether exactly one receive window of another component that names the channel shares a tick with the send window of row i, and starts
-// earlier and ends later. The components listening are noted as eight bits: the count of ones decides, the trailing zeros give the number.
-// Two windows of one component are one bit and still a fault, so the windows are counted too.
-pub fn is_heard_well(s: &[u8], l: &[u32], n: usize, i: usize) -> bool
-    requires { ⌜ RowsPlaced (now s) (now l) n × (i < n) ⌝ }
-    ensures { λ r. ⌜ r ≡ heardWell (rowVisit (now (l .entry)) i) (only (λ r. mayHear (readOf (now (s .entry)) .table) r (rowVisit (now (l .entry)) i)) (rowsOf (now (l .entry)) n)) ⌝ }
+// The components that listen by more than one window, with one more window of component c: setting a bit that is set changes nothing.
+fn with_repeated(listening: u8, repeated: u8, c: usize) -> u8
+    requires { ⌜ c < 8 ⌝ }
+    ensures { λ r. ⌜ r ≡ repeatedWith listening repeated c ⌝ }
 {
-    let channel = rows::row_sent(s, l, i);
-    let until = rows::number(l, i, 5);
-    let mut mask: u8 = 0;
-    let mut windows: usize = 0;
+    if with_bit(listening, c) == listening {
+        return with_bit(repeated, c);
+    }
+    repeated
+}
+
+// Who listens to the send window of row i by a window before row i. Rows that ended before it are passed over by their links.
+fn listeners_before(s: &[u8], l: &[u32], n: usize, i: usize, channel: u8) -> Listeners
+    requires { ⌜ RowsPlaced (now s) (now l) n × (i < n) × (messageOf channel ≡ channelOf (visitArc (readOf (now s) .table) (rowVisit (now l) i))) ⌝ }
+    ensures { λ r. ⌜ Noted (now (l .entry)) n (only (λ v. mayHear (readOf (now (s .entry)) .table) v (rowVisit (now (l .entry)) i)) (rowsOf (now (l .entry)) i)) (r .listening) (r .repeated) (r .row) ⌝ }
+{
+    let mut listening: u8 = 0;
+    let mut repeated: u8 = 0;
     let mut row: [usize; 8] = [0; 8];
     let ready = rows::number(l, i, 4);
-    let mut b = rows::open_before(l, i, ready);
-    while 0 < b {
-        let k = b - 1;
+    let mut j = rows::open_before(l, i, ready);
+    while 0 < j {
+        let k = j - 1;
         if may_hear(s, l, k, i, channel) {
             let c = rows::index(l, k, 0);
-            mask = with_bit(mask, c);
+            repeated = with_repeated(listening, repeated, c);
+            listening = with_bit(listening, c);
             row[c] = k;
-            windows += 1;
         }
-        b = rows::open_before(l, k, ready);
+        j = rows::open_before(l, k, ready);
     }
+    Listeners {
+        listening,
+        repeated,
+        row,
+    }
+}
+
+// Who listens to the send window of row i, after those that do so by a window before row i.
+fn listeners_from(
+    s: &[u8],
+    l: &[u32],
+    n: usize,
+    i: usize,
+    channel: u8,
+    before: Listeners,
+) -> Listeners
+    requires { ⌜ RowsPlaced (now s) (now l) n × (i < n) × (messageOf channel ≡ channelOf (visitArc (readOf (now s) .table) (rowVisit (now l) i))) × Noted (now l) n (only (λ v. mayHear (readOf (now s) .table) v (rowVisit (now l) i)) (rowsOf (now l) i)) (before .listening) (before .repeated) (before .row) ⌝ }
+    ensures { λ r. ⌜ Noted (now (l .entry)) n (only (λ v. mayHear (readOf (now (s .entry)) .table) v (rowVisit (now (l .entry)) i)) (rowsOf (now (l .entry)) n)) (r .listening) (r .repeated) (r .row) ⌝ }
+{
+    let until = rows::number(l, i, 5);
+    let mut listening = before.listening;
+    let mut repeated = before.repeated;
+    let mut row = before.row;
     let mut j = i;
     while j < n {
         if until < rows::number(l, j, 3) {
@@ -173,20 +211,37 @@ pub fn is_heard_well(s: &[u8], l: &[u32], n: usize, i: usize) -> bool
         }
         if may_hear(s, l, j, i, channel) {
             let c = rows::index(l, j, 0);
-            mask = with_bit(mask, c);
+            repeated = with_repeated(listening, repeated, c);
+            listening = with_bit(listening, c);
             row[c] = j;
-            windows += 1;
         }
         j += 1;
     }
-    if windows != 1 {
+    Listeners {
+        listening,
+        repeated,
+        row,
+    }
+}
+
+// Whether exactly one receive window of another component that names the channel shares a tick with the send window of row i, and starts
+// earlier and ends later. The components listening are noted as eight bits: the count of ones decides, the trailing zeros give the number.
+// Two windows of one component are one bit and still a fault, so it may not listen by more than one.
+pub fn is_heard_well(s: &[u8], l: &[u32], n: usize, i: usize) -> bool
+    requires { ⌜ RowsPlaced (now s) (now l) n × (i < n) ⌝ }
+    ensures { λ r. ⌜ r ≡ heardWell (rowVisit (now (l .entry)) i) (only (λ r. mayHear (readOf (now (s .entry)) .table) r (rowVisit (now (l .entry)) i)) (rowsOf (now (l .entry)) n)) ⌝ }
+{
+    let channel = rows::row_sent(s, l, i);
+    let before = listeners_before(s, l, n, i, channel);
+    let listeners = listeners_from(s, l, n, i, channel, before);
+    if u8::count_ones(listeners.listening) != 1 {
         return false;
     }
-    if u8::count_ones(mask) != 1 {
+    if listeners.repeated != 0 {
         return false;
     }
-    let only = u8::trailing_zeros(mask) as usize;
-    surrounds(l, row[only], i)
+    let listener = u8::trailing_zeros(listeners.listening) as usize;
+    surrounds(l, listeners.row[listener], i)
 }
 
 // Whether row i is a send that is not heard well.
