@@ -40,13 +40,15 @@ impl Passage {
     }
 }
 
-/// A component between the opening of its passage and the closing.
+/// A component whose passage is open: what it enters with at the end, as far
+/// as that is known when the passage opens.
 #[derive(Clone, Copy, Default)]
 struct Lane {
-    /// The clocks at entry.
     clocks: Clocks,
-    /// The variables after the updates of the edge taken.
     variables: Variables,
+    /// The destination of the edge taken.
+    location: u8,
+    edge: u8,
     /// The place of its open passage.
     row: usize,
 }
@@ -80,7 +82,7 @@ impl Schedule {
             bytes,
             list: &mut self.list,
             count: 0,
-            ends: [u32::MAX; COMPONENTS],
+            ends: [u64::MAX; COMPONENTS],
             lanes: [Lane::default(); COMPONENTS],
             meetings: Meetings::new(),
         };
@@ -97,8 +99,10 @@ struct Sweep<'a> {
     list: &'a mut [Passage; PASSAGES],
     count: usize,
     /// For each component the end of its open passage, times 8, with its
-    /// number: the least one closes next.
-    ends: [u32; COMPONENTS],
+    /// number: the least one closes next. They are wider than they need to
+    /// be: a processor is slow to read several numbers at once where one was
+    /// just written, and does not do so with numbers of this width.
+    ends: [u64; COMPONENTS],
     lanes: [Lane; COMPONENTS],
     meetings: Meetings,
 }
@@ -126,9 +130,9 @@ impl Sweep<'_> {
     /// The passage that closes next: its end and its component.
     #[inline]
     fn first_end(&self) -> (u32, usize) {
-        let least = |least: u32, end: &u32| least.min(*end);
-        let first = self.ends.iter().fold(u32::MAX, least);
-        (first >> 3, first as usize % COMPONENTS)
+        let [a, b, c, d, e, f, g, h] = self.ends;
+        let first = a.min(b).min(c.min(d)).min(e.min(f).min(g.min(h)));
+        ((first >> 3) as u32, first as usize % COMPONENTS)
     }
 
     /// Opens a passage: checks 7, 8 and 9 in this order.
@@ -146,6 +150,9 @@ impl Sweep<'_> {
             let updated = updated(edge, self.bytes, &lane.variables);
             lane.variables = updated.ok_or(Refusal::of(9, number))?;
         }
+        lane.clocks = grown(&lane.clocks, taken.end, edge.mask);
+        lane.location = edge.destination;
+        lane.edge = taken.edge;
         self.write(number, location, entry, taken);
         Ok(())
     }
@@ -173,7 +180,7 @@ impl Sweep<'_> {
         if entry > 0 {
             self.list[before % PASSAGES].next = row as u16;
         }
-        self.ends[number % COMPONENTS] = end << 3 | number as u32;
+        self.ends[number % COMPONENTS] = u64::from(end) << 3 | number as u64;
         if edge.kind == Kind::Receive || sends && ready < self.table.horizon {
             let window = Window::new(sends, edge.channels, row, ready, end);
             self.meetings.open(number, entry, window);
@@ -181,24 +188,17 @@ impl Sweep<'_> {
     }
 
     /// Closes the open passage of a component: the location that it enters.
-    /// "There, masked clocks become 0 and the others have grown by end −
-    /// entry."
     #[inline]
     fn close(&mut self, number: usize) -> u8 {
-        let lane = &mut self.lanes[number % COMPONENTS];
-        let passage = &mut self.list[lane.row % PASSAGES];
-        let edge = self.table.component(number).edge(passage.edge);
-        let grown = (passage.end - passage.entry) as i32;
-        for (place, clock) in lane.clocks.iter_mut().enumerate() {
-            let masked = edge.mask >> place & 1 != 0;
-            *clock = if masked { 0 } else { *clock + grown };
-        }
-        match self.meetings.close(number) {
+        let message = self.meetings.close(number);
+        let lane = &self.lanes[number % COMPONENTS];
+        match message {
+            None | Some(NO_MESSAGE) => lane.location,
             Some(message) => {
-                passage.message = message;
+                self.list[lane.row % PASSAGES].message = message;
+                let edge = self.table.component(number).edge(lane.edge);
                 edge.target(self.bytes, message)
             }
-            None => edge.destination,
         }
     }
 
@@ -207,7 +207,7 @@ impl Sweep<'_> {
     fn finish(&mut self) {
         for _ in 0..self.table.count {
             let (_, number) = self.first_end();
-            self.ends[number] = u32::MAX;
+            self.ends[number] = u64::MAX;
             if let Some(message) = self.meetings.close(number) {
                 let row = self.lanes[number].row;
                 self.list[row % PASSAGES].message = message;
@@ -215,3 +215,29 @@ impl Sweep<'_> {
         }
     }
 }
+
+/// The clocks after so many ticks: "masked clocks become 0 and the others have
+/// grown".
+#[inline]
+fn grown(clocks: &Clocks, ticks: i32, mask: u8) -> Clocks {
+    let kept = &KEPT[usize::from(mask) % KEPT.len()];
+    let mut grown = *clocks;
+    for (clock, kept) in grown.iter_mut().zip(kept) {
+        *clock = (*clock + ticks) & kept;
+    }
+    grown
+}
+
+/// For each mask, all bits of the clocks that it leaves.
+const KEPT: [Clocks; 1 << CLOCKS] = {
+    let mut kept = [[-1; CLOCKS]; 1 << CLOCKS];
+    let mut place = 0;
+    while place < CLOCKS << CLOCKS {
+        let (mask, clock) = (place / CLOCKS, place % CLOCKS);
+        if mask >> clock & 1 != 0 {
+            kept[mask][clock] = 0;
+        }
+        place += 1;
+    }
+    kept
+};
