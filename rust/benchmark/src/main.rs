@@ -8,7 +8,7 @@ mod processor;
 mod report;
 mod tables;
 
-use clock::{in_turns, Effort, Time};
+use clock::{in_turns, Effort};
 use comparison::readers::{Reader, Readers};
 use comparison::runs::{Subject, AMPLE};
 use report::{heading, line, SIDES};
@@ -152,20 +152,24 @@ fn time_calls(effort: Effort, row: &Row) {
 /// Times the start of a run, a run to the horizon, and each of its choices.
 fn time_run(effort: Effort, row: &Row, choices: &[u8], each: &str) {
     let table = &row.table[..];
-    let timed = |choices: &[u8]| {
-        let run = |reader: Reader| {
-            let mut bytes = vec![0; AMPLE];
-            move || (reader.run)(black_box(table), black_box(choices), &mut bytes)
-        };
-        in_turns(effort, sides().map(run))
+    let run = |reader: Reader, choices: &'_ [u8]| {
+        let (choices, mut bytes) = (choices.to_vec(), vec![0; AMPLE]);
+        move || (reader.run)(black_box(table), black_box(&choices), &mut bytes)
     };
-    let start = timed(&[]);
+    let [library, plain, yardstick] = sides();
+    let calls = [
+        run(library, &[]),
+        run(plain, &[]),
+        run(yardstick, &[]),
+        run(library, choices),
+        run(plain, choices),
+        run(yardstick, choices),
+    ];
+    let [a, b, c, d, e, f] = in_turns(effort, calls);
+    let (start, whole) = ([a, b, c], [d, e, f]);
     line("start of a run", start);
-    let whole = timed(choices);
-    line(&format!("run, {} choices", choices.len()), whole);
-    let mut times = whole;
-    for (time, start) in times.iter_mut().zip(start) {
-        *time = Time::each(*time, start, choices.len());
-    }
-    line(&format!("  {each} of it"), times);
+    let count = choices.len();
+    line(&format!("run, {count} choices"), whole);
+    let alone = [d.each(a, count), e.each(b, count), f.each(c, count)];
+    line(&format!("  {each} of it"), alone);
 }

@@ -274,3 +274,21 @@ fn with_passages(mut table: Table, passages: usize) -> Table {
     table.horizon = least;
     table
 }
+
+#[cfg(test)]
+mod tests {
+    use super::*;
+
+    /// Each one is asserted to be what it is said to be.
+    #[test]
+    fn all_tables_can_be_made() {
+        assert_eq!(rows().len(), 9);
+        assert_eq!(slow_rows().len(), 2);
+        assert_eq!(refused().len(), 6);
+    }
+
+    #[test]
+    fn eight_nodes_where_eight_are_said() {
+        assert!(rows()[1..].iter().all(|row| row.nodes == 8));
+    }
+}

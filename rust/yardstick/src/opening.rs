@@ -20,11 +20,12 @@ pub(crate) fn taken(
     clocks: &Clocks,
     variables: &Variables,
 ) -> Option<Taken> {
+    let signed = signed(clocks);
     let mut best: Option<Taken> = None;
     let mut least = i32::MAX;
     for number in Bits(component.location(location).from) {
         let edge = &component.edges[number % EDGES];
-        let (ready, end) = window(edge, clocks);
+        let (ready, end) = window(edge, &signed);
         if ready < end && ready < least && data_bounds_hold(edge, variables) {
             least = ready;
             best = Some(Taken {
@@ -42,15 +43,23 @@ pub(crate) fn taken(
 
 /// The first and the last tick at which invariant and clock bounds hold,
 /// counted from the entry. There is none if the first lies past the last.
+/// What is left to a low and what lies behind a high are greatest together:
+/// half against half, then quarter against quarter.
 #[inline]
-fn window(edge: &Edge, clocks: &Clocks) -> (i32, i32) {
-    let mut ready = 0;
-    let mut end = FAR;
-    for (clock, (low, high)) in clocks.iter().zip(edge.low.iter().zip(&edge.high)) {
-        ready = ready.max(low - clock);
-        end = end.min(high - clock);
+fn window(edge: &Edge, signed: &Bounds) -> (i32, i32) {
+    let mut left = [0; 2 * CLOCKS];
+    for (place, left) in left.iter_mut().enumerate() {
+        *left = edge.bounds[place] - signed[place];
     }
-    (ready, end)
+    let [a, b, c, d, e, f, g, h] = left;
+    let [a, b, c, d] = [a.max(e), b.max(f), c.max(g), d.max(h)];
+    (a.max(c).max(0), -b.max(d))
+}
+
+/// Each clock, then the same with its sign changed.
+#[inline]
+fn signed(&[a, b, c, d]: &Clocks) -> Bounds {
+    [a, -a, b, -b, c, -c, d, -d]
 }
 
 /// Whether the data bounds hold. Those of a variable hold together if it is

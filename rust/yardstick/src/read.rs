@@ -10,6 +10,9 @@ const RANGE: u8 = 5;
 /// "6. Does no receive edge list a channel twice?"
 const TWICE: u8 = 6;
 
+/// The bounds of an edge that has none.
+const NO_BOUNDS: Bounds = [0, -FAR, 0, -FAR, 0, -FAR, 0, -FAR];
+
 /// The greatest length of a table.
 const LONGEST: usize = 8192;
 
@@ -143,8 +146,7 @@ fn read_edge(
     location.from |= 1 << number;
     let edge = &mut component.edges[number % EDGES];
     *edge = Edge {
-        low: [0; CLOCKS],
-        high: [FAR; CLOCKS],
+        bounds: NO_BOUNDS,
         data_low: [i16::MIN; VARIABLES],
         data_high: [i16::MAX; VARIABLES],
         at,
@@ -158,7 +160,7 @@ fn read_edge(
         items,
         highs: 0,
     };
-    edge.high[usize::from(location.clock) % CLOCKS] = location.bound.into();
+    edge.bounds[2 * (usize::from(location.clock) % CLOCKS) + 1] = -i32::from(location.bound);
     for _ in 0..clock_bounds {
         clock_bound(rest, limits, edge)?;
     }
@@ -177,10 +179,10 @@ fn clock_bound(rest: &mut &[u8], limits: &Limits, edge: &mut Edge) -> Part<()> {
     let has_high = high != NO_HIGH;
     let in_range = (clock < limits.clocks) & (low <= MAX_TICKS) & ((high <= MAX_TICKS) | !has_high);
     demand(in_range, RANGE)?;
-    let clock = usize::from(clock) % CLOCKS;
+    let place = 2 * (usize::from(clock) % CLOCKS);
     let high = if has_high { i32::from(high) } else { FAR };
-    edge.low[clock] = edge.low[clock].max(low.into());
-    edge.high[clock] = edge.high[clock].min(high);
+    edge.bounds[place] = edge.bounds[place].max(low.into());
+    edge.bounds[place + 1] = edge.bounds[place + 1].max(-high);
     edge.highs += u8::from(has_high);
     Ok(())
 }

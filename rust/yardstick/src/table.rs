@@ -56,13 +56,17 @@ pub(crate) struct Location {
     pub(crate) from: u32,
 }
 
-/// An edge.
+/// The bounds of an edge on its clocks: for each clock the greatest low, then
+/// the least high with its sign changed, so that both are the greatest of
+/// their kind.
+pub(crate) type Bounds = [i32; 2 * CLOCKS];
+
+/// An edge, in a line of the processor's cache.
 #[derive(Clone, Copy, Default)]
+#[repr(align(64))]
 pub(crate) struct Edge {
-    /// The greatest low of each clock.
-    pub(crate) low: Clocks,
-    /// The least high of each clock, that of the invariant included.
-    pub(crate) high: Clocks,
+    /// The bounds on its clocks, that of the invariant included.
+    pub(crate) bounds: Bounds,
     /// The greatest low of each variable.
     pub(crate) data_low: Variables,
     /// The least high of each variable.

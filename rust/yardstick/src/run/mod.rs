@@ -131,26 +131,52 @@ impl Machine {
         }
         let node = &mut self.nodes[number % COMPONENTS];
         let statement = self.blocks.statement(node.place);
-        match statement.op {
-            op::SLEEP => self.sleep(network, number, places),
-            op::DONE => {
-                node.place += 1;
-                self.end_work(number);
-                Some(())
+        let Statement { op, a, k } = statement;
+        match op {
+            op::TRIAL => node.start_trial(),
+            op::LOW => node.raise(statement),
+            op::HIGH => node.lower(statement),
+            op::DATA_LOW => {
+                let holds = *node.variable(a) >= k as i16;
+                node.demand(holds);
             }
-            op::SEND => self.send(network, number),
-            op::LISTEN => self.time_out(number, statement),
-            op::TAKE => self.take(network, number),
-            op::CHOOSE => {
-                let place = self.blocks.of_location(network, number, node.location);
-                node.choose(place);
-                Some(())
+            op::DATA_HIGH => {
+                let holds = *node.variable(a) <= k as i16;
+                node.demand(holds);
             }
-            _ => {
-                node.calculate(statement);
-                Some(())
-            }
+            op::KEEP => node.keep(k as u8),
+            op::AGE => node.age(a),
+            op::ZERO => node.zero(a),
+            op::ENTER => node.enter(k as u8),
+            op::SET => *node.variable(a) = k as i16,
+            // Check 9 keeps the sum in range.
+            op::ADD => *node.variable(a) = node.variable(a).wrapping_add(k as i16),
+            op::SLEEP => return self.sleep(network, number, places),
+            op::SEND => return self.send(network, number),
+            op::LISTEN => return self.time_out(number, a),
+            op::TAKE => return self.take(network, number),
+            op::CHOOSE => return self.choose(network, number),
+            _ => return self.done(number),
         }
+        node.place += 1;
+        Some(())
+    }
+
+    /// Goes to the block of the present location.
+    #[inline]
+    fn choose(&mut self, network: &Network, number: usize) -> Option<()> {
+        let node = &mut self.nodes[number % COMPONENTS];
+        let place = self.blocks.of_location(network, number, node.location);
+        node.choose(place);
+        Some(())
+    }
+
+    /// Internal work is done.
+    #[inline]
+    fn done(&mut self, number: usize) -> Option<()> {
+        self.nodes[number % COMPONENTS].place += 1;
+        self.end_work(number);
+        Some(())
     }
 
     /// Not allowed: "a take with nothing kept". Behind it stands a sleep.
@@ -206,12 +232,12 @@ impl Machine {
 
     /// Not allowed: "a listen unless its window ends now".
     #[inline]
-    fn time_out(&mut self, number: usize, listen: Statement) -> Option<()> {
+    fn time_out(&mut self, number: usize, pairs: u8) -> Option<()> {
         let node = &mut self.nodes[number % COMPONENTS];
         if node.window_end() != self.tick {
             return None;
         }
-        node.place += 1 + usize::from(listen.a);
+        node.place += 1 + usize::from(pairs);
         self.end_work(number);
         Some(())
     }

@@ -1,8 +1,7 @@
-//! One node's registers, and the statements that change nothing else.
+//! One node's registers, and what statements do to them.
 
 use super::code::Statement;
 use crate::table::*;
-use crate::translate::op;
 use crate::OBSERVATION;
 
 /// The ready delay of a node that has kept no edge.
@@ -85,31 +84,55 @@ impl Node {
         self.kept = [NOTHING_KEPT, 0];
     }
 
-    /// The statements that change registers only.
+    /// "Trial starts with ready delay 0".
     #[inline]
-    pub(super) fn calculate(&mut self, Statement { op, a, k }: Statement) {
-        let place = usize::from(a) % CLOCKS;
-        match op {
-            op::TRIAL => self.trial = [0, FAR],
-            op::LOW => self.trial[0] = self.trial[0].max(i32::from(k) - self.clocks[place]),
-            op::HIGH => self.trial[1] = self.trial[1].min(i32::from(k) - self.clocks[place]),
-            op::DATA_LOW if self.variables[place] < k as i16 => self.trial[1] = FAILED,
-            op::DATA_HIGH if self.variables[place] > k as i16 => self.trial[1] = FAILED,
-            op::KEEP => self.keep(k as u8),
-            op::AGE => self.clocks[place] += (self.n + self.d) as i32,
-            op::ZERO => self.clocks[place] = 0,
-            op::ENTER => self.enter(k as u8),
-            op::SET => self.variables[place] = k as i16,
-            // Check 9 keeps the sum in range.
-            op::ADD => self.variables[place] = self.variables[place].wrapping_add(k as i16),
-            _ => {}
+    pub(super) fn start_trial(&mut self) {
+        self.trial = [0, FAR];
+    }
+
+    /// "low raises it to k − clock".
+    #[inline]
+    pub(super) fn raise(&mut self, Statement { a, k, .. }: Statement) {
+        let left = i32::from(k) - self.clocks[usize::from(a) % CLOCKS];
+        self.trial[0] = self.trial[0].max(left);
+    }
+
+    /// "high lowers the trial's end to k − clock".
+    #[inline]
+    pub(super) fn lower(&mut self, Statement { a, k, .. }: Statement) {
+        let left = i32::from(k) - self.clocks[usize::from(a) % CLOCKS];
+        self.trial[1] = self.trial[1].min(left);
+    }
+
+    /// "a bound not met fails the trial".
+    #[inline]
+    pub(super) fn demand(&mut self, holds: bool) {
+        if !holds {
+            self.trial[1] = FAILED;
         }
-        self.place += 1;
+    }
+
+    /// A variable.
+    #[inline]
+    pub(super) fn variable(&mut self, number: u8) -> &mut i16 {
+        &mut self.variables[usize::from(number) % VARIABLES]
+    }
+
+    /// "Age adds n + d."
+    #[inline]
+    pub(super) fn age(&mut self, clock: u8) {
+        self.clocks[usize::from(clock) % CLOCKS] += (self.n + self.d) as i32;
+    }
+
+    /// A clock becomes 0.
+    #[inline]
+    pub(super) fn zero(&mut self, clock: u8) {
+        self.clocks[usize::from(clock) % CLOCKS] = 0;
     }
 
     /// "Keep applies the candidate rule".
     #[inline]
-    fn keep(&mut self, edge: u8) {
+    pub(super) fn keep(&mut self, edge: u8) {
         let [ready, end] = self.trial;
         if ready < end && ready < self.kept[0] {
             self.kept = self.trial;
@@ -119,7 +142,7 @@ impl Node {
 
     /// "Enter goes to location k, after a message to the paired one."
     #[inline]
-    fn enter(&mut self, location: u8) {
+    pub(super) fn enter(&mut self, location: u8) {
         let paired = std::mem::replace(&mut self.paired, NO_LOCATION);
         self.location = if paired == NO_LOCATION {
             location
