@@ -1,104 +1,124 @@
-//! Times the exported library against the second implementation, both in this
-//! one run and both with the release profile.
-#![forbid(unsafe_code)]
+//! Times the exported library beside the second implementation and the
+//! yardstick, all in this one run and with the release profile:
+//! `benchmark [--quick]`.
+#![deny(unsafe_code)]
 
 mod clock;
+mod processor;
+mod report;
+mod tables;
 
-use clock::{by_turns, REPETITIONS};
-use comparison::random::Random;
+use clock::{in_turns, Effort};
 use comparison::readers::{Reader, Readers};
-use comparison::runs::choices::{draw, Manner};
 use comparison::runs::{Subject, AMPLE};
-use comparison::tables::planned::{greatest_horizon, table, Plan, Style};
-use comparison::tables::{of_length, Values, WORKED_EXAMPLE};
-use reference::checks::verdict;
-use reference::table::write_table;
+use report::{heading, line, SIDES};
+use std::env;
 use std::hint::black_box;
 use std::process::ExitCode;
-use timed_network::{check, program, FIELDS, MAX_CHOICES, MAX_PASSAGES, MAX_PROGRAM};
-
-/// The length of the table that is refused as soon as it has been read.
-const LARGE: usize = 8000;
+use tables::Row;
+use timed_network::{FIELDS, MAX_PASSAGES, MAX_PROGRAM};
 
 fn main() -> ExitCode {
+    let words: Vec<String> = env::args().skip(1).collect();
+    let words: Vec<&str> = words.iter().map(String::as_str).collect();
+    let effort = match words[..] {
+        [] => Effort::FULL,
+        ["--quick"] => Effort::QUICK,
+        _ => {
+            eprintln!("usage: benchmark [--quick]");
+            return ExitCode::from(2);
+        }
+    };
     if cfg!(debug_assertions) {
         eprintln!("benchmark: build it with --release");
         return ExitCode::from(2);
     }
-    println!("ns per call, median of {REPETITIONS} repetitions; of the run to the horizon also ns");
-    println!("per choice, checks and translation included. What is lent is the same for all calls");
-    println!("of a loop and holds every result.");
-    let tables = [
-        ("worked example", WORKED_EXAMPLE.to_vec()),
-        ("a hub and 7 probes", hub_and_probes()),
-        ("large generated table", generated()),
-    ];
-    for (name, table) in &tables {
-        if !agree(table) {
-            eprintln!("benchmark: {name}: the answers differ");
-            return ExitCode::from(1);
+    match measure(effort) {
+        Ok(()) => ExitCode::SUCCESS,
+        Err(problem) => {
+            eprintln!("benchmark: {problem}");
+            ExitCode::from(1)
         }
-        report(name, table);
     }
-    ExitCode::SUCCESS
 }
 
-/// 8 nodes, with as many rounds as there is room for.
-fn hub_and_probes() -> Vec<u8> {
-    let plan = Plan::regular(7, 4, 2, 100);
-    let mut random = Random::new(Random::SEED);
-    let lanes = plan.plain_lanes();
-    let mut table = table(&mut random, &lanes, plan.channels, 1, &Style::PLAIN);
-    table.horizon = greatest_horizon(&table);
-    write_table(&table)
+/// The library, the second implementation and the yardstick.
+fn sides() -> [Reader; SIDES] {
+    let Readers { library, second } = Readers::real();
+    [library, second, Reader::yardstick()]
 }
 
-/// A large table that is refused as soon as it has been read.
-fn generated() -> Vec<u8> {
-    let large = of_length(&mut Random::new(Random::SEED), LARGE, Values::Any);
-    write_table(&large)
+fn measure(effort: Effort) -> Result<(), String> {
+    let Effort { rounds, .. } = effort;
+    println!(
+        "Processor time in ns a call, least and median of {rounds} rounds. What is lent is the"
+    );
+    println!(
+        "same for all calls of a loop and holds every result. A choice's and a tick's time is"
+    );
+    println!("that of a run to the horizon without its start, which has the checks.");
+    heading();
+    for row in &tables::rows() {
+        let choices = demand_agreement(row)?;
+        title(row);
+        time_calls(effort, row);
+        time_run(effort, row, &choices, "a choice");
+    }
+    for row in &tables::slow_rows() {
+        let choices = demand_agreement(row)?;
+        title(row);
+        time_run(effort, row, &choices, "a tick");
+    }
+    println!("refused tables");
+    for (number, table) in &tables::refused() {
+        let call = |reader: Reader| move || (reader.check)(black_box(table));
+        let name = format!("check: {number}, {} bytes", table.len());
+        line(&name, in_turns(effort, sides().map(call)));
+    }
+    Ok(())
 }
 
-/// What is lent to one side.
-struct Lent {
-    list: Vec<u32>,
-    bytes: Vec<u8>,
+/// The row's name and sizes.
+fn title(row: &Row) {
+    let Row {
+        name,
+        table,
+        nodes,
+        passages,
+    } = row;
+    let bytes = table.len();
+    println!("{name}: {bytes} bytes, {nodes} nodes, {passages} passages");
 }
 
-/// What is lent to each side.
-fn lent() -> [Lent; 2] {
-    [(); 2].map(|()| Lent {
-        list: vec![0; FIELDS * MAX_PASSAGES],
-        bytes: vec![0; MAX_PROGRAM],
-    })
+/// Choices to the horizon, everything finished as early as it can be.
+fn choices_to_the_horizon(row: &Row) -> Result<Vec<u8>, String> {
+    let subject = Subject::new(&row.table);
+    let subject = subject.ok_or(format!("{}: the table is refused", row.name))?;
+    Ok(choices::early(&subject.demand()))
 }
 
-/// Choices to the horizon, everything finished as early as it can be; none
-/// for a table that is refused.
-fn choices(table: &[u8]) -> Vec<u8> {
-    let mut random = Random::new(Random::SEED);
-    let subject = Subject::new(table);
-    subject.map_or(Vec::new(), |subject| {
-        draw(&mut random, &subject.demand(), Manner::Early, MAX_CHOICES)
-    })
+/// All answers of an implementation to a row, and what it writes.
+fn answers(reader: &Reader, table: &[u8], choices: &[u8]) -> String {
+    let mut list = vec![0; FIELDS * MAX_PASSAGES];
+    let mut bytes = vec![0; MAX_PROGRAM];
+    let verdict = (reader.check)(table);
+    let scheduled = (reader.schedule)(table, &mut list);
+    let translated = (reader.translate)(table, &mut bytes);
+    let program = bytes[..translated.size].to_vec();
+    let last = (reader.part)(&program, last_node(&program)).to_vec();
+    let ran = (reader.run)(table, choices, &mut bytes[..AMPLE]);
+    format!("{verdict} {scheduled:?} {translated:?} {ran:?} {list:?} {last:?} {bytes:?}")
 }
 
-/// Whether both give the same answers and write the same.
-fn agree(table: &[u8]) -> bool {
-    let choices = choices(table);
-    let all = |reader: &Reader, mut lent: Lent| {
-        let verdict = (reader.check)(table);
-        let scheduled = (reader.schedule)(table, &mut lent.list);
-        let translated = (reader.translate)(table, &mut lent.bytes);
-        let program = lent.bytes[..translated.size].to_vec();
-        let last = (reader.part)(&program, last_node(&program)).to_vec();
-        let ran = (reader.run)(table, &choices, &mut lent.bytes[..AMPLE]);
-        let calls = (verdict, scheduled, translated, ran);
-        (calls, lent.list, program, last, lent.bytes)
-    };
-    let [first, second] = lent();
-    let readers = Readers::real();
-    all(&readers.library, first) == all(&readers.second, second)
+/// The choices of a row, after all sides have given the same answers.
+fn demand_agreement(row: &Row) -> Result<Vec<u8>, String> {
+    let choices = choices_to_the_horizon(row)?;
+    let [library, second, yardstick] = sides().map(|side| answers(&side, &row.table, &choices));
+    if library == second && library == yardstick {
+        Ok(choices)
+    } else {
+        Err(format!("{}: the answers differ", row.name))
+    }
 }
 
 /// The number of a program's last node.
@@ -106,71 +126,50 @@ fn last_node(program: &[u8]) -> u8 {
     program.get(3).map_or(0, |count| count - 1)
 }
 
-/// The rows of one table.
-fn report(name: &str, table: &[u8]) {
-    println!();
-    println!("{name}, {} bytes, {}:", table.len(), outcome(table));
-    let Readers { library, second } = Readers::real();
-    let verdict = |reader: Reader| move || (reader.check)(black_box(table));
-    row(
-        "verdict",
-        by_turns(&mut verdict(library), &mut verdict(second)),
-    );
-    if let Ok(program) = program(table) {
-        report_accepted(table, &program, [library, second]);
-    }
-}
-
-/// The rows of an accepted table.
-fn report_accepted(table: &[u8], program: &[u8], [library, second]: [Reader; 2]) {
-    let [mut first, mut other] = lent();
-    let (one, two) = (&mut first.list, &mut other.list);
-    let times = by_turns(
-        &mut || (library.schedule)(black_box(table), one),
-        &mut || (second.schedule)(black_box(table), two),
-    );
-    row("schedule", times);
-    let (one, two) = (&mut first.bytes, &mut other.bytes);
-    let times = by_turns(
-        &mut || (library.translate)(black_box(table), one),
-        &mut || (second.translate)(black_box(table), two),
-    );
-    row("translate", times);
+/// Times check, schedule, translate and part.
+fn time_calls(effort: Effort, row: &Row) {
+    let table = &row.table[..];
+    let check = |reader: Reader| move || (reader.check)(black_box(table));
+    line("check", in_turns(effort, sides().map(check)));
+    let schedule = |reader: Reader| {
+        let mut list = vec![0; FIELDS * MAX_PASSAGES];
+        move || (reader.schedule)(black_box(table), &mut list)
+    };
+    line("schedule", in_turns(effort, sides().map(schedule)));
+    let translate = |reader: Reader| {
+        let mut program = vec![0; MAX_PROGRAM];
+        move || (reader.translate)(black_box(table), &mut program)
+    };
+    line("translate", in_turns(effort, sides().map(translate)));
+    let mut program = vec![0; MAX_PROGRAM];
+    let size = (sides()[0].translate)(table, &mut program).size;
+    let program = &program[..size];
     let node = last_node(program);
-    let times = by_turns(
-        &mut || (library.part)(black_box(program), node).len(),
-        &mut || (second.part)(black_box(program), node).len(),
-    );
-    row("part", times);
-    let all = choices(table);
-    for choices in [&[], &all[..]] {
-        let times = by_turns(
-            &mut || (library.run)(black_box(table), choices, one),
-            &mut || (second.run)(black_box(table), choices, two),
-        );
-        match choices.len() {
-            0 => row("run, no choices", times),
-            count => {
-                row("run to the horizon", times);
-                let each = times.map(|time| time / count as f64);
-                row(&format!("each of {count} choices"), each);
-            }
-        }
-    }
+    let part = |reader: Reader| move || (reader.part)(black_box(program), node).len();
+    line("part of the last node", in_turns(effort, sides().map(part)));
 }
 
-/// What is said of a table, with the number of its nodes and passages.
-fn outcome(table: &[u8]) -> String {
-    match verdict(table) {
-        Ok((table, passages)) => {
-            let nodes = table.components.len();
-            format!("{nodes} nodes, {} passages", passages.len())
-        }
-        Err(_) => check(table).to_string(),
-    }
-}
-
-fn row(call: &str, [library, reference]: [f64; 2]) {
-    let ratio = library / reference;
-    println!("  {call:<23} library {library:12.1}   reference {reference:12.1}   ratio {ratio:.2}");
+/// Times the start of a run, a run to the horizon, and each of its choices.
+fn time_run(effort: Effort, row: &Row, choices: &[u8], each: &str) {
+    let table = &row.table[..];
+    let run = |reader: Reader, choices: &'_ [u8]| {
+        let (choices, mut bytes) = (choices.to_vec(), vec![0; AMPLE]);
+        move || (reader.run)(black_box(table), black_box(&choices), &mut bytes)
+    };
+    let [library, plain, yardstick] = sides();
+    let calls = [
+        run(library, &[]),
+        run(plain, &[]),
+        run(yardstick, &[]),
+        run(library, choices),
+        run(plain, choices),
+        run(yardstick, choices),
+    ];
+    let [a, b, c, d, e, f] = in_turns(effort, calls);
+    let (start, whole) = ([a, b, c], [d, e, f]);
+    line("start of a run", start);
+    let count = choices.len();
+    line(&format!("run, {count} choices"), whole);
+    let alone = [d.each(a, count), e.each(b, count), f.each(c, count)];
+    line(&format!("  {each} of it"), alone);
 }

@@ -58,7 +58,7 @@ pub struct Difference {
     pub call: String,
     /// What the library says.
     pub library: String,
-    /// What the second implementation says.
+    /// What the other implementation says.
     pub second: String,
     /// What has to be said, where something is known.
     pub expected: Option<String>,
@@ -70,7 +70,7 @@ impl fmt::Display for Difference {
         writeln!(out, "input: {}", hex(&self.input))?;
         writeln!(out, "call: {}", self.call)?;
         writeln!(out, "library: {}", self.library)?;
-        write!(out, "second implementation: {}", self.second)?;
+        write!(out, "other implementation: {}", self.second)?;
         match &self.expected {
             Some(expected) => write!(out, "\nexpected: {expected}"),
             None => Ok(()),

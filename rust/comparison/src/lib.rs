@@ -1,6 +1,7 @@
-//! Holds the exported library against the second implementation.
+//! Holds the exported library against the second implementation, and against
+//! the yardstick of speed.
 //!
-//! Both get the same tables, class after class, and are lent lists and bytes
+//! Both sides get the same tables, class after class, and are lent lists and bytes
 //! of the same lengths for schedules, programs and observations; the first
 //! difference ends the comparison. Each run is also held to demand 3.
 //! [`tables`] makes well-formed tables, [`layout`] and [`bytes`] serve to
@@ -13,6 +14,7 @@ pub mod buffers;
 pub mod bytes;
 pub mod classes;
 pub mod difference;
+mod fast;
 pub mod layout;
 pub mod lists;
 pub mod programs;

@@ -1,4 +1,6 @@
-//! The comparison as a program: `comparison [SEED]`.
+//! The comparison as a program: `comparison [SEED]`. The library is held
+//! against the second implementation, then, on a share of the same cases,
+//! against the yardstick of speed.
 //!
 //! Exit status 0: no difference; 1: a difference, or something that had to be
 //! tried was not; 2: wrong use, or a file that cannot be read.
@@ -13,11 +15,17 @@ use comparison::{cases, compare, gaps, Least};
 use std::env;
 use std::process::ExitCode;
 
-/// The comparison has to try at least so much.
+/// The comparison with the second implementation has to try at least so much.
 const LEAST: Least = Least {
     cases: 100_000,
     runs: 50_000,
     of_each_kind: 500,
+};
+/// The comparison with the yardstick has to try at least so much.
+const LEAST_SHARE: Least = Least {
+    cases: 20_000,
+    runs: 10_000,
+    of_each_kind: 100,
 };
 
 fn main() -> ExitCode {
@@ -27,9 +35,20 @@ fn main() -> ExitCode {
         return ExitCode::from(2);
     };
     println!("seed: {seed}");
+    println!("the library against the second implementation:");
+    let agree = hold(&Readers::real(), seed, &Extent::FULL, &LEAST);
+    if agree != ExitCode::SUCCESS {
+        return agree;
+    }
+    println!("the library against the yardstick, a share of the same cases:");
+    hold(&Readers::fast(), seed, &Extent::SHARE, &LEAST_SHARE)
+}
+
+/// Compares two implementations, and tells the first difference.
+fn hold(readers: &Readers, seed: u64, extent: &Extent, least: &Least) -> ExitCode {
     let show = |tally: &Tally| println!("{tally}");
-    match compare(&Readers::real(), seed, &Extent::FULL, show) {
-        Ok(tallies) => conclude(&tallies),
+    match compare(readers, seed, extent, show) {
+        Ok(tallies) => conclude(&tallies, least),
         Err(Stop::Differs(difference)) => {
             println!("comparison: {difference}");
             ExitCode::from(1)
@@ -51,9 +70,9 @@ fn seed(words: &[String]) -> Option<u64> {
 }
 
 /// The last lines, after all classes went through without a difference.
-fn conclude(tallies: &[Tally]) -> ExitCode {
+fn conclude(tallies: &[Tally], least: &Least) -> ExitCode {
     println!("{}", Tally::sum(tallies));
-    let gaps = gaps(tallies, &LEAST);
+    let gaps = gaps(tallies, least);
     for gap in &gaps {
         println!("comparison: {gap}");
     }

@@ -1,5 +1,6 @@
-//! The two implementations that are compared.
+//! The implementations that are compared, two at a time.
 
+use crate::fast;
 use reference::calls;
 use reference::table::Refusal;
 use timed_network::{Call, RunNumbers, Verdict, FIELDS, NO_MESSAGE, NO_NODE};
@@ -36,7 +37,7 @@ pub struct Reader {
 pub struct Readers {
     /// The exported library.
     pub library: Reader,
-    /// The second implementation.
+    /// The second implementation, or another one in its place.
     pub second: Reader,
 }
 
@@ -53,6 +54,14 @@ impl Readers {
         let second = Reader::second();
         Readers { library, second }
     }
+
+    /// The library against the yardstick of speed.
+    pub fn fast() -> Readers {
+        Readers {
+            second: Reader::yardstick(),
+            ..Readers::real()
+        }
+    }
 }
 
 impl Reader {
@@ -65,6 +74,11 @@ impl Reader {
             part: second_part,
             run: second_run,
         }
+    }
+
+    /// The yardstick of speed.
+    pub fn yardstick() -> Reader {
+        fast::READER
     }
 }
 

@@ -37,6 +37,12 @@ impl Extent {
         rounds: 1000,
         step: 1,
     };
+    /// A share of the same cases: the first of those made at random, and
+    /// every fourth place of a table.
+    pub const SHARE: Extent = Extent {
+        rounds: 200,
+        step: 4,
+    };
     /// A few cases of each class.
     pub const SHORT: Extent = Extent {
         rounds: 10,

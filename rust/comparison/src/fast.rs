@@ -1,0 +1,89 @@
+//! The yardstick of speed as an implementation to be compared. One yardstick
+//! a thread answers all calls, so that what a call leaves in its buffers is
+//! there when the next one is made.
+
+use crate::readers::{refused, Reader};
+use std::cell::RefCell;
+use timed_network::{Call, RunNumbers, Verdict, NO_NODE};
+use yardstick::{Refusal, Run, Yardstick};
+
+thread_local! {
+    static YARDSTICK: RefCell<Yardstick> = RefCell::new(Yardstick::new());
+}
+
+/// Makes a call of this thread's yardstick.
+fn with<T>(call: impl FnOnce(&mut Yardstick) -> T) -> T {
+    YARDSTICK.with(|yardstick| call(&mut yardstick.borrow_mut()))
+}
+
+/// The yardstick's calls.
+pub(crate) const READER: Reader = Reader {
+    check,
+    schedule,
+    translate,
+    part,
+    run,
+};
+
+fn check(table: &[u8]) -> Verdict {
+    match with(|yardstick| yardstick.check(table)) {
+        Ok(()) => Verdict::Accepted,
+        Err(refusal) => verdict(refusal),
+    }
+}
+
+fn schedule(table: &[u8], list: &mut [u32]) -> Call {
+    answer(with(|yardstick| yardstick.schedule(table, list)))
+}
+
+fn translate(table: &[u8], program: &mut [u8]) -> Call {
+    answer(with(|yardstick| yardstick.translate(table, program)))
+}
+
+fn part(program: &[u8], node: u8) -> &[u8] {
+    &program[yardstick::part(program, node)]
+}
+
+fn run(table: &[u8], choices: &[u8], observations: &mut [u8]) -> RunNumbers {
+    match with(|yardstick| yardstick.run(table, choices, observations)) {
+        Ok(run) => ran(&run),
+        Err(refusal) => RunNumbers {
+            number: refusal.number,
+            component: refusal.component,
+            end: 0,
+            node: NO_NODE,
+            tick: 0,
+            used: 0,
+            size: 0,
+        },
+    }
+}
+
+fn ran(run: &Run) -> RunNumbers {
+    RunNumbers {
+        number: 0,
+        component: 255,
+        end: run.end as u8,
+        node: run.node,
+        tick: run.tick,
+        used: run.used,
+        size: run.size as u32,
+    }
+}
+
+fn answer(size: Result<usize, Refusal>) -> Call {
+    match size {
+        Ok(size) => Call {
+            verdict: Verdict::Accepted,
+            size,
+        },
+        Err(refusal) => Call {
+            verdict: verdict(refusal),
+            size: 0,
+        },
+    }
+}
+
+fn verdict(refusal: Refusal) -> Verdict {
+    refused(refusal.number, refusal.component)
+}

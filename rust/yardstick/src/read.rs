@@ -1,0 +1,251 @@
+//! Checks 1 to 6: the table's bytes decoded, "reading front to back".
+
+use crate::table::*;
+use crate::Refusal;
+
+/// "4. Does each part fit its component, and end exactly there [...]?"
+const FIT: u8 = 4;
+/// "5. Is every number in its range and every mask bit a clock?"
+const RANGE: u8 = 5;
+/// "6. Does no receive edge list a channel twice?"
+const TWICE: u8 = 6;
+
+/// The bounds of an edge that has none.
+const NO_BOUNDS: Bounds = [0, -FAR, 0, -FAR, 0, -FAR, 0, -FAR];
+
+/// The greatest length of a table.
+const LONGEST: usize = 8192;
+
+/// What a part is refused with, or nothing.
+type Part<T> = Result<T, u8>;
+
+/// Decodes a table.
+pub(crate) fn read(bytes: &[u8], table: &mut Table) -> Result<(), Refusal> {
+    let (channels, mut rest) = header(bytes, table)?;
+    for number in 0..table.count {
+        let start = bytes.len() - rest.len();
+        let own = split_component(&mut rest).map_err(|fault| Refusal::of(fault, number))?;
+        let component = &mut table.components[number % COMPONENTS];
+        let read = read_component(own, start, channels, component);
+        read.map_err(|fault| Refusal::of(fault, number))?;
+    }
+    if rest.is_empty() {
+        Ok(())
+    } else {
+        Err(Refusal::of(FIT, table.count - 1))
+    }
+}
+
+/// Checks 1 to 3: the channels, and the bytes behind the header.
+fn header<'a>(bytes: &'a [u8], table: &mut Table) -> Result<(u8, &'a [u8]), Refusal> {
+    if bytes.first() != Some(&1) {
+        return Err(Refusal::whole(1));
+    }
+    let Some((&[_, high, low, components, channels, first, second], rest)) =
+        bytes.split_first_chunk::<HEAD>()
+    else {
+        return Err(Refusal::whole(2));
+    };
+    if usize::from(two(high, low)) != bytes.len() || bytes.len() > LONGEST {
+        return Err(Refusal::whole(2));
+    }
+    let horizon = two(first, second);
+    let in_range =
+        matches!(components, 1..=8) & (channels <= 16) & matches!(horizon, 1..=MAX_TICKS);
+    if !in_range {
+        return Err(Refusal::whole(3));
+    }
+    table.horizon = horizon.into();
+    table.count = components.into();
+    Ok((channels, rest))
+}
+
+/// Splits the next component off, its two length bytes included.
+fn split_component<'a>(rest: &mut &'a [u8]) -> Part<&'a [u8]> {
+    let &[high, low] = rest.first_chunk().ok_or(FIT)?;
+    let length = usize::from(two(high, low));
+    let (own, behind) = rest.split_at_checked(length).ok_or(FIT)?;
+    *rest = behind;
+    Ok(own)
+}
+
+/// What the numbers of a component's parts stay below.
+struct Limits {
+    locations: u8,
+    clocks: u8,
+    variables: u8,
+    channels: u8,
+}
+
+/// Decodes a component that starts at a place of the table.
+fn read_component(own: &[u8], start: usize, channels: u8, component: &mut Component) -> Part<()> {
+    let mut rest = own;
+    let &[_, _, locations, initial, clocks, variables, edges] = take(&mut rest)?;
+    let in_range = matches!(locations, 1..=16)
+        & (initial < locations)
+        & matches!(clocks, 1..=4)
+        & (variables <= 4)
+        & matches!(edges, 1..=32);
+    demand(in_range, RANGE)?;
+    let limits = Limits {
+        locations,
+        clocks,
+        variables,
+        channels,
+    };
+    component.initial = initial;
+    component.clocks = clocks;
+    component.location_count = locations;
+    component.edge_count = edges;
+    for place in &mut component.locations[..usize::from(locations).min(LOCATIONS)] {
+        *place = location(&mut rest, clocks)?;
+    }
+    for number in 0..usize::from(edges).min(EDGES) {
+        let at = start + own.len() - rest.len();
+        read_edge(&mut rest, at as u16, number, &limits, component)?;
+    }
+    demand(rest.is_empty(), FIT)
+}
+
+/// "Location, 3 bytes: clock, and bound q (0 to 60,000)."
+#[inline]
+fn location(rest: &mut &[u8], clocks: u8) -> Part<Location> {
+    let &[clock, high, low] = take::<LOCATION>(rest)?;
+    let bound = two(high, low);
+    demand((clock < clocks) & (bound <= MAX_TICKS), RANGE)?;
+    Ok(Location {
+        clock,
+        bound,
+        from: 0,
+    })
+}
+
+/// Decodes an edge that stands at a place of the table.
+#[inline]
+fn read_edge(
+    rest: &mut &[u8],
+    at: u16,
+    number: usize,
+    limits: &Limits,
+    component: &mut Component,
+) -> Part<()> {
+    let &[kind, source, destination, mask, clock_bounds, data_bounds, items] = take::<HEAD>(rest)?;
+    let in_range = (source < limits.locations)
+        & (destination < limits.locations)
+        & (mask >> limits.clocks == 0)
+        & (clock_bounds <= 4)
+        & (data_bounds <= 4);
+    demand(in_range, RANGE)?;
+    let kind = match kind {
+        0 if items <= 4 => Kind::Internal,
+        1 if items == 1 => Kind::Send,
+        2 if data_bounds == 0 && matches!(items, 1..=8) => Kind::Receive,
+        _ => return Err(RANGE),
+    };
+    let location = &mut component.locations[usize::from(source) % LOCATIONS];
+    location.from |= 1 << number;
+    let edge = &mut component.edges[number % EDGES];
+    *edge = Edge {
+        bounds: NO_BOUNDS,
+        data_low: [i16::MIN; VARIABLES],
+        data_high: [i16::MAX; VARIABLES],
+        at,
+        channels: 0,
+        kind,
+        source,
+        destination,
+        mask,
+        clock_bounds,
+        data_bounds,
+        items,
+        highs: 0,
+    };
+    edge.bounds[2 * (usize::from(location.clock) % CLOCKS) + 1] = -i32::from(location.bound);
+    for _ in 0..clock_bounds {
+        clock_bound(rest, limits, edge)?;
+    }
+    for _ in 0..data_bounds {
+        data_bound(rest, limits, edge)?;
+    }
+    read_items(rest, limits, edge)
+}
+
+/// "Clock bound, 5 bytes: clock, low (0 to 60,000), high (0 to 60,000, or
+/// 65,535 for none)."
+#[inline]
+fn clock_bound(rest: &mut &[u8], limits: &Limits, edge: &mut Edge) -> Part<()> {
+    let &[clock, a, b, c, d] = take::<BOUND>(rest)?;
+    let (low, high) = (two(a, b), two(c, d));
+    let has_high = high != NO_HIGH;
+    let in_range = (clock < limits.clocks) & (low <= MAX_TICKS) & ((high <= MAX_TICKS) | !has_high);
+    demand(in_range, RANGE)?;
+    let place = 2 * (usize::from(clock) % CLOCKS);
+    let high = if has_high { i32::from(high) } else { FAR };
+    edge.bounds[place] = edge.bounds[place].max(low.into());
+    edge.bounds[place + 1] = edge.bounds[place + 1].max(-high);
+    edge.highs += u8::from(has_high);
+    Ok(())
+}
+
+/// "Data bound, 5 bytes: variable, low, high, two's complement."
+#[inline]
+fn data_bound(rest: &mut &[u8], limits: &Limits, edge: &mut Edge) -> Part<()> {
+    let &[variable, a, b, c, d] = take::<BOUND>(rest)?;
+    demand(variable < limits.variables, RANGE)?;
+    let variable = usize::from(variable) % VARIABLES;
+    let (low, high) = (two(a, b) as i16, two(c, d) as i16);
+    edge.data_low[variable] = edge.data_low[variable].max(low);
+    edge.data_high[variable] = edge.data_high[variable].min(high);
+    Ok(())
+}
+
+/// Tries the items of an edge, and notes its channels.
+#[inline]
+fn read_items(rest: &mut &[u8], limits: &Limits, edge: &mut Edge) -> Part<()> {
+    match edge.kind {
+        Kind::Internal => {
+            for _ in 0..edge.items {
+                let &[variable, operation, _, _] = take::<UPDATE>(rest)?;
+                demand((variable < limits.variables) & (operation <= 1), RANGE)?;
+            }
+        }
+        Kind::Send => {
+            let &[channel] = take(rest)?;
+            demand(channel < limits.channels, RANGE)?;
+            edge.channels = 1 << channel;
+        }
+        Kind::Receive => {
+            for _ in 0..edge.items {
+                let &[channel, location] = take::<PAIR>(rest)?;
+                let in_range = (channel < limits.channels) & (location < limits.locations);
+                demand(in_range, RANGE)?;
+                let bit = 1 << channel;
+                demand(edge.channels & bit == 0, TWICE)?;
+                edge.channels |= bit;
+            }
+        }
+    }
+    Ok(())
+}
+
+/// The next bytes, which must fit.
+#[inline]
+fn take<'a, const N: usize>(rest: &mut &'a [u8]) -> Part<&'a [u8; N]> {
+    let (part, behind) = rest.split_first_chunk::<N>().ok_or(FIT)?;
+    *rest = behind;
+    Ok(part)
+}
+
+#[inline]
+fn demand(holds: bool, fault: u8) -> Part<()> {
+    if holds {
+        Ok(())
+    } else {
+        Err(fault)
+    }
+}
+
+#[inline]
+pub(crate) fn two(high: u8, low: u8) -> u16 {
+    u16::from_be_bytes([high, low])
+}

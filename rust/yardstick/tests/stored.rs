@@ -1,0 +1,60 @@
+//! The answers that the repository keeps: those of the vectors and of the
+//! corpus. One yardstick answers them all, so that nothing that a call leaves
+//! in its buffers may change a later answer.
+
+mod common;
+
+use common::*;
+use yardstick::{part, Refusal, Yardstick};
+
+fn program(yardstick: &mut Yardstick, table: &[u8]) -> Result<String, Refusal> {
+    let mut program = vec![0; 65_535];
+    let length = yardstick.translate(table, &mut program)?;
+    Ok(hex(&program[..length]))
+}
+
+fn answer(yardstick: &mut Yardstick, request: &[&str]) -> String {
+    let bytes = unhex(request[1]);
+    match (request[0], &request[2..]) {
+        ("check", []) => check(yardstick, &bytes),
+        ("schedule", []) => told(schedule(yardstick, &bytes).map(|lines| lines.join("|"))),
+        ("program", []) => told(program(yardstick, &bytes)),
+        ("part", [node]) => hex(&bytes[part(&bytes, node.parse().unwrap())]),
+        ("run", [choices]) => told(run(yardstick, &bytes, &unhex(choices))),
+        _ => panic!("no such request: {request:?}"),
+    }
+}
+
+#[test]
+fn all_vectors() {
+    let mut yardstick = Yardstick::new();
+    let mut counts = std::collections::BTreeMap::new();
+    for file in ["vectors/named.tsv", "vectors/random.tsv"] {
+        for line in text(file).lines() {
+            let fields: Vec<&str> = line.split('\t').collect();
+            let request: Vec<&str> = fields[1].split(' ').collect();
+            let given = answer(&mut yardstick, &request);
+            assert_eq!(given, fields[2], "{}: {}", fields[0], fields[1]);
+            *counts.entry(request[0].to_string()).or_insert(0) += 1;
+        }
+    }
+    assert_eq!(counts.len(), 5, "{counts:?}");
+}
+
+#[test]
+fn whole_corpus() {
+    let mut yardstick = Yardstick::new();
+    let mut accepted = 0;
+    for line in text("corpus/answers.tsv").lines() {
+        let (name, expected) = line.split_once('\t').unwrap();
+        let table = bytes(&format!("corpus/{name}.bin"));
+        assert_eq!(check(&mut yardstick, &table), expected, "{name}");
+        if expected == "accepted" {
+            let lines = text(&format!("corpus/{name}.schedule"));
+            let given = schedule(&mut yardstick, &table).unwrap();
+            assert_eq!(given, lines.lines().collect::<Vec<_>>(), "{name}");
+            accepted += 1;
+        }
+    }
+    assert!(accepted > 10, "{accepted} accepted");
+}
