@@ -6,12 +6,14 @@ use native.Mathlib.Omega.{arith}
 use borrow.Author.Tests.{eq-eqb, ne-eqb}
 use lib.ListN.{length, take, drop, length-append}
 use lib.Seq.{drop-drop}
+use Rattle.model.specs.declared.Action.the-variants.{Internal, Send, Receive}
 use Rattle.model.specs.Lists.{each}
 use Rattle.model.specs.Reader.{byte, word, clockGuardAt, dataGuardAt, updateAt, pairAt}
-use Rattle.model.specs.Places.{listAt, itemsPlace, arcLength, arcAt, updatesAt, pairsAt}
+use Rattle.model.specs.Places.{listAt, itemsPlace, arcLength, arcAt}
 use Rattle.model.specs.Program.{clockTests, code, blockBytes, nodeBytes}
 use Rattle.model.proofs.Walk.{list-length}
 use Rattle.model.proofs.ProgramSize.{total, trialLength, arcShare, workLength, Sourced, clock-tests-most, trial-parts, edge-block-length, node-length}
+use Rattle.decoder.proofs.ByAction.{internal-updates, receive-pairs}
 use Rattle.parts.proofs.Skim.{tail}
 use Rattle.blocks.specs.declared.Kind.the-variants.{ClockGuards}
 use Rattle.blocks.specs.Made.{madeOf, allMade}
@@ -58,19 +60,18 @@ none-counted h (suc k) q = absurd (omega arith)
 -- ## An edge
 
 module _ (h : List ℕ) where
-  pub send-length : byte h 0 ≡ 1 → 4 ≡ workLength (arcAt h) (arcAt h .edge .action)
-  unfolding workLength arcAt
-  send-length q = rw q
+  pub send-length : (channel : ℕ) → Send channel ≡ arcAt h .edge .action → 4 ≡ workLength (arcAt h) (arcAt h .edge .action)
+  unfolding workLength
+  send-length channel e = rw (← e)
 
   -- the others have a statement for each item
-  pub items-length : (byte h 0 ≡ 1 → ⊥) → byte h 6 * 4 + 4 ≡ workLength (arcAt h) (arcAt h .edge .action)
-  unfolding workLength arcAt updatesAt pairsAt
-  items-length q = go (byte h 0) q refl
-    where
-      go : (k : ℕ) → (k ≡ 1 → ⊥) → byte h 0 ≡ k → byte h 6 * 4 + 4 ≡ workLength (arcAt h) (arcAt h .edge .action)
-      go zero a e = rw e (omega (arith, list-length updateAt 4 (byte h 6) (drop (itemsPlace h) h)))
-      go (suc zero) a e = absurd (a refl)
-      go (suc (suc k)) a e = rw e (omega (arith, list-length pairAt 2 (byte h 6) (drop (itemsPlace h) h)))
+  pub internal-length : Internal ≡ arcAt h .edge .action → byte h 6 * 4 + 4 ≡ workLength (arcAt h) (arcAt h .edge .action)
+  unfolding workLength
+  internal-length e = rw (← e, internal-updates h e) (omega (arith, list-length updateAt 4 (byte h 6) (drop (itemsPlace h) h)))
+
+  pub receive-length : Receive ≡ arcAt h .edge .action → byte h 6 * 4 + 4 ≡ workLength (arcAt h) (arcAt h .edge .action)
+  unfolding workLength
+  receive-length e = rw (← e, receive-pairs h e) (omega (arith, list-length pairAt 2 (byte h 6) (drop (itemsPlace h) h)))
 
   trial-size : trialLength (arcAt h) ≡ 12 + length (allMade ClockGuards (byte h 4) (drop 7 h)) + 8 * byte h 5
   unfolding arcAt

@@ -15,6 +15,7 @@ ghost use Rattle.blocks.specs.FrontEdges.{arcsAt, ArcsFit};
 ghost use Rattle.blocks.specs.declared.Kind.the-variants.{ClockGuards};
 ghost use Rattle.translator.specs.Front.{frontComponent, Whole};
 ghost use Rattle.translator.specs.Laid.{locationBlocks, Ready, Laid, Aligned, nodeHead, programHead};
+use model::Action;
 
 fn wide(x: u8) -> usize
     ensures { λ r. ⌜ (r ≡ x) × (r < 256) ⌝ }
@@ -186,13 +187,15 @@ fn clocks_length(h: &[u8], n: u8) -> usize
 }
 
 fn work_length(h: &[u8]) -> usize
-    requires { ⌜ 7 ≤ length (now h) ⌝ }
+    requires { ⌜ arcLength (now h) ≤ length (now h) ⌝ }
     ensures { λ r. ⌜ (r ≡ workLength (arcAt (now (h .entry))) (arcAt (now (h .entry)) .edge .action)) × (r ≤ 1024) ⌝ }
 {
-    if h[0] == 1 {
-        return 4;
+    let action = decoder::action_at(h);
+    match action {
+        Action::Internal => wide(h[6]) * 4 + 4,
+        Action::Send(_) => 4,
+        Action::Receive => wide(h[6]) * 4 + 4,
     }
-    wide(h[6]) * 4 + 4
 }
 
 // How many bytes an edge adds to its node's part: its start, its trial and its block.

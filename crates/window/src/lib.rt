@@ -329,8 +329,9 @@ pub fn paired_location(h: &[u8], n: u8, channel: u8, other: u8) -> u8
     let mut at: usize = 0;
     let mut k = n;
     while 0 < k {
-        if h[at] == channel {
-            return h[at + 1];
+        let pair = decoder::pair_at(&h[at..]);
+        if pair.channel == channel {
+            return pair.location;
         }
         at += 2;
         k -= 1;

@@ -1,13 +1,13 @@
 -- `window::paired_location` meets its contract. Assumes nothing.
-use mathlib.Core.Path.{_≡_, refl, sym, _∙_}
+use mathlib.Core.Path.{_≡_, refl, sym, ap, _∙_}
 use Prim.Native.Nat.{_+_, _*_, _≤_}
 use native.Mathlib.Omega.{arith}
 use lib.ListN.{length, drop}
-use lib.Seq.{getD-drop}
+use Rattle.model.specs.declared.Pair.{Pair}
 use Rattle.model.specs.Reader.{pairAt}
 use Rattle.model.specs.Places.{listAt}
 use Rattle.model.specs.Window.{paired}
-use Rattle.parts.proofs.Skim.{first-of}
+use Rattle.window.proofs.Rests.{at-place}
 use Rattle.window.proofs.Leaving.{pair-found, pair-passed, pair-none}
 use borrow.Author.Needs.{needs}
 use Rattle.window.proofs.paired_location.Statement.{statement}
@@ -23,21 +23,25 @@ abbrev μ-loop : tie.MeasureT-loop
 loop-holds : tie.Need-loop-holds Inv-loop μ-loop
 loop-holds c = (search needs, refl)
 
-shared-slice-read-if1 : tie.Need-shared-slice-read-if1 Inv-loop μ-loop
-shared-slice-read-if1 c = search needs
+sub-pair-at : tie.Need-sub-pair-at Inv-loop μ-loop
+sub-pair-at c = search needs
 
-add-result : tie.Need-add-result Inv-loop μ-loop
-add-result c = search needs
+part-pair-at-start : tie.Need-part-pair-at-start Inv-loop μ-loop
+part-pair-at-start c = search needs
 
-shared-slice-read-result : tie.Need-shared-slice-read-result Inv-loop μ-loop
-shared-slice-read-result c = search needs
+part-pair-at-end : tie.Need-part-pair-at-end Inv-loop μ-loop
+part-pair-at-end c = search needs
+
+pair-at-requires : tie.Need-pair-at-requires Inv-loop μ-loop
+pair-at-requires c κs = search needs
 
 returns : tie.Need-returns Inv-loop μ-loop
 returns c =
-    let a = c .before .before .before .before .before .args in
-    let l = c .before .before .before .before .loop in
+    let a = c .before .before .before .before .before .before .before .args in
+    let l = c .before .before .before .before .before .loop in
     let h = a .h .now in
-    sym (getD-drop (l .at) h 1 0) ∙ pair-found h (l .at) (l .k) (a .channel) (a .other) _ (l .inv .1) (c .before .before .before .loop-test .taken) (first-of h (l .at) ∙ c .before .if1 .taken)
+    let pair = at-place pairAt h (l .at) (c .before .before .pair-at .ensures) in
+    ap (λ (q : Pair). q .location) pair ∙ pair-found h (l .at) (l .k) (a .channel) (a .other) _ (l .inv .1) (c .before .before .before .before .loop-test .taken) (sym (ap (λ (q : Pair). q .channel) pair) ∙ c .if1 .taken)
 
 add-at : tie.Need-add-at Inv-loop μ-loop
 add-at c = search needs
@@ -50,14 +54,15 @@ loop-less c = search needs
 
 loop-again : tie.Need-loop-again Inv-loop μ-loop
 loop-again c =
-    let a = c .before .before .before .before .args in
-    let l = c .before .before .before .loop in
+    let a = c .before .before .before .before .before .before .before .args in
+    let l = c .before .before .before .before .before .loop in
     let h = a .h .now in
-    (omega arith, pair-passed h (l .at) (l .k) (a .channel) (a .other) _ (l .inv .1) (c .before .before .loop-test .taken) (λ e. c .if1 .left (sym (first-of h (l .at)) ∙ e)))
+    let pair = at-place pairAt h (l .at) (c .before .before .pair-at .ensures) in
+    (omega arith, pair-passed h (l .at) (l .k) (a .channel) (a .other) _ (l .inv .1) (c .before .before .before .before .loop-test .taken) (λ e. c .if1 .left (ap (λ (q : Pair). q .channel) pair ∙ e)))
 
 returns-2 : tie.Need-returns-2 Inv-loop μ-loop
 returns-2 c =
-    let a = c .before .before .args in
+    let a = c .before .before .before .args in
     let l = c .before .loop in
     pair-none (a .h .now) (l .at) (l .k) (a .channel) (a .other) _ (l .inv .1) (omega arith)
 
@@ -68,9 +73,10 @@ paired-location-spec =
     Inv-loop
     μ-loop
     loop-holds
-    shared-slice-read-if1
-    add-result
-    shared-slice-read-result
+    sub-pair-at
+    part-pair-at-start
+    part-pair-at-end
+    pair-at-requires
     returns
     add-at
     sub-k
