@@ -17,6 +17,10 @@
 //! in the words of the schedule what a choice does; [`path`] takes the
 //! network's steps, each tried by the network's rules alone; [`observed`]
 //! compares what was written with what lies on that path.
+//!
+//! What is wrong is told with the name of the sentence that it breaks: the
+//! fields of the record `Demand3` in the definitions, `valid` to `refused`;
+//! `order` where observations do not stand in finishing order.
 #![forbid(unsafe_code)]
 #![warn(missing_docs)]
 
@@ -120,12 +124,18 @@ impl<'a> Demand<'a> {
         held.end(end, used, choices, claim)?;
         held.facts.reached = held.path.finish(u32::from(self.table.horizon))?;
         let late = held.facts.late_at_work | held.facts.late_for_sleep;
+        if held.facts.reached + u32::from(end == LATE) != claim.tick {
+            return Err(format!(
+                "reach: the path reaches tick {}, the run ends at {}",
+                held.facts.reached, claim.tick
+            ));
+        }
         let written = observed::read(claim.observations)?;
-        observed::in_order(&written, &held.sleeps)?;
         for component in 0..self.own.len() {
             let missing = end == LATE && late >> component & 1 == 1;
             observed::compare(&written, &held.path, component, claim.tick, missing)?;
         }
+        observed::in_order(&written, &held.sleeps)?;
         Ok(held.facts)
     }
 }
@@ -148,7 +158,7 @@ impl Held<'_> {
                 TICK => self.tick(),
                 node => self.finish(node),
             };
-            match ended.map_err(|problem| format!("choice {index}: {problem}"))? {
+            match ended.map_err(|problem| format!("{problem} (choice {index})"))? {
                 Some(NOT_ALLOWED) => return Ok((NOT_ALLOWED, index)),
                 Some(end) => return Ok((end, after)),
                 None if choice != TICK => self.listeners(after)?,
@@ -179,7 +189,9 @@ impl Held<'_> {
     /// A node finishes its statement: finished work is a step in.
     fn finish(&mut self, node: u8) -> Result<Option<u8>, String> {
         match self.walk.finish(node) {
-            Err(Refusal::NoListener) => return Err(format!("node {node} has no listener")),
+            Err(Refusal::NoListener) => {
+                return Err(format!("listener: node {node} has none"));
+            }
             Err(refusal) => {
                 self.facts.refusal = Some(refusal);
                 return Ok(Some(NOT_ALLOWED));
@@ -204,7 +216,7 @@ impl Held<'_> {
     fn listeners(&self, after: usize) -> Result<(), String> {
         match self.walk.ill_heard() {
             Some(node) => Err(format!(
-                "after {after} choices node {node}, yet to send, has not exactly one listener"
+                "listener: after {after} choices node {node}, yet to send, has not exactly one listener"
             )),
             None => Ok(()),
         }
@@ -221,11 +233,41 @@ impl Held<'_> {
         let tick = carried_out.filter(|choice| **choice == TICK).count();
         let found = (end, node, tick as u32, used as u32);
         let said = (claim.end, claim.node, claim.tick, claim.used);
-        if found == said {
-            return Ok(());
+        match broken(found, said, choices.len()) {
+            None => Ok(()),
+            Some(name) => Err(format!(
+                "{name}: end, node, tick, choices used are {found:?}, not {said:?}"
+            )),
         }
-        Err(format!(
-            "end, node, tick, choices used are {found:?}, not {said:?}"
-        ))
     }
+}
+
+/// End, node, tick and choices used.
+type Numbers = (u8, u8, u32, u32);
+
+/// The sentence that wrong numbers break.
+fn broken(found: Numbers, said: Numbers, choices: usize) -> Option<&'static str> {
+    let (end, node, tick, used) = found;
+    if said.3 as usize > choices {
+        return Some("used");
+    }
+    if end == LATE && (said.0 != LATE || said.3 > used || (said.3 == used && said.1 > node)) {
+        return Some("lateEnds");
+    }
+    if said.0 == LATE && (said.0, said.1, said.3) != (end, node, used) {
+        return Some("lateIs");
+    }
+    if end == HORIZON && said.3 > used {
+        return Some("notBefore");
+    }
+    if said.1 != node {
+        return Some("node");
+    }
+    if said.0 == NOT_ALLOWED && said.0 != end {
+        return Some("refused");
+    }
+    if said.0 != end || said.3 != used {
+        return Some("ended");
+    }
+    (said.2 != tick).then_some("ticks")
 }

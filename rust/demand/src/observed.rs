@@ -9,14 +9,17 @@ use crate::OBSERVATION;
 pub fn read(bytes: &[u8]) -> Result<Vec<Observation>, String> {
     let places = bytes.chunks_exact(OBSERVATION);
     if !places.remainder().is_empty() {
-        return Err(format!("{} bytes are not whole observations", bytes.len()));
+        return Err(format!(
+            "observed: {} bytes are not whole observations",
+            bytes.len()
+        ));
     }
     places.map(one).collect()
 }
 
 fn one(bytes: &[u8]) -> Result<Observation, String> {
     if bytes[3] != 0 {
-        return Err(format!("the fourth byte is {}", bytes[3]));
+        return Err(format!("observed: the fourth byte is {}", bytes[3]));
     }
     Ok(Observation {
         component: bytes[0],
@@ -42,7 +45,7 @@ pub fn in_order(written: &[Observation], sleeps: &[u8]) -> Result<(), String> {
         return Ok(());
     }
     Err(format!(
-        "observations stand there of the nodes {nodes:?}, sleeps were finished by {sleeps:?}"
+        "order: observations stand there of the nodes {nodes:?}, sleeps were finished by {sleeps:?}"
     ))
 }
 
@@ -65,7 +68,9 @@ pub fn compare(
         count += 1;
         let expected = on_path.next();
         if expected.as_ref() != Some(own) {
-            return Err(format!("{own:?} was written, on the path is {expected:?}"));
+            return Err(format!(
+                "observed: {own:?} was written, on the path is {expected:?}"
+            ));
         }
     }
     let passages = path.own(component).iter();
@@ -74,6 +79,6 @@ pub fn compare(
         return Ok(());
     }
     Err(format!(
-        "node {component} has {count} observations, {due} are due before tick {tick}"
+        "complete: node {component} has {count} observations, {due} are due before tick {tick}"
     ))
 }

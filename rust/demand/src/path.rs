@@ -90,7 +90,7 @@ impl<'a> Path<'a> {
             return Ok(());
         }
         Err(format!(
-            "component {component} enters {stay:?}, not as the schedule says"
+            "scheduled: component {component} enters {stay:?}, not as the schedule says"
         ))
     }
 
@@ -100,7 +100,9 @@ impl<'a> Path<'a> {
         if advance(self.table, &mut self.state, step) {
             return Ok(());
         }
-        Err(format!("the network forbids {step:?} at tick {tick}"))
+        Err(format!(
+            "valid: the network forbids {step:?} at tick {tick}"
+        ))
     }
 
     /// Steps out a component that waits for its end.
@@ -130,7 +132,7 @@ impl<'a> Path<'a> {
             return Ok(());
         }
         Err(format!(
-            "component {component} steps in with {:?}, not with {:?} as the schedule says",
+            "scheduled: component {component} steps in with {:?}, not with {:?} as the schedule says",
             stays[last].step_in,
             (passage.edge, passage.message)
         ))
@@ -156,7 +158,7 @@ impl<'a> Path<'a> {
         for component in [sender, receiver].map(usize::from) {
             let waiting = self.state.places[component].waiting;
             if waiting.and_then(|w| w.message) != Some(channel) {
-                return Err(format!("the message is not on channel {channel}"));
+                return Err(format!("worked: the message is not on channel {channel}"));
             }
             self.stepped_in(component)?;
         }
@@ -200,7 +202,7 @@ impl<'a> Path<'a> {
             let stays = self.stays[component].iter();
             if stays.filter(|stay| stay.step_in.is_some()).count() < over {
                 return Err(format!(
-                    "component {component} is past an end without stepping in"
+                    "kept: component {component} is past an end without stepping in"
                 ));
             }
         }

@@ -105,9 +105,10 @@ fn an_accepted_table_breaks_nothing() {
     assert_eq!(accepted, (0, Vec::new()));
 }
 
-/// Whether one of the problems has these words in it.
-fn told(problems: &[String], words: &str) -> bool {
-    problems.iter().any(|problem| problem.contains(words))
+/// Whether one of the problems has the sentence's name and these words in it.
+fn told(problems: &[String], name: &str, words: &str) -> bool {
+    let told = |problem: &&String| problem.starts_with(name) && problem.contains(words);
+    problems.iter().any(|problem| told(&problem))
 }
 
 #[test]
@@ -116,6 +117,7 @@ fn a_listener_that_starts_with_its_sender() {
     assert_eq!(number, 11);
     assert!(told(
         &problems,
+        "listener: ",
         "node 0, yet to send, has not exactly one listener"
     ));
 }
@@ -126,9 +128,14 @@ fn a_listener_that_ends_with_its_sender() {
     assert_eq!(number, 11);
     assert!(told(
         &problems,
+        "listener: ",
         "node 0, yet to send, has not exactly one listener"
     ));
-    assert!(told(&problems, "not with (0, None) as the schedule says"));
+    assert!(told(
+        &problems,
+        "scheduled: ",
+        "not with (0, None) as the schedule says"
+    ));
 }
 
 #[test]
@@ -137,6 +144,7 @@ fn two_listeners() {
     assert_eq!(number, 11);
     assert!(told(
         &problems,
+        "listener: ",
         "node 0, yet to send, has not exactly one listener"
     ));
 }
@@ -148,6 +156,7 @@ fn two_senders_for_one_listener() {
     assert_eq!(number, 12);
     assert!(told(
         &problems,
+        "listener: ",
         "node 1, yet to send, has not exactly one listener"
     ));
 }
@@ -168,7 +177,11 @@ fn an_open_passage_without_its_message() {
     assert_eq!(problems(&table, &passages), Vec::<String>::new());
     passages[1].message = None;
     let problems = problems(&table, &passages);
-    assert!(told(&problems, "not with (0, None) as the schedule says"));
+    assert!(told(
+        &problems,
+        "scheduled: ",
+        "not with (0, None) as the schedule says"
+    ));
 }
 
 /// A send that ends behind the horizon counts too: nobody listens to this one.
@@ -181,6 +194,7 @@ fn a_send_that_ends_behind_the_horizon() {
     let problems = problems(&table, &passages);
     assert!(told(
         &problems,
+        "listener: ",
         "node 0, yet to send, has not exactly one listener"
     ));
 }
