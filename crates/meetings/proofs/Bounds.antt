@@ -1,19 +1,23 @@
--- How many passages are concerned, and when there are any. Assumes nothing.
-use mathlib.Core.Path.{_≡_, refl}
+-- How many passages are concerned, when there are any, and when the call is accepted. Assumes nothing.
+use mathlib.Core.Path.{_≡_, refl, sym, ap, _∙_}
 use mathlib.Core.Logic.{_↔_}
 use mathlib.Core.Bool.{Bool, true, false, cond, _&&_}
-use mathlib.Core.List.{List, [], _∷_}
+use mathlib.Core.List.{List, [], _∷_, _++_}
 use mathlib.Core.Option.{Option, none, some}
-use Prim.Native.Nat.{ℕ, suc, _≤_}
+use Prim.Native.Nat.{ℕ, suc, _*_, _≤_}
 use native.Mathlib.Omega.{arith}
-use lib.ListN.{length}
-use Rattle.model.specs.Lists.{only, first, Answer, accepted, refused, _after_}
+use lib.Dec.{leb}
+use lib.ListN.{length, drop}
+use Rattle.model.specs.declared.Verdict.the-variants.{Accepted, Refused}
+use Rattle.model.specs.Lists.{only, first, Answer, accepted, refused, _after_, each}
 use Rattle.model.specs.Table.{Table, Read}
 use Rattle.model.specs.Reader.{readTable}
-use Rattle.model.specs.Schedule.{Visit, schedule}
+use Rattle.model.specs.Schedule.{Visit, schedule, sevenOf}
 use Rattle.model.specs.Checks.{limit, isSend, meets, collides, mayHear, unheard, crowded, faultOf, checked}
-use Rattle.model.specs.Meetings.{sendsMet, listenersMet, sendsHeard, withMet, concerned, concernedIn, listOr, meetingsIn}
+use Rattle.model.specs.Calls.{Call, refusing}
+use Rattle.model.specs.Meetings.{sendsMet, listenersMet, sendsHeard, withMet, concerned, concernedIn, listOr, meetingsIn, meetingsCall}
 use Rattle.model.proofs.Scheduled.{schedule-is}
+use Rattle.schedule.proofs.Fields.{laid-fits}
 
 only-few : (p : Visit → Bool) (S : List Visit) → length (only p S) ≤ length S
 only-few p [] = omega arith
@@ -63,3 +67,21 @@ meetings-few bs = go (readTable bs)
     go : (a : Answer Read) → length (listOr (a after concernedIn)) ≤ 1025
     go (refused n c) = omega arith
     go (accepted t) = made t (schedule limit (t .table) (t .horizon)) refl
+
+-- so a call that is lent as much is accepted, whatever the verdict on the table
+pub meetings-accepted : (bs lent : List ℕ) → 1025 * 7 ≤ length lent → meetingsCall bs lent .verdict ≡ Accepted
+unfolding meetingsCall
+meetings-accepted bs lent h =
+    ap (λ (c : Call). c .verdict)
+    (laid-fits (meetingsIn bs) (length (meetingsIn bs)) (each sevenOf (meetingsIn bs)) lent refl refl (omega (arith, meetings-few bs)))
+
+-- a refused call writes nothing
+pub meetings-kept : (bs lent : List ℕ) {n c : ℕ} → meetingsCall bs lent .verdict ≡ Refused n c → meetingsCall bs lent .lent ≡ lent
+unfolding meetingsCall
+meetings-kept bs lent {n} {c} e =
+    let listed = each sevenOf (meetingsIn bs) in
+    go (record { verdict = Accepted; size = length (meetingsIn bs); lent = listed ++ drop (length listed) lent }) refl (leb (length listed) (length lent)) e
+  where
+    go : (fits : Call) → fits .verdict ≡ Accepted → (t : Bool) → cond t fits (refusing 13 255 lent) .verdict ≡ Refused n c → cond t fits (refusing 13 255 lent) .lent ≡ lent
+    go fits a true f = let x : Accepted ≡ Refused n c = sym a ∙ f in let z : _≡_ {A = ℕ} 0 1 = cc in absurd (omega arith)
+    go fits a false f = refl

@@ -15,7 +15,7 @@ use Rattle.model.specs.Places.{Valid, readOf}
 use Rattle.model.specs.Schedule.{Visit, sevenOf, light}
 use Rattle.model.specs.Checks.{isSend, meets, collides, mayHear, unheard, crowded, faultOf, checked, plan, planOf}
 use Rattle.model.specs.Calls.{Call, verdictOf, laid, planIn, checkCall}
-use Rattle.model.specs.Meetings.{sendsMet, listenersMet, sendsHeard, withMet, concerned, concernedIn, listOr, meetingsIn, noted, meetingsCall}
+use Rattle.model.specs.Meetings.{sendsMet, listenersMet, sendsHeard, withMet, concerned, concernedIn, listOr, meetingsIn, MeetingsCall, about, meetingsCall}
 use Rattle.model.proofs.Independence.{only-map}
 use Rattle.model.proofs.Located.{valid-read}
 use Rattle.table.proofs.Answered.{verdict-refused}
@@ -33,26 +33,26 @@ use Rattle.meetings.specs.Asked.{listing, Says}
 
 -- ## The list
 
-module _ (given : Verdict) (lent : List ℕ) (r : Listed) where
+module _ (given : Verdict) (lent : List ℕ) (r : Listed) (e : r .table ≡ given) where
   -- there is nothing to list
-  pub says-none : r .verdict ≡ given → r .size ≡ 0 → Says (listing given [] lent) r lent
+  pub says-none : r .verdict ≡ Accepted → r .size ≡ 0 → Says (listing given [] lent) r lent
   unfolding each
   says-none a b =
-      subst (λ (c : Call). Says (noted given c) r lent) (sym (laid-fits [] 0 [] lent refl refl (omega arith)))
-      (record { verdict = a; size = b; lent = refl })
+      subst (λ (c : Call). Says (about given c) r lent) (sym (laid-fits [] 0 [] lent refl refl (omega arith)))
+      (record { table = e; verdict = a; size = b; lent = refl })
 
-  module _ (P : List Visit) (k : ℕ) (e : k ≡ length P) where
+  module _ (P : List Visit) (k : ℕ) (q : k ≡ length P) where
     -- the list is too short ..
     pub says-short : length lent < k * 7 → r .verdict ≡ Refused 13 255 → r .size ≡ 0 → Says (listing given P lent) r lent
     says-short h a b =
-        subst (λ (c : Call). Says (noted given c) r lent) (sym (laid-short P k lent e h))
-        (record { verdict = a; size = b; lent = refl })
+        subst (λ (c : Call). Says (about given c) r lent) (sym (laid-short P k lent q h))
+        (record { table = e; verdict = a; size = b; lent = refl })
 
     -- .. or the passages are laid
-    pub says-laid : k * 7 ≤ length lent → (written : List ℕ) → written ≡ each sevenOf P ++ drop (k * 7) lent → r .verdict ≡ given → r .size ≡ k → Says (listing given P lent) r written
-    says-laid h written q a b =
-        subst (λ (c : Call). Says (noted given c) r written) (sym (laid-fits P k (each sevenOf P) lent e refl h))
-        (record { verdict = a; size = b; lent = q })
+    pub says-laid : k * 7 ≤ length lent → (written : List ℕ) → written ≡ each sevenOf P ++ drop (k * 7) lent → r .verdict ≡ Accepted → r .size ≡ k → Says (listing given P lent) r written
+    says-laid h written w a b =
+        subst (λ (c : Call). Says (about given c) r written) (sym (laid-fits P k (each sevenOf P) lent q refl h))
+        (record { table = e; verdict = a; size = b; lent = w })
 
 -- ## The questions
 
@@ -93,7 +93,7 @@ module _ (T : Table) (H : ℕ) (S : List Visit) where
       → listing (verdictOf (checked T H (map light S))) (concerned T H (map light S)) lent ≡ listing (verdictOf (checked T H S)) (concerned T H S) lent
   listing-light lent =
       ap₂ (λ (given : Verdict) (P : List Visit). listing given P lent) (checked-light T H S) concerned-light
-      ∙ ap₂ (λ (k : ℕ) (out : List ℕ). noted (verdictOf (checked T H S)) (laid k out lent)) (length-map (concerned T H S) light) (fields-light (concerned T H S))
+      ∙ ap₂ (λ (k : ℕ) (out : List ℕ). about (verdictOf (checked T H S)) (laid k out lent)) (length-map (concerned T H S) light) (fields-light (concerned T H S))
 
 -- ## A table that was read
 
@@ -103,7 +103,7 @@ unfolding meetingsCall checkCall planIn meetingsIn
 read-not bs lent e = ap (λ (a : Answer Read). listing (verdictOf (a after planOf)) (listOr (a after concernedIn)) lent) e
 
 module _ (bs lent : List ℕ) (v : Valid bs) where
-  planned : Answer (List Visit) → Call
+  planned : Answer (List Visit) → MeetingsCall
   planned a =
       listing (verdictOf (a after λ S. checked (readOf bs .table) (readOf bs .horizon) S))
       (listOr (a after λ S. accepted (concerned (readOf bs .table) (readOf bs .horizon) S))) lent

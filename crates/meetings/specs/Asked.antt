@@ -9,8 +9,8 @@ use Rattle.model.specs.Lists.{only, first, each}
 use Rattle.model.specs.Table.{Table}
 use Rattle.model.specs.Schedule.{Visit, sevenOf}
 use Rattle.model.specs.Checks.{isSend, meets, mayHear, unheard, crowded}
-use Rattle.model.specs.Calls.{Call, laid}
-use Rattle.model.specs.Meetings.{listenersMet, sendsHeard, withMet, noted}
+use Rattle.model.specs.Calls.{laid}
+use Rattle.model.specs.Meetings.{listenersMet, sendsHeard, withMet, MeetingsCall, about}
 use Rattle.meetings.specs.declared.Question.{Question}
 use Rattle.meetings.specs.declared.Question.the-variants.{Collision, Unheard, Crowded}
 use Rattle.meetings.specs.declared.Listed.{Listed}
@@ -38,12 +38,13 @@ concerned12 T H S = withMet (sendsHeard T H S) (first (crowded T H S) S) []
 abbrev pub concerned11 : Table → ℕ → List Visit → List Visit
 concerned11 T H S = withMet (listenersMet T S) (first (unheard T H S) S) (concerned12 T H S)
 
--- the call that lists these passages with that verdict
-abbrev pub listing : Verdict → List Visit → List ℕ → Call
-listing v P lent = noted v (laid (length P) (each sevenOf P) lent)
+-- the call that lists these passages of a table with that verdict
+abbrev pub listing : Verdict → List Visit → List ℕ → MeetingsCall
+listing given P lent = about given (laid (length P) (each sevenOf P) lent)
 
 -- the answer, and the list afterwards, are those of the call
-pub record Says (c : Call) (r : Listed) (after : List ℕ) : Type 0 where
+pub record Says (c : MeetingsCall) (r : Listed) (after : List ℕ) : Type 0 where
+  pub table : r .table ≡ c .table
   pub verdict : r .verdict ≡ c .verdict
   pub size : r .size ≡ c .size
   pub lent : after ≡ c .lent

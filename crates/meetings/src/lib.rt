@@ -4,7 +4,7 @@ ghost use mathlib.Core.Path.{_≡_};
 ghost use mathlib.Core.List.{_++_};
 ghost use Prim.Native.Nat.{_+_, _*_, _≤_, _<_};
 ghost use lib.ListN.{length, drop};
-ghost use Rattle.model.specs.declared.Verdict.the-variants.{Refused};
+ghost use Rattle.model.specs.declared.Verdict.the-variants.{Accepted, Refused};
 ghost use Rattle.model.specs.Lists.{only, each};
 ghost use Rattle.model.specs.Reader.{byte};
 ghost use Rattle.model.specs.Places.{Valid, readOf};
@@ -26,17 +26,22 @@ pub enum Question {
     Crowded,
 }
 
-// The verdict of checks 1 to 12, and how many passages are listed; or 13.
+// The verdict of checks 1 to 12 on the table; the call's own answer, 13 where the list is too short; and how many passages are listed.
 pub struct Listed {
+    pub table: Verdict,
     pub verdict: Verdict,
     pub size: usize,
 }
 
-// Nothing is listed.
-fn nothing(verdict: Verdict) -> Listed
-    ensures { λ r. ⌜ (r .verdict ≡ verdict) × (r .size ≡ 0) ⌝ }
+// There is nothing to list.
+fn nothing(table: Verdict) -> Listed
+    ensures { λ r. ⌜ (r .table ≡ table) × (r .verdict ≡ Accepted) × (r .size ≡ 0) ⌝ }
 {
-    Listed { verdict, size: 0 }
+    Listed {
+        table,
+        verdict: Verdict::Accepted,
+        size: 0,
+    }
 }
 
 fn number_of(q: Question) -> u8
@@ -119,12 +124,20 @@ fn list_fault(
     ensures { λ r. ⌜ Says (listing (Refused (numberAsked q) (num (now (l .entry)) i 0)) (foundBy q (readOf (now (s .entry)) .table) h (rowsOf (now (l .entry)) n) (rowVisit (now (l .entry)) i)) (now (list .entry))) r (now (list .exit)) ⌝ }
 {
     let size = count_met(s, l, n, i, h, q) + 1;
+    let table = checks::refused(l, number_of(q), i);
     if list.len() < size * 7 {
-        return nothing(Verdict::Refused(13, 255));
+        return Listed {
+            table,
+            verdict: Verdict::Refused(13, 255),
+            size: 0,
+        };
     }
     put_met(s, l, n, i, h, q, list);
-    let verdict = checks::refused(l, number_of(q), i);
-    Listed { verdict, size }
+    Listed {
+        table,
+        verdict: Verdict::Accepted,
+        size,
+    }
 }
 
 // Question 12.
@@ -180,10 +193,10 @@ fn list_meetings(table: &[u8], starts: [u16; 8], list: &mut [u32]) -> Listed
     }
 }
 
-// The verdict of checks 1 to 12; after 10, 11 or 12 the passage at fault and those that it meets, seven numbers a
-// passage, laid over the front of the list. 13 where the list is too short.
+// The verdict of checks 1 to 12 on the table; after 10, 11 or 12 the passage at fault and those that it meets, seven numbers a
+// passage, laid over the front of the list. The call itself is accepted, or refused by 13 where the list is too short.
 pub fn meetings(table: &[u8], list: &mut [u32]) -> Listed
-    ensures { λ r. ⌜ (r .verdict ≡ meetingsCall (now (table .entry)) (now (list .entry)) .verdict) × (r .size ≡ meetingsCall (now (table .entry)) (now (list .entry)) .size) × (now (list .exit) ≡ meetingsCall (now (table .entry)) (now (list .entry)) .lent) ⌝ }
+    ensures { λ r. ⌜ (r .table ≡ meetingsCall (now (table .entry)) (now (list .entry)) .table) × (r .verdict ≡ meetingsCall (now (table .entry)) (now (list .entry)) .verdict) × (r .size ≡ meetingsCall (now (table .entry)) (now (list .entry)) .size) × (now (list .exit) ≡ meetingsCall (now (table .entry)) (now (list .entry)) .lent) ⌝ }
 {
     let r = table::read(table);
     let v = r.verdict;

@@ -5,7 +5,6 @@ use mathlib.Core.Option.{Option, none, some}
 use Prim.Native.Nat.{ℕ}
 use lib.ListN.{length}
 use Rattle.model.specs.declared.Verdict.{Verdict}
-use Rattle.model.specs.declared.Verdict.the-variants.{Accepted, Refused}
 use Rattle.model.specs.Lists.{only, first, Answer, accepted, refused, _after_, each}
 use Rattle.model.specs.Table.{Table, Read}
 use Rattle.model.specs.Reader.{readTable}
@@ -56,16 +55,19 @@ meetingsIn table = listOr (readTable table after concernedIn)
 
 -- ## The call
 
--- a list that is laid comes with the verdict on the table, a refusal of the call stays
-abbrev pub verdictOver : Verdict → Verdict → Verdict
-verdictOver v Accepted = v
-verdictOver v (Refused n c) = Refused n c
+-- the verdict of checks 1 to 12 on the table; the call's own answer; how many passages are listed; and the lent numbers afterwards
+pub record MeetingsCall : Type 0 where
+  pub table : Verdict
+  pub verdict : Verdict
+  pub size : ℕ
+  pub lent : List ℕ
 
-abbrev pub noted : Verdict → Call → Call
-noted v c = record { verdict = verdictOver v (c .verdict); size = c .size; lent = c .lent }
+abbrev pub about : Verdict → Call → MeetingsCall
+about given c = record { table = given; verdict = c .verdict; size = c .size; lent = c .lent }
 
--- The call `meetings`: the verdict of checks 1 to 12, and the passages concerned, seven numbers a passage. Its size is the number of passages.
--- A list too short for them is refused by 13 and keeps its numbers; a table of which nothing is to be listed is never refused by 13.
-unfoldable pub meetingsCall : List ℕ → List ℕ → Call
+-- The call `meetings`: the verdict on the table, and the passages concerned, seven numbers a passage. Its size is the number of passages.
+-- The call itself is accepted whatever that verdict is; it is refused by 13 alone, where the list is too short: then the list keeps its numbers,
+-- and the verdict on the table is still given. Where nothing is to be listed, no list is too short.
+unfoldable pub meetingsCall : List ℕ → List ℕ → MeetingsCall
 unfolding checkCall meetingsIn each
-meetingsCall table lent = noted (checkCall table) (laid (length (meetingsIn table)) (each sevenOf (meetingsIn table)) lent)
+meetingsCall table lent = about (checkCall table) (laid (length (meetingsIn table)) (each sevenOf (meetingsIn table)) lent)

@@ -38,7 +38,7 @@ returns c =
     let a = c .before .before .before .before .before .before .before .args in
     let T = readOf (a .s .now) .table in
     let S = rowsOf (a .l .now) (a .n) in
-    passed (crowded T (a .h) S) S (a .l .now) (c .before .before .before .first-crowded .result) (c .before .before .before .first-crowded .ensures .0) 12 (sendsHeard T (a .h) S) (accepted S) [] (a .list .now) (c .nothing .result) _ (c .before .enum-told .given .1) (says-none Accepted (a .list .now) (c .nothing .result) (c .nothing .ensures .0) (c .nothing .ensures .1))
+    passed (crowded T (a .h) S) S (a .l .now) (c .before .before .before .first-crowded .result) (c .before .before .before .first-crowded .ensures .0) 12 (sendsHeard T (a .h) S) (accepted S) [] (a .list .now) (c .nothing .result) _ (c .before .enum-told .given .1) (says-none Accepted (a .list .now) (c .nothing .result) (c .nothing .ensures .0) (c .nothing .ensures .1) (c .nothing .ensures .2))
 
 same-length : tie.Need-same-length
 same-length c = search needs

@@ -22,28 +22,26 @@ count-met-requires c κs = search needs
 add-size : tie.Need-add-size
 add-size c = search needs
 
-mul-if1 : tie.Need-mul-if1
-mul-if1 c = search needs
-
-nothing-requires : tie.Need-nothing-requires
-nothing-requires c κs = search needs
-
-returns : tie.Need-returns
-returns c =
-    let a = c .before .before .before .before .before .before .args in
-    says-short (Refused (numberAsked (a .q)) (num (a .l .now) (a .i) 0)) (a .list .now) (c .nothing .result) (foundBy (a .q) (readOf (a .s .now) .table) (a .h) (rowsOf (a .l .now) (a .n)) (rowVisit (a .l .now) (a .i))) (c .before .before .count-met .result + 1) (omega (arith, c .before .before .count-met .ensures .0)) (c .before .if1 .taken) (c .nothing .ensures .0) (c .nothing .ensures .1)
-
-put-met-requires : tie.Need-put-met-requires
-put-met-requires c κs = search needs
-
 number-of-requires : tie.Need-number-of-requires
 number-of-requires c κs = search needs
 
 refused-requires : tie.Need-refused-requires
 refused-requires c κs =
-    let e = c .before .before .before .before .before .before .before .before .before .before in
+    let e = c .before .before .before .before .before in
     let a = e .args in
-    row-stands (a .s .now) (a .l .now) (a .n) (a .i) (c .before .before .before .before .before .before .before .before .before .shared-slice-known .given) (e .pre .0) (e .pre .1)
+    row-stands (a .s .now) (a .l .now) (a .n) (a .i) (c .before .before .before .before .shared-slice-known .given) (e .pre .0) (e .pre .1)
+
+mul-if1 : tie.Need-mul-if1
+mul-if1 c = search needs
+
+returns : tie.Need-returns
+returns c =
+    let a = c .before .before .before .before .before .before .before .args in
+    let P = foundBy (a .q) (readOf (a .s .now) .table) (a .h) (rowsOf (a .l .now) (a .n)) (rowVisit (a .l .now) (a .i)) in
+    says-short (Refused (numberAsked (a .q)) (num (a .l .now) (a .i) 0)) (a .list .now) _ (c .before .refused .ensures ∙ ap (λ (m : ℕ). Refused m (num (a .l .now) (a .i) 0)) (c .before .before .number-of .ensures)) P (c .before .before .before .count-met .result + 1) (omega (arith, c .before .before .before .count-met .ensures .0)) (c .if1 .taken) refl refl
+
+put-met-requires : tie.Need-put-met-requires
+put-met-requires c κs = search needs
 
 same-length : tie.Need-same-length
 same-length c = search needs
@@ -51,9 +49,10 @@ same-length c = search needs
 returns-2 : tie.Need-returns-2
 returns-2 c =
     let a = c .before .before .before .before .before .before .before .before .before .before .before .args in
-    let k : c .before .before .before .before .before .before .before .count-met .result + 1 ≡ length (foundBy (a .q) (readOf (a .s .now) .table) (a .h) (rowsOf (a .l .now) (a .n)) (rowVisit (a .l .now) (a .i))) = omega (arith, c .before .before .before .before .before .before .before .count-met .ensures .0) in
-    says-laid (Refused (numberAsked (a .q)) (num (a .l .now) (a .i) 0)) (a .list .now) _ (foundBy (a .q) (readOf (a .s .now) .table) (a .h) (rowsOf (a .l .now) (a .n)) (rowVisit (a .l .now) (a .i))) (c .before .before .before .before .before .before .before .count-met .result + 1) k (omega (arith, c .before .before .before .before .before .before .if1 .left)) _
-    (c .before .before .before .before .put-met .ensures ∙ ap (λ (m : ℕ). each sevenOf (foundBy (a .q) (readOf (a .s .now) .table) (a .h) (rowsOf (a .l .now) (a .n)) (rowVisit (a .l .now) (a .i))) ++ drop (m * 7) (a .list .now)) (sym k)) (c .refused .ensures ∙ ap (λ (m : ℕ). Refused m (num (a .l .now) (a .i) 0)) (c .before .number-of .ensures)) refl
+    let P = foundBy (a .q) (readOf (a .s .now) .table) (a .h) (rowsOf (a .l .now) (a .n)) (rowVisit (a .l .now) (a .i)) in
+    let k : c .before .before .before .before .before .before .before .count-met .result + 1 ≡ length P = omega (arith, c .before .before .before .before .before .before .before .count-met .ensures .0) in
+    says-laid (Refused (numberAsked (a .q)) (num (a .l .now) (a .i) 0)) (a .list .now) _ (c .before .before .before .before .before .refused .ensures ∙ ap (λ (m : ℕ). Refused m (num (a .l .now) (a .i) 0)) (c .before .before .before .before .before .before .number-of .ensures)) P (c .before .before .before .before .before .before .before .count-met .result + 1) k (omega (arith, c .before .before .before .before .if1 .left)) _
+    (c .before .before .put-met .ensures ∙ ap (λ (m : ℕ). each sevenOf P ++ drop (m * 7) (a .list .now)) (sym k)) refl refl
 
 pub list-fault-spec : {M : Type 1} → statement M
 list-fault-spec =
@@ -61,11 +60,10 @@ list-fault-spec =
     (tie.spec
     count-met-requires
     add-size
-    mul-if1
-    nothing-requires
-    returns
-    put-met-requires
     number-of-requires
     refused-requires
+    mul-if1
+    returns
+    put-met-requires
     same-length
     returns-2)

@@ -1,7 +1,7 @@
 -- `meetings::list_meetings` meets its contract. Assumes nothing.
 use mathlib.Core.Path.{sym, subst}
 use borrow.Author.Needs.{needs}
-use Rattle.model.specs.Calls.{Call}
+use Rattle.model.specs.Meetings.{MeetingsCall}
 use Rattle.schedule.proofs.Whole.{rows-placed}
 use Rattle.meetings.specs.Asked.{Says}
 use Rattle.meetings.proofs.Listing.{says-none, scheduled-not, of-rows}
@@ -39,8 +39,8 @@ returns c =
     let e = c .before .before .before .before .before .before .before .before .before in
     let a = e .args in
     let r = c .before .before .before .before .before .schedule-rows in
-    subst (λ (k : Call). Says k (c .nothing .result) (a .list .now)) (sym (scheduled-not (a .table .now) (a .list .now) (e .pre .0) (r .result) (r .last .1 .1 .0) (r .ensures) (c .before .before .v .given .1)))
-    (says-none _ (a .list .now) (c .nothing .result) (c .nothing .ensures .0) (c .nothing .ensures .1))
+    subst (λ (k : MeetingsCall). Says k (c .nothing .result) (a .list .now)) (sym (scheduled-not (a .table .now) (a .list .now) (e .pre .0) (r .result) (r .last .1 .1 .0) (r .ensures) (c .before .before .v .given .1)))
+    (says-none _ (a .list .now) (c .nothing .result) (c .nothing .ensures .0) (c .nothing .ensures .1) (c .nothing .ensures .2))
 
 same-length : tie.Need-same-length
 same-length c = search needs
@@ -51,7 +51,7 @@ returns-2 c =
     let a = e .args in
     let r = c .before .before .before .before .before .before .before .before .before .schedule-rows in
     let w = c .before .before .list-concerned in
-    subst (λ (k : Call). Says k (w .result) (w .last .1 .1 .1 .1 .0)) (of-rows (a .table .now) (a .list .now) (e .pre .0) (r .result) (r .last .1 .1 .0) (r .ensures) (c .before .before .before .before .before .before .enum-told .given .1) (c .before .before .before .before .before .horizon .result) (c .before .before .before .before .before .horizon .ensures)) (w .ensures)
+    subst (λ (k : MeetingsCall). Says k (w .result) (w .last .1 .1 .1 .1 .0)) (of-rows (a .table .now) (a .list .now) (e .pre .0) (r .result) (r .last .1 .1 .0) (r .ensures) (c .before .before .before .before .before .before .enum-told .given .1) (c .before .before .before .before .before .horizon .result) (c .before .before .before .before .before .horizon .ensures)) (w .ensures)
 
 pub list-meetings-spec : {M : Type 1} → statement M
 list-meetings-spec =

@@ -1,7 +1,7 @@
 -- `meetings::meetings` meets its contract. Assumes nothing.
 use mathlib.Core.Path.{sym, subst}
 use borrow.Author.Needs.{needs}
-use Rattle.model.specs.Calls.{Call}
+use Rattle.model.specs.Meetings.{MeetingsCall}
 use Rattle.table.proofs.Answered.{was-valid, its-starts, read-refused}
 use Rattle.meetings.specs.Asked.{Says}
 use Rattle.meetings.proofs.Listing.{says-none, read-not}
@@ -30,9 +30,9 @@ returns : tie.Need-returns
 returns c =
     let a = c .before .before .before .before .before .before .before .args in
     let r = c .before .before .before .before .read in
-    let k = subst (λ (k : Call). Says k (c .nothing .result) (a .list .now)) (sym (read-not (a .table .now) (a .list .now) (read-refused (a .table .now) (r .result) (r .ensures) (c .before .before .v .given .1))))
-    (says-none _ (a .list .now) (c .nothing .result) (c .nothing .ensures .0) (c .nothing .ensures .1)) in
-    (k .verdict, k .size, k .lent)
+    let k = subst (λ (k : MeetingsCall). Says k (c .nothing .result) (a .list .now)) (sym (read-not (a .table .now) (a .list .now) (read-refused (a .table .now) (r .result) (r .ensures) (c .before .before .v .given .1))))
+    (says-none _ (a .list .now) (c .nothing .result) (c .nothing .ensures .0) (c .nothing .ensures .1) (c .nothing .ensures .2)) in
+    (k .table, k .verdict, k .size, k .lent)
 
 same-length : tie.Need-same-length
 same-length c = search needs
