@@ -1,12 +1,11 @@
 -- Records of runs that are wrong, with the sentence of demand 3 that each breaks: none of these holds. See `DemandCases`.
 use mathlib.Core.Path.{_≡_, refl, ap, sym, subst}
 use native.Mathlib.Omega.{arith}
-use mathlib.Core.Bool.{Bool, true, false, cond}
+use mathlib.Core.Bool.{Bool, true, false}
 use mathlib.Core.List.{List, [], _∷_, _++_}
-use mathlib.Core.Option.{Option, none, some}
+use mathlib.Core.Option.{Option, none}
 use Prim.Native.Nat.{ℕ, zero, suc, _<_}
 use borrow.Author.Tests.{ltb-true, leb-true, eqb-false}
-use lib.IntN.{pos}
 use lib.ListN.{length, getD, replicate}
 use Rattle.model.specs.declared.Action.the-variants.{Internal, Send}
 use Rattle.model.specs.Table.{Component, Read}
@@ -18,7 +17,7 @@ use Rattle.model.specs.Checks.{plan}
 use Rattle.model.specs.Program.{programBytes, partOf}
 use Rattle.model.specs.Network.{Place, State, Label, tick, stepIn, together, stepOut, onward, follow, passagesOn, Work, one, two, channelNumber, worksOn, Observation, observationsOn}
 use Rattle.model.specs.Machine.{exec}
-use Rattle.model.specs.Run.{Run, noNode, nodeOf, standOf, sending, Outcome, forbidden, on, over, choose1, run}
+use Rattle.model.specs.Run.{noNode, nodeOf, standOf, sending, Outcome, forbidden, on, over, choose1, run}
 use Rattle.model.specs.Demand3.{PassAs, ticksIn, DueIn, HasListener, states, horizon, usedUp, late, notAllowed, notDue, due}
 use Rattle.model.specs.Demand3.{noNode as absent}
 use Rattle.model.specs.Cases.{hub, addOne, changed, toTheSend}
