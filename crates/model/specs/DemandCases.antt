@@ -12,7 +12,6 @@ use lib.ListN.{getD, set}
 use Rattle.model.specs.Lists.{Answer, accepted}
 use Rattle.model.specs.Lists.{refused as refusedAnswer}
 use Rattle.model.specs.Table.{Table, Read}
-use Rattle.model.specs.Build.{location, component}
 use Rattle.model.specs.Schedule.{Visit}
 use Rattle.model.specs.Checks.{plan, planOf}
 use Rattle.model.specs.Program.{programBytes, partOf}
