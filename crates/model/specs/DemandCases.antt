@@ -1,31 +1,26 @@
 -- Demand 3's sentences held against records of runs: a right one, and wrong ones that break one sentence each. A sentence that is made weaker
 -- no longer refutes its wrong records, whatever is done with its proof. `rust/demand` has the same cases.
-use mathlib.Core.Path.{_≡_, refl, ap, sym, subst}
-use mathlib.Core.Bool.{Bool, true, false, cond}
+use mathlib.Core.Path.{_≡_, refl}
+use mathlib.Core.Bool.{true, false}
 use mathlib.Core.List.{List, [], _∷_, _++_}
-use mathlib.Core.Option.{Option, none, some}
-use Prim.Native.Nat.{ℕ, zero, suc, _+_, _*_, _≤_, _<_}
+use Prim.Native.Nat.{ℕ, zero, suc, _+_, _≤_, _<_}
 use native.Mathlib.Omega.{arith}
 use borrow.Author.Tests.{ltb-true, ltb-false, leb-true, eqb-false}
-use lib.Dec.{leb, ltb}
-use lib.IntN.{ℤ, pos}
-use lib.ListN.{length, getD, set, replicate}
-use Rattle.model.specs.declared.Action.the-variants.{Internal, Send}
+use lib.Dec.{ltb}
+use lib.IntN.{pos}
+use lib.ListN.{getD, set}
 use Rattle.model.specs.Lists.{Answer, accepted}
 use Rattle.model.specs.Lists.{refused as refusedAnswer}
-use Rattle.model.specs.Table.{Component, Table, Read}
-use Rattle.model.specs.Build.{location, clockGuard, arc, component, network}
-use Rattle.model.specs.Window.{Entry}
-use Rattle.model.specs.Schedule.{Visit, own}
+use Rattle.model.specs.Table.{Table, Read}
+use Rattle.model.specs.Schedule.{Visit}
 use Rattle.model.specs.Checks.{plan, planOf}
 use Rattle.model.specs.Program.{programBytes, partOf}
-use Rattle.model.specs.Network.{Place, State, Label, tick, stepIn, together, stepOut, start, onward, follow, passagesOn, Work, one, two, worksOn, Observation, observationsOn}
+use Rattle.model.specs.Network.{State, Label, tick, together, start, onward, follow, passagesOn, Work, worksOn, Observation, observationsOn}
 use Rattle.model.specs.Machine.{Node, exec}
-use Rattle.model.specs.Run.{settingTo, Run, noNode, nodeOf, Result, Outcome, forbidden, on, over, choose1, startRun, run}
-use Rattle.model.specs.Demand3.{PassAs, ticksIn, states, Valid, Reach, Scheduled, Kept, Worked, Observed, Complete, Listened, LateEnds, LateIs, NodeOf, UsedOf, TicksOf, NotBefore, EndedBy, horizon, usedUp, late, notAllowed, RefusedBy, notDue, due, WhyRefused, Demand3}
-use Rattle.model.specs.Demand3.{noNode as absentNode}
+use Rattle.model.specs.Run.{settingTo, Run, Result, choose1, startRun, run}
+use Rattle.model.specs.Demand3.{ticksIn, states, Valid, Reach, Scheduled, Kept, Worked, Observed, Complete, Listened, LateEnds, LateIs, NodeOf, UsedOf, TicksOf, NotBefore, EndedBy, horizon, usedUp, WhyRefused, Demand3}
 use Rattle.model.specs.Progress.{dueOf}
-use Rattle.model.specs.Cases.{hub, addOne, changed, toTheSend}
+use Rattle.model.specs.Cases.{toTheSend}
 use Rattle.model.specs.Cases.{worked as workedTable}
 
 -- ## The sentences by name, and what is told of a run

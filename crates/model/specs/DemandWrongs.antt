@@ -1,12 +1,11 @@
 -- Records of runs that are wrong, with the sentence of demand 3 that each breaks: none of these holds. See `DemandCases`.
 use mathlib.Core.Path.{_≡_, refl, ap, sym, subst}
 use native.Mathlib.Omega.{arith}
-use mathlib.Core.Bool.{Bool, true, false, cond}
+use mathlib.Core.Bool.{Bool, true, false}
 use mathlib.Core.List.{List, [], _∷_, _++_}
-use mathlib.Core.Option.{Option, none, some}
+use mathlib.Core.Option.{Option, none}
 use Prim.Native.Nat.{ℕ, zero, suc, _<_}
 use borrow.Author.Tests.{ltb-true, leb-true, eqb-false}
-use lib.IntN.{pos}
 use lib.ListN.{length, getD, replicate}
 use Rattle.model.specs.declared.Action.the-variants.{Internal, Send}
 use Rattle.model.specs.Table.{Component, Read}
@@ -18,7 +17,7 @@ use Rattle.model.specs.Checks.{plan}
 use Rattle.model.specs.Program.{programBytes, partOf}
 use Rattle.model.specs.Network.{Place, State, Label, tick, stepIn, together, stepOut, onward, follow, passagesOn, Work, one, two, channelNumber, worksOn, Observation, observationsOn}
 use Rattle.model.specs.Machine.{exec}
-use Rattle.model.specs.Run.{Run, noNode, nodeOf, standOf, sending, Outcome, forbidden, on, over, choose1, run}
+use Rattle.model.specs.Run.{noNode, nodeOf, standOf, sending, Outcome, forbidden, on, over, choose1, run}
 use Rattle.model.specs.Demand3.{PassAs, ticksIn, DueIn, HasListener, states, horizon, usedUp, late, notAllowed, notDue, due}
 use Rattle.model.specs.Demand3.{noNode as absent}
 use Rattle.model.specs.Cases.{hub, addOne, changed, toTheSend}
@@ -69,9 +68,30 @@ probeMissing = ofRun (workedTable 20) (toTheSend ++ (0 ∷ replicate 8 1 ++ repl
 abbrev pub yetToSend : Told
 yetToSend = ofRun (workedTable 20) toTheSend (ticksOnly 3)
 
--- one choice that is carried out, and a record that says that it was not
-abbrev pub refusing : ℕ → Told
-refusing b = counting (ending (ofRun (workedTable 20) (b ∷ []) []) 3 255) 0 0
+-- after these choices one more, which is allowed, and a record that says that it is not
+abbrev pub refusing : List ℕ → ℕ → Told
+refusing cs b =
+    let x = ofRun (workedTable 20) cs [] in
+    record {
+      read = x .read;
+      horizon = x .horizon;
+      schedule = x .schedule;
+      choices = cs ++ (b ∷ []);
+      path = x .path;
+      last = x .last;
+      result = record { end = 3; node = 255; state = x .result .state };
+      after = x .after;
+    }
+
+-- hub at its sleep, at 0 and at 2; at its listen at 2, with the probe at its sleep
+abbrev pub hubBeforeSleep : List ℕ
+hubBeforeSleep = replicate 5 1
+
+abbrev pub hubAtSleep : List ℕ
+hubAtSleep = replicate 5 1 ++ (255 ∷ 255 ∷ [])
+
+abbrev pub hubListens : List ℕ
+hubListens = replicate 5 0 ++ replicate 5 1 ++ (255 ∷ 255 ∷ 1 ∷ [])
 
 -- with a second hub
 abbrev pub twoHubs : Told → Told
@@ -146,12 +166,14 @@ Wrongs =
     -- a run that goes on after a node is late; one that ends otherwise; late, and not the lowest node
     × Not lateEnds (counting (ending hubLate 1 255) 5 5)
     × Not lateEnds (ending hubLate 1 255)
+    × Not lateEnds (ending probeLate 1 255)
     × Not lateEnds (ending (ofRun twins (replicate 4 255) (ticksOnly 3)) 2 1)
-    -- late before the first choice; with an absent node; by a choice that is no tick; when nobody is late
+    -- late before the first choice; with an absent node; by a choice that is no tick; when nobody is late; at the end of the window
     × Not lateIs (ending (walked (workedTable 20) []) 2 0)
     × Not lateIs (ending hubLate 2 2)
     × Not lateIs (ending right 2 0)
     × Not lateIs (ending (ofRun (workedTable 20) (255 ∷ []) (ticksOnly 1)) 2 1)
+    × Not lateIs (ending (ofRun (workedTable 20) (toTheSend ++ (255 ∷ 255 ∷ [])) (ticksOnly 5)) 2 0)
     -- a node of a run that is not late
     × Not node (ending right 1 0)
     -- an invented count of choices, an invented tick
@@ -165,13 +187,19 @@ Wrongs =
     × Not ended (counting right 0 0)
     × Not ended (toHorizon right 3)
     -- not allowed, though it is; an end that is none of the four
-    × Not ended (refusing 0)
+    × Not ended (refusing [] 0)
     × Not ended (ending right 4 255)
     -- a run that goes past the horizon
     × Not notBefore (toHorizon right 3)
-    -- a tick refused with nothing due, a statement refused that is neither sleep nor listen nor take
-    × Not refused (refusing 255)
-    × Not refused (refusing 0)
+    -- a tick refused with nothing due: no sleep or listen, a sleep that is not, two of them
+    × Not refused (refusing [] 255)
+    × Not refused (refusing hubBeforeSleep 255)
+    × Not refused (refusing hubListens 255)
+    -- a statement refused: a trial, a take with an edge kept, a sleep that is due, a listen that is
+    × Not refused (refusing [] 0)
+    × Not refused (refusing (replicate 4 0) 0)
+    × Not refused (refusing hubAtSleep 1)
+    × Not refused (counting (refusing toTheSend 1) 6 15)
 
 -- ## Why not
 
@@ -200,6 +228,9 @@ headOf (x ∷ xs) = x
 abbrev number : Bool → ℕ
 number true = 1
 number false = 0
+
+abbrev IsDue : Told → ℕ → Type 0
+IsDue x c = let s = x .result .state in DueIn (own c (x .schedule)) (s .tick) (nodeOf s c) (standOf (nodeOf s c))
 
 too-many : (n : ℕ) → suc (suc n) ≡ 1 → ⊥
 too-many n e = absurd (omega arith)
@@ -238,10 +269,12 @@ wrongs-refuted = (
   λ h. with-the-sender (h 0 (leb-true 0 15 refl) 0 (ltb-true 0 2 refl)),
   λ h. eqb-false 3 5 refl (h 2 (ltb-true 2 5 refl) 1 (ltb-true 1 2 refl) (refl, refl) .0),
   λ h. eqb-false 1 2 refl (h 2 (ltb-true 2 3 refl) 1 (ltb-true 1 2 refl) (refl, refl) .1),
+  λ h. eqb-false 1 2 refl (h 17 (ltb-true 17 18 refl) 0 (ltb-true 0 2 refl) (refl, refl) .1),
   λ h. not-most 1 0 refl (h 3 (ltb-true 3 4 refl) 0 (ltb-true 0 2 refl) (refl, refl) .2),
   λ h. not-less 0 0 refl (h refl .0),
   λ h. not-less 2 2 refl (h refl .1),
   λ h. eqb-false 1 255 refl (h refl .2 .0),
+  λ h. eqb-false 0 1 refl (ap number (h refl .2 .1)),
   λ h. eqb-false 0 1 refl (ap number (h refl .2 .1)),
   λ h. eqb-false 0 255 refl (h (eqb-false 1 2 refl)),
   λ h. not-most 20 19 refl h,
@@ -255,14 +288,29 @@ wrongs-refuted = (
   λ h. elim h [ horizon x y z ↦ eqb-false 4 0 refl x | usedUp x y z ↦ eqb-false 4 1 refl x | late x ↦ eqb-false 4 2 refl x | notAllowed x y z ↦ eqb-false 4 3 refl x ],
   λ h. not-less 3 3 refl (h 14 (ltb-true 14 19 refl)),
   λ h. elim (h refl) [ absent x y ↦ y refl | notDue x y ↦ not-less 255 2 refl x | due x c y z ↦ none-due c y z ],
+  λ h. elim (h refl) [ absent x y ↦ y refl | notDue x y ↦ not-less 255 2 refl x | due x c y z ↦ later c y z ],
+  λ h. elim (h refl) [ absent x y ↦ y refl | notDue x y ↦ not-less 255 2 refl x | due x c y z ↦ both-later c y z ],
   λ h. elim (h refl) [ absent x y ↦ not-most 2 0 refl x | notDue x y ↦ y | due x c y z ↦ eqb-false 0 255 refl x ],
+  λ h. elim (h refl) [ absent x y ↦ not-most 2 0 refl x | notDue x y ↦ not-most 4 0 refl y | due x c y z ↦ eqb-false 0 255 refl x ],
+  λ h. elim (h refl) [ absent x y ↦ not-most 2 1 refl x | notDue x y ↦ y refl | due x c y z ↦ eqb-false 1 255 refl x ],
+  λ h. elim (h refl) [ absent x y ↦ not-most 2 1 refl x | notDue x y ↦ y refl | due x c y z ↦ eqb-false 1 255 refl x ],
 )
   where
     -- the listener is hub, and began at 3
     with-the-sender : HasListener (beganWithIt .after 0) 0 (sending 0) → ⊥
     with-the-sender x = not-less 3 3 refl (subst (λ (i : ℕ). nodeOf (beganWithIt .after 0) i .t < 3) (ap headOf (sym (x .1))) (x .2))
 
-    none-due : (c : ℕ) → c < 2 → DueIn (own c (refusing 255 .schedule)) 0 (nodeOf (refusing 255 .result .state) c) (standOf (nodeOf (refusing 255 .result .state) c)) → ⊥
+    none-due : (c : ℕ) → c < 2 → IsDue (refusing [] 255) c → ⊥
     none-due zero h d = d
     none-due (suc zero) h d = d
     none-due (suc (suc c)) h d = neither c h
+
+    later : (c : ℕ) → c < 2 → IsDue (refusing hubBeforeSleep 255) c → ⊥
+    later zero h d = d
+    later (suc zero) h d = eqb-false 2 0 refl d
+    later (suc (suc c)) h d = neither c h
+
+    both-later : (c : ℕ) → c < 2 → IsDue (refusing hubListens 255) c → ⊥
+    both-later zero h d = eqb-false 3 2 refl d
+    both-later (suc zero) h d = eqb-false 6 2 refl d
+    both-later (suc (suc c)) h d = neither c h

@@ -83,15 +83,18 @@ fn assert_breaks(name: &str, found: Option<String>) {
 fn wrong_numbers() {
     let right = with(&[0, 1, 1, 1]);
     let written = [of_hub(0), of_probe(0, 0, 3, 3)].concat();
+    let hub_at_sleep = vec![1, 1, 1, 1, 1, 255, 255, 1];
     for (name, choices, numbers) in [
         // A run that goes on after a node is late; one that ends otherwise.
         ("lateEnds", vec![255; 5], [1, 255, 5, 5]),
         ("lateEnds", vec![255; 5], [1, 255, 3, 3]),
+        ("lateEnds", with(&[255, 255, 255]), [1, 255, 6, 18]),
         // Late before the first choice, by a choice that is no tick, when nobody
-        // is late.
+        // is late, at the end of the window.
         ("lateIs", vec![], [2, 0, 0, 0]),
         ("lateIs", right.clone(), [2, 0, 3, 19]),
         ("lateIs", vec![255], [2, 1, 1, 1]),
+        ("lateIs", with(&[255, 255]), [2, 0, 5, 17]),
         // A node of a run that is not late.
         ("node", right.clone(), [1, 0, 3, 19]),
         // An invented count of choices, an invented tick.
@@ -103,9 +106,11 @@ fn wrong_numbers() {
         ("ended", right.clone(), [1, 255, 3, 18]),
         ("ended", right.clone(), [1, 255, 0, 0]),
         ("ended", right.clone(), [4, 255, 3, 19]),
-        // A choice refused that is allowed: a tick, a statement.
+        // A choice refused that is allowed: a tick, a trial, a take, a sleep.
         ("refused", vec![255], [3, 255, 0, 0]),
         ("refused", vec![0], [3, 255, 0, 0]),
+        ("refused", vec![0; 5], [3, 255, 0, 4]),
+        ("refused", hub_at_sleep, [3, 255, 2, 7]),
     ] {
         assert_breaks(name, problem(&worked(), &choices, numbers, &written));
     }
