@@ -119,7 +119,7 @@ impl Yardstick {
     /// ```
     pub fn check(&mut self, bytes: &[u8]) -> Result<(), Refusal> {
         read::read(bytes, &mut self.table)?;
-        self.schedule.fill(&self.table, bytes)
+        self.schedule.fill(&mut self.table, bytes)
     }
 
     /// Writes the schedule of a table, [`FIELDS`] numbers a passage, and gives

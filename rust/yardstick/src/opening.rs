@@ -1,4 +1,4 @@
-//! The edge that is taken from a location.
+//! The edge that is taken from a location, and its bounds.
 
 use crate::read::two;
 use crate::table::*;
@@ -72,6 +72,42 @@ fn data_bounds_hold(edge: &Edge, variables: &Variables) -> bool {
         hold &= (low <= value) & (value <= high);
     }
     hold
+}
+
+/// The bounds of an edge that has none.
+const NO_BOUNDS: Bounds = [0, -FAR, 0, -FAR, 0, -FAR, 0, -FAR];
+
+/// Decodes the bounds of all edges from a location.
+#[cold]
+pub(crate) fn decode(component: &mut Component, location: u8, bytes: &[u8]) {
+    let location = &mut component.locations[usize::from(location) % LOCATIONS];
+    location.decoded = true;
+    for number in Bits(location.from) {
+        let edge = &mut component.edges[number % EDGES];
+        edge.bounds = NO_BOUNDS;
+        edge.bounds[2 * (usize::from(location.clock) % CLOCKS) + 1] = -i32::from(location.bound);
+        for &[clock, a, b, c, d] in edge.clock_bounds(bytes) {
+            bound_clock(&mut edge.bounds, clock, two(a, b), two(c, d));
+        }
+        edge.data_low = [i16::MIN; VARIABLES];
+        edge.data_high = [i16::MAX; VARIABLES];
+        for &[variable, a, b, c, d] in edge.data_bounds(bytes) {
+            let variable = usize::from(variable) % VARIABLES;
+            let (low, high) = (two(a, b) as i16, two(c, d) as i16);
+            edge.data_low[variable] = edge.data_low[variable].max(low);
+            edge.data_high[variable] = edge.data_high[variable].min(high);
+        }
+    }
+}
+
+/// One bound more on a clock.
+#[inline]
+fn bound_clock(bounds: &mut Bounds, clock: u8, low: u16, high: u16) {
+    let place = 2 * (usize::from(clock) % CLOCKS);
+    bounds[place] = bounds[place].max(low.into());
+    if high != NO_HIGH {
+        bounds[place + 1] = bounds[place + 1].max(-i32::from(high));
+    }
 }
 
 /// The variables after the updates of an internal edge, in order; nothing if

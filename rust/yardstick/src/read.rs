@@ -10,9 +10,6 @@ const RANGE: u8 = 5;
 /// "6. Does no receive edge list a channel twice?"
 const TWICE: u8 = 6;
 
-/// The bounds of an edge that has none.
-const NO_BOUNDS: Bounds = [0, -FAR, 0, -FAR, 0, -FAR, 0, -FAR];
-
 /// The greatest length of a table.
 const LONGEST: usize = 8192;
 
@@ -117,6 +114,7 @@ fn location(rest: &mut &[u8], clocks: u8) -> Part<Location> {
         clock,
         bound,
         from: 0,
+        decoded: false,
     })
 }
 
@@ -142,90 +140,103 @@ fn read_edge(
         2 if data_bounds == 0 && matches!(items, 1..=8) => Kind::Receive,
         _ => return Err(RANGE),
     };
-    let location = &mut component.locations[usize::from(source) % LOCATIONS];
-    location.from |= 1 << number;
+    component.locations[usize::from(source) % LOCATIONS].from |= 1 << number;
     let edge = &mut component.edges[number % EDGES];
-    *edge = Edge {
-        bounds: NO_BOUNDS,
-        data_low: [i16::MIN; VARIABLES],
-        data_high: [i16::MAX; VARIABLES],
-        at,
-        channels: 0,
-        kind,
-        source,
-        destination,
-        mask,
-        clock_bounds,
-        data_bounds,
-        items,
-        highs: 0,
-    };
-    edge.bounds[2 * (usize::from(location.clock) % CLOCKS) + 1] = -i32::from(location.bound);
-    for _ in 0..clock_bounds {
-        clock_bound(rest, limits, edge)?;
+    edge.at = at;
+    edge.kind = kind;
+    edge.source = source;
+    edge.destination = destination;
+    edge.mask = mask;
+    edge.clock_bounds = clock_bounds;
+    edge.data_bounds = data_bounds;
+    edge.items = items;
+    try_parts(rest, limits, edge)
+}
+
+/// Tries the bounds and items of an edge: those that fit, front to back, then
+/// whether all of them did.
+#[inline]
+fn try_parts(rest: &mut &[u8], limits: &Limits, edge: &mut Edge) -> Part<()> {
+    let bounds = [edge.clock_bounds, edge.data_bounds];
+    let [clocks, data] = bounds.map(|count| BOUND * usize::from(count));
+    let length = clocks + data + usize::from(edge.items) * item_length(edge.kind);
+    let (parts, behind) = rest.split_at(length.min(rest.len()));
+    *rest = behind;
+    let (clocks, others) = parts.split_at(clocks.min(parts.len()));
+    let (data, items) = others.split_at(data.min(others.len()));
+    edge.highs = try_clock_bounds(clocks, limits)?;
+    try_data_bounds(data, limits)?;
+    edge.channels = try_items(edge.kind, items, limits)?;
+    demand(parts.len() == length, FIT)
+}
+
+/// The bytes of an item.
+#[inline]
+fn item_length(kind: Kind) -> usize {
+    match kind {
+        Kind::Internal => UPDATE,
+        Kind::Send => 1,
+        Kind::Receive => PAIR,
     }
-    for _ in 0..data_bounds {
-        data_bound(rest, limits, edge)?;
-    }
-    read_items(rest, limits, edge)
 }
 
 /// "Clock bound, 5 bytes: clock, low (0 to 60,000), high (0 to 60,000, or
-/// 65,535 for none)."
+/// 65,535 for none)." Tries those that fit: how many of them have a high.
 #[inline]
-fn clock_bound(rest: &mut &[u8], limits: &Limits, edge: &mut Edge) -> Part<()> {
-    let &[clock, a, b, c, d] = take::<BOUND>(rest)?;
-    let (low, high) = (two(a, b), two(c, d));
-    let has_high = high != NO_HIGH;
-    let in_range = (clock < limits.clocks) & (low <= MAX_TICKS) & ((high <= MAX_TICKS) | !has_high);
+fn try_clock_bounds(bounds: &[u8], limits: &Limits) -> Part<u8> {
+    let mut in_range = true;
+    let mut highs = 0;
+    for &[clock, a, b, c, d] in bounds.as_chunks::<BOUND>().0 {
+        let (low, high) = (two(a, b), two(c, d));
+        let has_high = high != NO_HIGH;
+        in_range &= (clock < limits.clocks) & (low <= MAX_TICKS);
+        in_range &= (high <= MAX_TICKS) | !has_high;
+        highs += u8::from(has_high);
+    }
     demand(in_range, RANGE)?;
-    let place = 2 * (usize::from(clock) % CLOCKS);
-    let high = if has_high { i32::from(high) } else { FAR };
-    edge.bounds[place] = edge.bounds[place].max(low.into());
-    edge.bounds[place + 1] = edge.bounds[place + 1].max(-high);
-    edge.highs += u8::from(has_high);
-    Ok(())
+    Ok(highs)
 }
 
-/// "Data bound, 5 bytes: variable, low, high, two's complement."
+/// "Data bound, 5 bytes: variable, low, high". Tries those that fit.
 #[inline]
-fn data_bound(rest: &mut &[u8], limits: &Limits, edge: &mut Edge) -> Part<()> {
-    let &[variable, a, b, c, d] = take::<BOUND>(rest)?;
-    demand(variable < limits.variables, RANGE)?;
-    let variable = usize::from(variable) % VARIABLES;
-    let (low, high) = (two(a, b) as i16, two(c, d) as i16);
-    edge.data_low[variable] = edge.data_low[variable].max(low);
-    edge.data_high[variable] = edge.data_high[variable].min(high);
-    Ok(())
+fn try_data_bounds(bounds: &[u8], limits: &Limits) -> Part<()> {
+    let mut in_range = true;
+    for &[variable, ..] in bounds.as_chunks::<BOUND>().0 {
+        in_range &= variable < limits.variables;
+    }
+    demand(in_range, RANGE)
 }
 
-/// Tries the items of an edge, and notes its channels.
+/// Tries the items that fit: the channel of a send or the channels of a
+/// receive, as bits.
 #[inline]
-fn read_items(rest: &mut &[u8], limits: &Limits, edge: &mut Edge) -> Part<()> {
-    match edge.kind {
+fn try_items(kind: Kind, items: &[u8], limits: &Limits) -> Part<u16> {
+    let mut channels = 0;
+    match kind {
         Kind::Internal => {
-            for _ in 0..edge.items {
-                let &[variable, operation, _, _] = take::<UPDATE>(rest)?;
-                demand((variable < limits.variables) & (operation <= 1), RANGE)?;
+            let mut in_range = true;
+            for &[variable, operation, _, _] in items.as_chunks::<UPDATE>().0 {
+                in_range &= (variable < limits.variables) & (operation <= 1);
             }
+            demand(in_range, RANGE)?;
         }
         Kind::Send => {
-            let &[channel] = take(rest)?;
-            demand(channel < limits.channels, RANGE)?;
-            edge.channels = 1 << channel;
+            for &channel in items {
+                demand(channel < limits.channels, RANGE)?;
+                channels = 1 << channel;
+            }
         }
         Kind::Receive => {
-            for _ in 0..edge.items {
-                let &[channel, location] = take::<PAIR>(rest)?;
+            for &[channel, location] in items.as_chunks::<PAIR>().0 {
                 let in_range = (channel < limits.channels) & (location < limits.locations);
                 demand(in_range, RANGE)?;
                 let bit = 1 << channel;
-                demand(edge.channels & bit == 0, TWICE)?;
-                edge.channels |= bit;
+                demand(channels & bit == 0, TWICE)?;
+                channels |= bit;
             }
         }
     }
-    Ok(())
+    Ok(channels)
 }
 
 /// The next bytes, which must fit.

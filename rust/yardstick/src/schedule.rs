@@ -2,7 +2,7 @@
 //! on the way.
 
 use crate::meetings::{Meetings, Window};
-use crate::opening::{taken, updated, Taken};
+use crate::opening::{decode, taken, updated, Taken};
 use crate::table::*;
 use crate::{Refusal, FIELDS, NO_MESSAGE};
 
@@ -76,7 +76,7 @@ impl Schedule {
     }
 
     /// The schedule of a table, with checks 7 to 12.
-    pub(crate) fn fill(&mut self, table: &Table, bytes: &[u8]) -> Result<(), Refusal> {
+    pub(crate) fn fill(&mut self, table: &mut Table, bytes: &[u8]) -> Result<(), Refusal> {
         let mut sweep = Sweep {
             table,
             bytes,
@@ -94,7 +94,7 @@ impl Schedule {
 
 /// What the sweep knows at a tick.
 struct Sweep<'a> {
-    table: &'a Table,
+    table: &'a mut Table,
     bytes: &'a [u8],
     list: &'a mut [Passage; PASSAGES],
     count: usize,
@@ -138,11 +138,14 @@ impl Sweep<'_> {
     /// Opens a passage: checks 7, 8 and 9 in this order.
     #[inline]
     fn open(&mut self, number: usize, location: u8, entry: u32) -> Result<(), Refusal> {
-        let component = self.table.component(number);
-        let lane = &mut self.lanes[number % COMPONENTS];
         if self.count >= PASSAGES {
             return Err(Refusal::of(7, number));
         }
+        let component = &mut self.table.components[number % COMPONENTS];
+        if !component.location(location).decoded {
+            decode(component, location, self.bytes);
+        }
+        let lane = &mut self.lanes[number % COMPONENTS];
         let taken = taken(component, location, &lane.clocks, &lane.variables);
         let taken = taken.ok_or(Refusal::of(8, number))?;
         let edge = component.edge(taken.edge);

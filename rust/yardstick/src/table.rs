@@ -1,9 +1,10 @@
 //! A table decoded once, in arrays of fixed size.
 //!
-//! What the schedule asks for again and again is decoded: the bounds of an
-//! edge are brought together for each clock and each variable, the edges from
-//! a location are bits of a word. What is needed once (the bounds one by one,
-//! updates, pairs) is left in the table's bytes, and each edge knows where.
+//! What the schedule asks for again and again is decoded: the edges from a
+//! location are bits of a word, and when the location is first entered the
+//! bounds of each of them are brought together for each clock and each
+//! variable. What is needed once (the bounds one by one, updates, pairs) is
+//! left in the table's bytes, and each edge knows where.
 
 /// "components (nodes) 1 to 8".
 pub(crate) const COMPONENTS: usize = 8;
@@ -54,6 +55,8 @@ pub(crate) struct Location {
     pub(crate) bound: u16,
     /// The edges from it, as bits.
     pub(crate) from: u32,
+    /// Whether the bounds of these edges are decoded.
+    pub(crate) decoded: bool,
 }
 
 /// The bounds of an edge on its clocks: for each clock the greatest low, then
@@ -65,7 +68,8 @@ pub(crate) type Bounds = [i32; 2 * CLOCKS];
 #[derive(Clone, Copy, Default)]
 #[repr(align(64))]
 pub(crate) struct Edge {
-    /// The bounds on its clocks, that of the invariant included.
+    /// The bounds on its clocks, that of the invariant included; decoded when
+    /// its source is first entered, like the next two.
     pub(crate) bounds: Bounds,
     /// The greatest low of each variable.
     pub(crate) data_low: Variables,
