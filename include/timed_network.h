@@ -3,8 +3,7 @@
  *
  * A table is a string of bytes, laid out as document 01 says under "The
  * table". Link with libtimed_network.a, which `rt staticlib timed_network`
- * writes to target/staticlib, and for timed_network_passages also with
- * libpassages.a, which `rt staticlib passages` writes there.
+ * writes to target/staticlib.
  *
  * What holds for every call here: it always returns, whatever the bytes are,
  * and it keeps nothing from one call to the next. Memory that is lent is
@@ -12,13 +11,15 @@
  *
  * What the caller sees to: a pointer leads to as many bytes or numbers as its
  * length says (2^63 - 1 bytes at most); what is lent to be written overlaps
- * nothing else that is lent; a list of uint32_t is aligned as uint32_t is, one
- * that is not aligned is not allowed. Bytes may start anywhere. The stack that
- * a call takes stands in docs/LINKING.md.
+ * nothing else that is lent; a list of uint32_t or of passages, and a node's
+ * registers, are aligned as their type is, what is not aligned is not allowed.
+ * Bytes may start anywhere. The stack that a call takes stands in
+ * docs/LINKING.md.
  */
 #ifndef TIMED_NETWORK_H
 #define TIMED_NETWORK_H
 
+#include <stdbool.h>
 #include <stddef.h>
 #include <stdint.h>
 
@@ -251,6 +252,79 @@ typedef struct Passage {
  */
 CallNumbers timed_network_passages(const uint8_t *table, size_t length,
                                    Passage *list, size_t list_length);
+
+/*
+ * One node, whose registers the caller lends. A node's part is the part of the
+ * program bytes that belongs to it, as document 01 says under "The program".
+ * The registers may have any values, but a bool is true or false.
+ */
+
+/* A trial: an edge's bounds as far as they were looked at. */
+typedef struct NodeTrial {
+    uint16_t ready; /* the ready delay so far */
+    bool ended;     /* whether the end was lowered */
+    uint16_t end;   /* the end, once it was lowered */
+    bool good;      /* whether no bound failed */
+} NodeTrial;
+
+/* The edge kept, if any. */
+typedef struct NodeKept {
+    bool some;      /* whether there is one */
+    uint8_t edge;   /* its number */
+    uint16_t ready; /* its ready delay */
+    uint16_t end;   /* its end */
+} NodeKept;
+
+/*
+ * The registers of one node. Places of clocks and variables that the node does
+ * not have mean nothing.
+ */
+typedef struct NodeRegisters {
+    size_t pc;          /* the next statement, in bytes from the part's start */
+    uint8_t location;   /* the present location */
+    uint64_t clocks[4]; /* the clocks at its entry */
+    int16_t values[4];  /* the variables */
+    uint64_t t;         /* the tick of the ready of the edge taken */
+    uint16_t n;         /* its ready delay */
+    uint16_t d;         /* the length of its window */
+    uint8_t edge;       /* its number */
+    bool taken;         /* a message was taken, no location entered since */
+    uint8_t goes;       /* the location paired with that message */
+    NodeTrial tried;    /* the trial under way */
+    NodeKept kept;      /* the edge kept so far */
+    uint64_t sleeps;    /* how many sleeps were finished */
+} NodeRegisters;
+
+/*
+ * The registers at the start of a part: in the initial location's block, all
+ * else 0.
+ *
+ * part:   the first of `length` bytes that can be read.
+ * length: how many bytes there are. It may be 0; then the pointer is not read.
+ */
+NodeRegisters timed_network_start(const uint8_t *part, size_t length);
+
+/*
+ * Carries out the statement at the program counter of the node's part.
+ *
+ * node:              the registers. They must not overlap the part.
+ * part, length:      as for timed_network_start.
+ * clocks, variables: how many the node has.
+ *
+ * The registers stay as they are where the part has more than 65,535 bytes,
+ * where clocks or variables is above 4, where t, sleeps or one of the four
+ * clocks is above 4,000,000,000,000,000,000, where the statement is an
+ * addition that leaves -32,768 to 32,767, and where there is no statement. A
+ * take with nothing kept leaves the node at the end of its part, where there
+ * is no statement.
+ *
+ * Whether the statement may be finished now is the caller's to know: the tick
+ * of a sleep or a listen, and the listener of a send. A listen that takes a
+ * message is this call; then set `taken` to true and `goes` to the location
+ * paired with the message's channel.
+ */
+void timed_network_step(NodeRegisters *node, const uint8_t *part,
+                        size_t length, uint8_t clocks, uint8_t variables);
 
 #ifdef __cplusplus
 }

@@ -12,7 +12,7 @@ use Rattle.model.specs.declared.Verdict.the-variants.{Accepted, Refused}
 use Rattle.model.specs.Lists.{Answer, accepted, refused, Bytes, each}
 use Rattle.model.specs.Schedule.{Visit, sevenOf}
 use Rattle.model.specs.Checks.{noVisit, visitAt}
-use Rattle.model.specs.Calls.{Call, numberOf, concernedOf, verdictOf, planIn, scheduleWith, scheduleCall}
+use Rattle.model.specs.Calls.{Call, verdictOf, planIn, scheduleWith, scheduleCall}
 use Rattle.model.proofs.Walk.{all-at}
 use Rattle.model.proofs.Located.{are-bytes}
 use Rattle.table.proofs.Answered.{verdict-refused, verdict-accepted}
@@ -45,16 +45,15 @@ call-laid bs {S} e lent h = ap (passagesWith lent) e ∙ rw (le-leb (length S) (
 
 -- nothing is to be written
 plans-nothing : (bs : List ℕ) (places n c : ℕ) (p : Planned) → ((lent : List Passage) → length lent ≡ places → passagesCall bs lent ≡ keeping n c lent)
-    → (p .number ≡ n) × (p .component ≡ c) × (p .count ≡ 0) → Plans bs places p
+    → (p .verdict ≡ Refused n c) × (p .count ≡ 0) → Plans bs places p
 plans-nothing bs places n c p k h =
     record {
-      within = omega (arith, h .2);
-      few = omega (arith, h .2);
+      within = omega (arith, h .1);
+      few = omega (arith, h .1);
       says = λ lent l. record {
-        number = h .0 ∙ sym (ap (λ (x : PassagesCall). numberOf (x .verdict)) (k lent l));
-        component = h .1 ∙ sym (ap (λ (x : PassagesCall). concernedOf (x .verdict)) (k lent l));
-        size = h .2 ∙ sym (ap (λ (x : PassagesCall). x .size) (k lent l));
-        leaves = ap (copied lent (p .items)) (h .2) ∙ copied-zero lent (p .items) ∙ sym (ap (λ (x : PassagesCall). x .lent) (k lent l));
+        verdict = h .0 ∙ sym (ap (λ (x : PassagesCall). x .verdict) (k lent l));
+        size = h .1 ∙ sym (ap (λ (x : PassagesCall). x .size) (k lent l));
+        leaves = ap (copied lent (p .items)) (h .1) ∙ copied-zero lent (p .items) ∙ sym (ap (λ (x : PassagesCall). x .lent) (k lent l));
       };
     }
 
@@ -69,8 +68,7 @@ plans-passages bs places n S numbers rest p e q few h is laid =
           let room : n ≤ length lent = omega arith in
           let k = call-laid bs e lent (omega arith) in
           record {
-            number = laid .number ∙ sym (ap (λ (x : PassagesCall). numberOf (x .verdict)) k);
-            component = laid .component ∙ sym (ap (λ (x : PassagesCall). concernedOf (x .verdict)) k);
+            verdict = laid .verdict ∙ sym (ap (λ (x : PassagesCall). x .verdict) k);
             size = laid .count ∙ q ∙ sym (ap (λ (x : PassagesCall). x .size) k);
             leaves = ap (copied lent (p .items)) (laid .count) ∙ stored S lent (p .items) numbers rest n q room is (laid .items) ∙ sym (ap (λ (x : PassagesCall). x .lent) k);
           };
@@ -96,7 +94,7 @@ module _ (bs : List ℕ) (b : Bytes bs) (zeros : List ℕ) (long : length zeros 
 
   module _ (v : Verdict) (size : ℕ) (numbers : List ℕ) (says : (v ≡ scheduleCall bs zeros .verdict) × (size ≡ scheduleCall bs zeros .size) × (numbers ≡ scheduleCall bs zeros .lent) × (size ≤ 1024) × (size * 7 ≤ length zeros)) where
     -- refused
-    pub plans-refused : (places n c : ℕ) (p : Planned) → v ≡ Refused n c → (p .number ≡ n) × (p .component ≡ c) × (p .count ≡ 0) → Plans bs places p
+    pub plans-refused : (places n c : ℕ) (p : Planned) → v ≡ Refused n c → (p .verdict ≡ Refused n c) × (p .count ≡ 0) → Plans bs places p
     plans-refused places n c p e h =
         plans-nothing bs places n c p (λ lent l. call-kept bs (verdict-refused (planIn bs) (sym verdict-is ∙ sym (says .0) ∙ e)) lent) h
 
@@ -132,7 +130,7 @@ module _ (bs : List ℕ) (b : Bytes bs) (zeros : List ℕ) (long : length zeros 
                 message = subst (λ (x : Passage). x .message < 256) (sym q) (w .message);
               }
 
-      pub plans-short : (places : ℕ) (p : Planned) → places < size → (p .number ≡ 13) × (p .component ≡ 255) × (p .count ≡ 0) → Plans bs places p
+      pub plans-short : (places : ℕ) (p : Planned) → places < size → (p .verdict ≡ Refused 13 255) × (p .count ≡ 0) → Plans bs places p
       plans-short places p k h = plans-nothing bs places 13 255 p (λ lent l. call-short bs (found .1) lent (omega (arith, size-is))) h
 
       pub plans-laid : (places : ℕ) (p : Planned) → size ≤ places → Laid numbers size p → Plans bs places p

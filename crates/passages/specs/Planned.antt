@@ -3,7 +3,7 @@ use mathlib.Core.Path.{_≡_}
 use mathlib.Core.List.{List}
 use Prim.Native.Nat.{ℕ, _+_, _*_, _≤_, _<_}
 use lib.ListN.{length, getD}
-use Rattle.model.specs.Calls.{numberOf, concernedOf}
+use Rattle.model.specs.declared.Verdict.the-variants.{Accepted}
 use Rattle.passages.specs.declared.Passage.{Passage}
 use Rattle.passages.specs.declared.Planned.{Planned}
 use Rattle.passages.specs.Passages.{PassagesCall, passagesCall}
@@ -42,15 +42,13 @@ pub record SmallRows (l : List ℕ) (n : ℕ) : Type 0 where
 
 -- accepted: the first n passages of the numbers
 pub record Laid (l : List ℕ) (n : ℕ) (p : Planned) : Type 0 where
-  pub number : p .number ≡ 0
-  pub component : p .component ≡ 255
+  pub verdict : p .verdict ≡ Accepted
   pub count : p .count ≡ n
   pub items : (i : ℕ) → i < n → getD (p .items) i blank ≡ passageAt l i
 
 -- the call's answer, and what it leaves of the lent passages
 pub record Says (call : PassagesCall) (p : Planned) (lent : List Passage) : Type 0 where
-  pub number : p .number ≡ numberOf (call .verdict)
-  pub component : p .component ≡ concernedOf (call .verdict)
+  pub verdict : p .verdict ≡ call .verdict
   pub size : p .count ≡ call .size
   pub leaves : copied lent (p .items) (p .count) ≡ call .lent
 

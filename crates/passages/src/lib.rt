@@ -1,10 +1,14 @@
 // The schedule as a lent list of passages. The contract equates the answer, and the whole list afterwards, with the call's
-// definition in specs/Passages.antt, for all inputs. The work is done by value; two thin functions write to the list.
+// definition in specs/Passages.antt, for all inputs. The work is done by value; two thin functions write to the list, and one
+// lends a list of its own.
 ghost use mathlib.Core.Path.{_≡_};
 ghost use Prim.Native.Nat.{ℕ, _+_, _*_, _≤_, _<_};
-ghost use lib.ListN.{length};
-ghost use Rattle.passages.specs.Copied.{copied};
+ghost use lib.ListN.{length, replicate};
+ghost use Rattle.model.specs.declared.Verdict.the-variants.{Refused};
+ghost use Rattle.passages.specs.Passages.{passagesCall};
+ghost use Rattle.passages.specs.Copied.{blank, copied};
 ghost use Rattle.passages.specs.Planned.{passageAt, Small, SmallRows, Laid, Plans};
+use calls::Called;
 use model::Verdict;
 
 // A passage: its seven fields, 255 for no message.
@@ -23,8 +27,7 @@ pub struct Passage {
 pub struct Planned {
     pub items: [Passage; 1024],
     pub count: usize,
-    pub number: u8,
-    pub component: u8,
+    pub verdict: Verdict,
 }
 
 // One passage from its seven numbers.
@@ -50,7 +53,7 @@ fn passage_at(numbers: &[u32], i: usize) -> Passage
 
 // Nothing is to be written.
 fn refused(number: u8, component: u8) -> Planned
-    ensures { λ r. ⌜ (r .number ≡ number) × (r .component ≡ component) × (r .count ≡ 0) ⌝ }
+    ensures { λ r. ⌜ (r .verdict ≡ Refused number component) × (r .count ≡ 0) ⌝ }
 {
     let none = Passage {
         component: 0,
@@ -64,8 +67,7 @@ fn refused(number: u8, component: u8) -> Planned
     Planned {
         items: [none; 1024],
         count: 0,
-        number,
-        component,
+        verdict: Verdict::Refused(number, component),
     }
 }
 
@@ -92,8 +94,7 @@ fn laid_out(numbers: &[u32], n: usize) -> Planned
     Planned {
         items,
         count: n,
-        number: 0,
-        component: 255,
+        verdict: Verdict::Accepted,
     }
 }
 
@@ -139,4 +140,63 @@ pub fn fill(list: &mut [Passage], items: [Passage; 1024], n: usize)
         list[i] = items[i];
         i += 1;
     }
+}
+
+// The answer.
+fn answer_of(p: Planned) -> Called
+    ensures { λ r. ⌜ (r .verdict ≡ p .verdict) × (r .size ≡ p .count) ⌝ }
+{
+    let verdict = p.verdict;
+    Called {
+        verdict,
+        size: p.count,
+    }
+}
+
+// The schedule of a table, laid over the front of the lent list.
+pub fn schedule_into(table: &[u8], list: &mut [Passage]) -> Called
+    ensures { λ r. ⌜ (r .verdict ≡ passagesCall (now (table .entry)) (now (list .entry)) .verdict) × (r .size ≡ passagesCall (now (table .entry)) (now (list .entry)) .size) × (now (list .exit) ≡ passagesCall (now (table .entry)) (now (list .entry)) .lent) × (r .size ≤ 1024) × (r .size ≤ length (now (list .entry))) ⌝ }
+{
+    let p = plan(table, list.len());
+    let n = count_of(p);
+    let items = items_of(p);
+    fill(list, items, n);
+    answer_of(p)
+}
+
+// A list in which nothing was written.
+fn blanks() -> [Passage; 1024]
+    ensures { λ r. ⌜ r ≡ replicate 1024 blank ⌝ }
+{
+    let none = Passage {
+        component: 0,
+        edge: 0,
+        location: 0,
+        message: 0,
+        entry: 0,
+        ready: 0,
+        end: 0,
+    };
+    [none; 1024]
+}
+
+// A list and what was answered of it.
+fn answered(items: [Passage; 1024], c: Called) -> Planned
+    ensures { λ r. ⌜ (r .items ≡ items) × (r .count ≡ c .size) × (r .verdict ≡ c .verdict) ⌝ }
+{
+    let verdict = c.verdict;
+    Planned {
+        items,
+        count: c.size,
+        verdict,
+    }
+}
+
+// The schedule of a table in a list of its own, which is lent to be filled.
+pub fn schedule_of(table: &[u8]) -> Planned
+    ensures { λ r. ⌜ (r .verdict ≡ passagesCall (now (table .entry)) (replicate 1024 blank) .verdict) × (r .count ≡ passagesCall (now (table .entry)) (replicate 1024 blank) .size) × (r .items ≡ passagesCall (now (table .entry)) (replicate 1024 blank) .lent) × (r .count ≤ 1024) ⌝ }
+{
+    let mut items = blanks();
+    let c = schedule_into(table, &mut items);
+    answered(items, c)
 }

@@ -1,8 +1,10 @@
-// Reads a table from standard input and prints its schedule, a line a passage, or `refused`, number, component.
+// Reads a table from standard input and prints its schedule, a line a passage, or `refused`, number, component. The passages are
+// those that were written through a lent list.
 ghost use Prim.Native.Nat.{_≤_};
-ghost use lib.ListN.{length};
 use libc::STDOUT_FILENO;
 use model::Verdict;
+use passages::Passage;
+use passages::Planned;
 
 fn print_number(n: u32, after: u8) {
     io::print_decimal(STDOUT_FILENO, n as u64);
@@ -10,38 +12,36 @@ fn print_number(n: u32, after: u8) {
 }
 
 // The message, - for none.
-fn print_message(m: u32) {
+fn print_message(m: u8) {
     if m == 255 {
         io::write_all(STDOUT_FILENO, b"-\n");
     } else {
-        print_number(m, b'\n');
+        print_number(m as u32, b'\n');
     }
 }
 
-// The seven fields of the passage at the front of the list.
-fn print_passage(list: &[u32])
-    requires { ⌜ 7 ≤ length (now list) ⌝ }
-{
-    print_number(list[0], b' ');
-    print_number(list[1], b' ');
-    print_number(list[2], b' ');
-    print_number(list[3], b' ');
-    print_number(list[4], b' ');
-    print_number(list[5], b' ');
-    print_message(list[6]);
+// The seven fields of a passage.
+fn print_passage(p: Passage) {
+    print_number(p.component as u32, b' ');
+    print_number(p.edge as u32, b' ');
+    print_number(p.location as u32, b' ');
+    print_number(p.entry, b' ');
+    print_number(p.ready, b' ');
+    print_number(p.end, b' ');
+    print_message(p.message);
 }
 
-fn print_schedule(list: &[u32], n: usize) {
+fn print_schedule(p: Planned)
+    requires { ⌜ p .count ≤ 1024 ⌝ }
+{
     io::write_all(STDOUT_FILENO, b"c e l entry ready end msg\n");
-    let mut at: usize = 0;
-    let mut left = n;
-    while 0 < left {
-        if list.len() - at < 7 {
-            return;
-        }
-        print_passage(&list[at..]);
-        at += 7;
-        left -= 1;
+    let items = p.items;
+    let n = p.count;
+    let mut i: usize = 0;
+    while i < n {
+        let passage = items[i];
+        print_passage(passage);
+        i += 1;
     }
 }
 
@@ -55,11 +55,10 @@ fn main() {
     // One byte more than a table may have, so that a longer input is seen.
     let mut input = [0u8; 8193];
     let n = io::read_full(0, &mut input);
-    let mut list = [0u32; 7168];
-    let r = calls::schedule(&input[..n], &mut list);
-    let v = r.verdict;
+    let p = passages::schedule_of(&input[..n]);
+    let v = p.verdict;
     match v {
-        Verdict::Accepted => print_schedule(&list, r.size),
+        Verdict::Accepted => print_schedule(p),
         Verdict::Refused(number, component) => print_refusal(number, component),
     }
 }

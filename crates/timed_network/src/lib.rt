@@ -14,7 +14,6 @@ use calls::Called;
 use model::Verdict;
 use node::Node;
 use passages::Passage;
-use passages::Planned;
 
 // A verdict as two numbers: 0 for accepted, else the number of the refusal; and the component concerned, 255 for none.
 #[repr(C)]
@@ -68,19 +67,6 @@ fn numbers_of(c: Called) -> CallNumbers
             component,
             size,
         },
-    }
-}
-
-// What is to be answered, as numbers.
-fn answer_of(p: Planned) -> CallNumbers
-    requires { ⌜ p .count ≤ 1024 ⌝ }
-    ensures { λ r. ⌜ (r .number ≡ p .number) × (r .component ≡ p .component) × (r .size ≡ p .count) ⌝ }
-{
-    let count = p.count;
-    CallNumbers {
-        number: p.number,
-        component: p.component,
-        size: count as u32,
     }
 }
 
@@ -167,11 +153,8 @@ pub extern "C" fn timed_network_run(
 pub extern "C" fn timed_network_passages(table: &[u8], list: &mut [Passage]) -> CallNumbers
     ensures { λ r. ⌜ (r .number ≡ numberOf (passagesCall (now (table .entry)) (now (list .entry)) .verdict)) × (r .component ≡ concernedOf (passagesCall (now (table .entry)) (now (list .entry)) .verdict)) × (r .size ≡ passagesCall (now (table .entry)) (now (list .entry)) .size) × (now (list .exit) ≡ passagesCall (now (table .entry)) (now (list .entry)) .lent) ⌝ }
 {
-    let p = passages::plan(table, list.len());
-    let n = passages::count_of(p);
-    let items = passages::items_of(p);
-    passages::fill(list, items, n);
-    answer_of(p)
+    let c = passages::schedule_into(table, list);
+    numbers_of(c)
 }
 
 // The registers at the start of the node's part.

@@ -5,8 +5,9 @@
 //! [`schedule_into`] into a lent list of passages, and [`passages`] gives it as
 //! a list of its own. [`translate`] writes the program of an accepted table,
 //! [`program`] gives it as bytes of its own, [`part`] finds one node's part in
-//! it, [`run`] carries out choices. The declarations of the library stand in
-//! one private module; each call gets its safe form here.
+//! it, [`run`] carries out choices. [`node`] has one node whose registers the
+//! caller lends. The declarations of the library stand in two private modules;
+//! each call gets its safe form.
 //!
 //! Every slice may be lent: an empty one, one of any length (a slice never
 //! has more than `isize::MAX` bytes), one that starts anywhere. What a call
@@ -17,6 +18,7 @@
 #![warn(missing_docs)]
 
 mod exported;
+pub mod node;
 mod running;
 
 pub use exported::RunNumbers;

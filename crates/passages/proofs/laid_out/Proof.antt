@@ -47,7 +47,7 @@ returns c =
     let a = c .before .before .before .args in
     let l = c .before .loop in
     let e : l .i ≡ a .n = omega arith in
-    record { number = refl; component = refl; count = refl; items = λ j h. l .inv .2 j (omega arith) }
+    record { verdict = refl; count = refl; items = λ j h. l .inv .2 j (omega arith) }
 
 pub laid-out-spec : {M : Type 1} → statement M
 laid-out-spec =

@@ -1,10 +1,8 @@
-//! Safe calls of the step of one node whose registers are lent.
+//! One node whose registers the caller lends.
 //!
 //! [`Node::start`] gives a node's registers at the start of its part of the
 //! program bytes, [`Node::step`] carries out the statement at its program
 //! counter.
-#![deny(unsafe_code)]
-#![warn(missing_docs)]
 
 mod exported;
 
@@ -73,7 +71,7 @@ impl Node {
     /// all else 0.
     ///
     /// ```
-    /// let node = lent_node::Node::start(&[]);
+    /// let node = timed_network::node::Node::start(&[]);
     /// assert_eq!((node.t, node.location, node.sleeps), (0, 0, 0));
     /// ```
     pub fn start(part: &[u8]) -> Node {

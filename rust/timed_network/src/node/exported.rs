@@ -1,8 +1,8 @@
-//! The library's own calls, as `include/timed_network_node.h` declares them.
-//! All code that the compiler cannot vouch for stands in this module.
+//! The library's calls of one node, as `include/timed_network.h` declares
+//! them.
 #![allow(unsafe_code)]
 
-use crate::Node;
+use super::Node;
 
 extern "C" {
     fn timed_network_start(part: *const u8, length: usize) -> Node;

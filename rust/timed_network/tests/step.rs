@@ -4,10 +4,10 @@
 use std::fs;
 use std::path::Path;
 
-use lent_node::Node;
 use reference::program::{part_bytes, program, NodeProgram, Op, Statement};
 use reference::run::{Node as Second, Registers};
 use reference::table::{read_table, Component, Table};
+use timed_network::node::Node;
 
 /// The tables of the corpus that can be read.
 fn tables() -> Vec<Table> {
