@@ -314,17 +314,30 @@ NodeRegisters timed_network_start(const uint8_t *part, size_t length);
  * The registers stay as they are where the part has more than 65,535 bytes,
  * where clocks or variables is above 4, where t, sleeps or one of the four
  * clocks is above 4,000,000,000,000,000,000, where the statement is an
- * addition that leaves -32,768 to 32,767, and where there is no statement. A
- * take with nothing kept leaves the node at the end of its part, where there
- * is no statement.
+ * addition that leaves -32,768 to 32,767 or a take with nothing kept, and
+ * where there is no statement.
  *
  * Whether the statement may be finished now is the caller's to know: the tick
  * of a sleep or a listen, and the listener of a send. A listen that takes a
- * message is this call; then set `taken` to true and `goes` to the location
- * paired with the message's channel.
+ * message is timed_network_take_message; this call finishes it without one.
  */
 void timed_network_step(NodeRegisters *node, const uint8_t *part,
                         size_t length, uint8_t clocks, uint8_t variables);
+
+/*
+ * Finishes the listen at the program counter with a message on a channel:
+ * `taken` becomes true, and `goes` the location paired with the channel.
+ *
+ * node, part, length: as for timed_network_step.
+ * channel:            the message's.
+ *
+ * The registers stay as they are where the node does not stand at a listen
+ * that names the channel, where it has taken a message already, and where the
+ * part has more than 65,535 bytes. Whether the node has listened long enough
+ * is the caller's to know.
+ */
+void timed_network_take_message(NodeRegisters *node, const uint8_t *part,
+                                size_t length, uint8_t channel);
 
 #ifdef __cplusplus
 }

@@ -11,16 +11,15 @@ use lib.ListN.{length, getD, take, drop}
 use Rattle.model.specs.Lists.{all, All, empty, more}
 use Rattle.model.specs.Reader.{byte, word, complement}
 use Rattle.model.specs.Window.{valueAt, inRange}
-use Rattle.model.specs.Machine.{finish}
 use Rattle.model.specs.Run.{standOf}
-use Rattle.model.proofs.Bools.{clash, and-is}
+use Rattle.model.proofs.Bools.{and-is}
 use Rattle.node.specs.declared.Counts.{Counts}
 use Rattle.node.specs.declared.Node.{Node}
-use Rattle.node.specs.Views.{nodeOf, Held, Within, Addable, opIn, Grown}
-use Rattle.node.proofs.Held.{still}
+use Rattle.node.specs.Views.{nodeOf, Held, Within, Addable, opIn}
+use Rattle.node.specs.After.{after}
 use Rattle.stand.specs.Stands.{mayFinish}
 use Rattle.stand.proofs.ByOp.{stand-at}
-use Rattle.lent_node.specs.Step.{placesFit, highest, registersFit, addsFit, mayStep, Stepped}
+use Rattle.lent_node.specs.Step.{placesFit, highest, registersFit, addsFit, mayStep, steppedOf}
 
 and-true : (a : Bool) → a && true ≡ a
 and-true true = refl
@@ -108,9 +107,9 @@ module _ (p : List ℕ) (k : Counts) (r : Node) where
       (leb-true (length p) 65535 (c .0), held k (c .1), within r (b .1), addable p k r (a .1))
 
   -- the step is taken
-  pub taken : (q : Node) → mayStep p k r ≡ true → nodeOf p k q ≡ finish p (nodeOf p k r) (nodeOf p k r .rest) → Grown r q → Stepped p k r q
-  taken q e n g = record { node = rw e n; same = λ f. clash (sym f ∙ e); grown = g }
+  pub taken : (q : Node) → mayStep p k r ≡ true → q ≡ after p k r → q ≡ steppedOf p k r
+  taken q e n = n ∙ rw e
 
   -- or not
-  pub left-out : mayStep p k r ≡ false → Stepped p k r r
-  left-out e = record { node = rw e; same = λ f. refl; grown = still r r refl refl refl }
+  pub left-out : mayStep p k r ≡ false → r ≡ steppedOf p k r
+  left-out e = rw e

@@ -1,6 +1,5 @@
--- One step of a node whose registers are lent: what its statement leaves, and when it is carried out.
-use mathlib.Core.Path.{_≡_}
-use mathlib.Core.Bool.{Bool, true, false, cond, _&&_}
+-- One step of a node whose registers are lent, and a message that it takes: what they leave, and when they are carried out.
+use mathlib.Core.Bool.{Bool, true, cond, _&&_, not}
 use mathlib.Core.List.{List}
 use Prim.Native.Nat.{ℕ}
 use lib.Dec.{leb, eqb}
@@ -10,9 +9,11 @@ use Rattle.model.specs.Lists.{all}
 use Rattle.model.specs.Reader.{byte, word, complement}
 use Rattle.model.specs.Window.{valueAt, inRange}
 use Rattle.model.specs.Machine.{finish}
+use Rattle.model.specs.Run.{names, standAt}
 use Rattle.node.specs.declared.Counts.{Counts}
 use Rattle.node.specs.declared.Node.{Node}
-use Rattle.node.specs.Views.{nodeOf, opIn, Grown}
+use Rattle.node.specs.Views.{restAt, nodeOf, opIn}
+use Rattle.node.specs.After.{after, afterMessage}
 
 -- how many clocks and variables the node has
 abbrev pub heldOf : ℕ → ℕ → Counts
@@ -37,14 +38,25 @@ addsFit h held r = cond (eqb (opIn h) 2) (inRange (valueAt (take (held .variable
 abbrev pub mayStep : List ℕ → Counts → Node → Bool
 mayStep p held r = leb (length p) 65535 && placesFit held && registersFit r && addsFit (drop (r .pc) p) held r
 
--- the node after it, in the words of the definitions: its statement is finished, or nothing has changed
-abbrev pub stepOf : List ℕ → Counts → Node → Rattle.model.specs.Machine.Node
-stepOf p held r = cond (mayStep p held r) (finish p (nodeOf p held r) (nodeOf p held r .rest)) (nodeOf p held r)
+-- the registers after the step
+abbrev pub steppedOf : List ℕ → Counts → Node → Node
+steppedOf p held r = cond (mayStep p held r) (after p held r) r
 
--- q are the registers r after one step
-pub record Stepped (p : List ℕ) (held : Counts) (r q : Node) : Type 0 where
-  pub node : nodeOf p held q ≡ stepOf p held r
-  -- not carried out: every register is what it was, also past the clocks and variables that the node has
-  pub same : mayStep p held r ≡ false → q ≡ r
-  -- the registers that grow have grown by one passage's length at most
-  pub grown : Grown r q
+-- the registers after a message on channel k
+abbrev pub messageOf : List ℕ → ℕ → Node → Node
+messageOf p k r = cond (leb (length p) 65535) (afterMessage p k r) r
+
+-- ## In the words of the definitions
+
+-- an edge is kept if a take stands at the front
+abbrev pub takeFits : List ℕ → Node → Bool
+takeFits h r = cond (eqb (opIn h) 16) (r .kept .some) true
+
+-- the node after a step: its statement is finished, or nothing has changed
+abbrev pub stepOf : List ℕ → Counts → Node → Rattle.model.specs.Machine.Node
+stepOf p held r =
+    cond (mayStep p held r && takeFits (drop (r .pc) p) r) (finish p (nodeOf p held r) (nodeOf p held r .rest)) (nodeOf p held r)
+
+-- whether the node takes a message on channel k
+abbrev pub mayTake : List ℕ → ℕ → Node → Bool
+mayTake p k r = leb (length p) 65535 && (names k (standAt (restAt p (r .pc))) && not (r .taken))

@@ -1,10 +1,8 @@
-// One node whose registers the caller keeps: its start and one step, by value (document 01, 'The run': "one node's registers after
-// the statement").
+// One node whose registers the caller keeps: its start, one step and a message taken, by value (document 01, 'The run': "one node's
+// registers after the statement").
 ghost use mathlib.Core.Path.{_≡_};
-ghost use Rattle.model.specs.Machine.{startNode};
-ghost use Rattle.node.specs.declared.Counts.{Counts};
-ghost use Rattle.node.specs.Views.{nodeOf, Held, Within};
-ghost use Rattle.lent_node.specs.Step.{heldOf, placesFit, registersFit, mayStep, Stepped};
+ghost use Rattle.node.specs.After.{startOf};
+ghost use Rattle.lent_node.specs.Step.{heldOf, placesFit, registersFit, mayStep, steppedOf, messageOf};
 use node::Counts;
 use node::Node;
 
@@ -53,7 +51,7 @@ fn may_step(p: &[u8], held: Counts, r: Node) -> bool
 
 // The registers after the statement at the program counter of the node's part; the registers as they are if it cannot be carried out.
 pub fn stepped(p: &[u8], clocks: u8, variables: u8, r: Node) -> Node
-    ensures { λ q. ⌜ Stepped (now (p .entry)) (heldOf clocks variables) r q ⌝ }
+    ensures { λ q. ⌜ q ≡ steppedOf (now (p .entry)) (heldOf clocks variables) r ⌝ }
 {
     let held = Counts { clocks, variables };
     if may_step(p, held, r) {
@@ -62,9 +60,25 @@ pub fn stepped(p: &[u8], clocks: u8, variables: u8, r: Node) -> Node
     r
 }
 
+// The registers of a listener after a message on the channel; the registers as they are if the node does not listen on it.
+pub fn message_taken(p: &[u8], channel: u8, r: Node) -> Node
+    ensures { λ q. ⌜ q ≡ messageOf (now (p .entry)) channel r ⌝ }
+{
+    if 65535 < p.len() {
+        return r;
+    }
+    if r.taken {
+        return r;
+    }
+    if stand::names(p, r.pc, channel) {
+        return stand::take_message(p, r, channel);
+    }
+    r
+}
+
 // The registers at the start of the node's part.
 pub fn start(p: &[u8]) -> Node
-    ensures { λ r. ⌜ ((held : Counts) → Held held → nodeOf (now (p .entry)) held r ≡ startNode (now (p .entry)) (held .clocks) (held .variables)) × Within 0 r ⌝ }
+    ensures { λ r. ⌜ r ≡ startOf (now (p .entry)) ⌝ }
 {
     stand::start_node(p)
 }

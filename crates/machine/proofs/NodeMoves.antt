@@ -12,7 +12,9 @@ use Rattle.rows.specs.Rows.{rowsOf}
 use Rattle.node.specs.declared.Counts.{Counts}
 use Rattle.node.specs.declared.Node.{Node}
 use Rattle.node.specs.Views.{nodeOf, Held, Within, Grown, opIn, Addable}
+use Rattle.node.specs.After.{listened}
 use Rattle.node.proofs.Held.{wider}
+use Rattle.stand.proofs.Message.{takes-message, message-grows}
 use Rattle.stand.specs.Stands.{dueTick, lastTick}
 use Rattle.registers.specs.Words.{wordIn, nodeIn, partIn, heldIn, Eight, Stored}
 use Rattle.registers.proofs.Frames.{node-alike, part-alike, held-alike, stored-part, same-trans, put-there, put-beside, put-node, put-others, put-eight, stored-eight}
@@ -227,17 +229,15 @@ module _ (program rows : List ℕ) (n : ℕ) (l : List ℕ) (v : List ℤ) (c ba
       node-moved program rows n l v c l₁ q l′ v′ g₀ w p _ f₀
 
   pub message-moved : (r : Node) (i : ℕ) → r ≡ nodeIn l v c → opOf program l v c ≡ 5
-      → nodeOf (lent program base size) held q ≡ takesMessage (lent program base size) i (nodeOf (lent program base size) held r)
-      → Grown r q → NodePut program rows n l v c q l′ v′
+      → q ≡ listened (lent program base size) i r → NodePut program rows n l v c q l′ v′
       → NodeMoved program rows n l v c (takesMessage (partIn program l c) i (viewIn program l v c)) l′ v′
-  message-moved r i er o e g p =
+  message-moved r i er o e p =
       let part = partIn program l c in
       let r₀ = nodeIn l v c in
-      let g₀ : Grown r₀ q = subst (λ (x : Node). Grown x q) er g in
-      let f₀ : nodeOf part (heldIn l c) q ≡ takesMessage part i (nodeOf part (heldIn l c) r₀) =
-      told (λ x y. nodeOf x y q ≡ takesMessage x i (nodeOf x y r₀))
-      (subst (λ (x : Node). nodeOf (lent program base size) held q ≡ takesMessage (lent program base size) i (nodeOf (lent program base size) held x)) er e) in
-      node-moved program rows n l v c l q l′ v′ g₀
+      let e₀ : q ≡ listened part i r₀ =
+      told (λ x _. q ≡ listened x i r₀) (subst (λ (x : Node). q ≡ listened (lent program base size) i x) er e) in
+      let f₀ : nodeOf part (heldIn l c) q ≡ takesMessage part i (nodeOf part (heldIn l c) r₀) = takes-message part i r₀ o (heldIn l c) q e₀ in
+      node-moved program rows n l v c l q l′ v′ (message-grows part i r₀ q e₀)
       (set-same rows n l c (r₀ .sleeps) (q .sleeps) (message-taken part (heldIn l c) r₀ q i f₀ o))
       p
       _

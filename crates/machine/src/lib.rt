@@ -126,9 +126,8 @@ fn hear(program: &[u8], rows: &[u32], n: usize, l: &mut [u64], v: &mut [i16], i:
 {
     let base = registers::word(l, i, 21) as usize;
     let end = base + registers::word(l, i, 22) as usize;
-    let held = registers::counts(l, i);
     let r = registers::load(l, v, i);
-    let q = stand::take_message(&program[base..end], held, r, k);
+    let q = stand::take_message(&program[base..end], r, k);
     put_node(program, rows, n, l, v, i, q);
 }
 

@@ -5,3 +5,4 @@ pub mod Trials
 pub mod Steps
 pub mod Sums
 pub mod Moves
+pub mod Effects

@@ -10,39 +10,12 @@ use Rattle.model.specs.Reader.{byte}
 use Rattle.model.specs.Program.{Statement, takeEdge, choose}
 use Rattle.model.specs.Machine.{decodings, statementAt, statementLength, blockPlace, exec, finish}
 use Rattle.node.specs.declared.Counts.{Counts}
-use Rattle.node.specs.declared.Kept.{Kept}
 use Rattle.node.specs.declared.Node.{Node}
+use Rattle.node.specs.After.{moved, passing}
 use Rattle.node.specs.Views.{restAt, nodeOf, opIn, Within, Grown, Executed}
 use Rattle.node.proofs.Rest.{rest-past, rest-block}
 use Rattle.node.proofs.Ops.{Opens, opens, statement-op, rest-none, rest-some, rest-on}
 use Rattle.node.proofs.Held.{raise}
-
-module _ (r : Node) where
-  -- at another place
-  abbrev pub moved : ℕ → Node
-  moved pc = record { pc = pc; location = r .location; clocks = r .clocks; values = r .values; t = r .t; n = r .n; d = r .d; edge = r .edge; taken = r .taken; goes = r .goes; tried = r .tried; kept = r .kept; sleeps = r .sleeps }
-
-  abbrev pub nothing : Kept
-  nothing = record { some = false; edge = 0; ready = 0; end = 0 }
-
-  -- in the passage of the edge kept
-  abbrev pub passing : ℕ → ℕ → ℕ → Node
-  passing pc t d =
-      record {
-        pc = pc;
-        location = r .location;
-        clocks = r .clocks;
-        values = r .values;
-        t = t;
-        n = r .kept .ready;
-        d = d;
-        edge = r .kept .edge;
-        taken = r .taken;
-        goes = r .goes;
-        tried = r .tried;
-        kept = nothing;
-        sleeps = r .sleeps;
-      }
 
 -- an op that is known stands inside the part
 pub inside : (p : List ℕ) (at k : ℕ) → Opens (drop at p) k → at + 4 ≤ length p

@@ -21,6 +21,7 @@ use Rattle.node.specs.declared.Counts.{Counts}
 use Rattle.node.specs.declared.Trial.{Trial}
 use Rattle.node.specs.declared.Kept.{Kept}
 use Rattle.node.specs.declared.Node.{Node}
+use Rattle.node.specs.After.{clocked, valued, entered, keeping, sleeping}
 use Rattle.node.specs.Views.{nodeOf, trialOf, keptOf, Addable, Executed, Tried, Grown}
 use Rattle.node.proofs.Ops.{Opens, op-of}
 use Rattle.node.proofs.Held.{set-past, clock-grown}
@@ -31,23 +32,6 @@ from zero zero h = inl refl
 from zero (suc n) h = inr (omega arith)
 from (suc k) zero h = absurd (omega arith)
 from (suc k) (suc n) h = elim (from k n (omega arith)) [ inl e ↦ inl (ap suc e) | inr l ↦ inr (omega arith) ]
-
--- the registers with other clocks, variables, location, trial, edge kept, one more sleep
-module _ (r : Node) where
-  abbrev pub clocked : List ℕ → Node
-  clocked l = record { pc = r .pc; location = r .location; clocks = l; values = r .values; t = r .t; n = r .n; d = r .d; edge = r .edge; taken = r .taken; goes = r .goes; tried = r .tried; kept = r .kept; sleeps = r .sleeps }
-
-  abbrev pub valued : List ℤ → Node
-  valued l = record { pc = r .pc; location = r .location; clocks = r .clocks; values = l; t = r .t; n = r .n; d = r .d; edge = r .edge; taken = r .taken; goes = r .goes; tried = r .tried; kept = r .kept; sleeps = r .sleeps }
-
-  abbrev pub entered : ℕ → Node
-  entered l = record { pc = r .pc; location = l; clocks = r .clocks; values = r .values; t = r .t; n = r .n; d = r .d; edge = r .edge; taken = false; goes = r .goes; tried = r .tried; kept = r .kept; sleeps = r .sleeps }
-
-  abbrev pub keeping : Kept → Node
-  keeping k = record { pc = r .pc; location = r .location; clocks = r .clocks; values = r .values; t = r .t; n = r .n; d = r .d; edge = r .edge; taken = r .taken; goes = r .goes; tried = r .tried; kept = k; sleeps = r .sleeps }
-
-  abbrev pub sleeping : Node
-  sleeping = record { pc = r .pc; location = r .location; clocks = r .clocks; values = r .values; t = r .t; n = r .n; d = r .d; edge = r .edge; taken = r .taken; goes = r .goes; tried = r .tried; kept = r .kept; sleeps = r .sleeps + 1 }
 
 module _ (h : List ℕ) (held : Counts) (r : Node) (fits : 4 ≤ length h) where
   -- the op says which statement stands at the front
@@ -143,15 +127,17 @@ module _ (h : List ℕ) (held : Counts) (r : Node) (fits : 4 ≤ length h) where
 
   -- other clocks, l
   module _ (l : List ℕ) (there : byte h 1 < held .clocks) where
+    pub clock-ages : byte h 0 ≡ 7 → l ≡ set (r .clocks) (byte h 1) (getD (r .clocks) (byte h 1) 0 + (r .n + r .d)) → Executed h held r (clocked r l)
+    unfolding exec
+    clock-ages e k =
+        let v = getD (r .clocks) (byte h 1) 0 + (r .n + r .d) in
+        by-op 7 (age (byte h 1)) (clocked r l) e refl
+        (λ p. rw (k, take-set-lt (held .clocks) (r .clocks) (byte h 1) v there, getD-take (held .clocks) (r .clocks) (byte h 1) 0 there))
+
     pub clock-aged : byte h 0 ≡ 7 → r .n ≤ 65535 → r .d ≤ 65535 → l ≡ set (r .clocks) (byte h 1) (getD (r .clocks) (byte h 1) 0 + (r .n + r .d))
         → Executed h held r (clocked r l) × Grown r (clocked r l)
-    unfolding exec
     clock-aged e n d k =
-        let v = getD (r .clocks) (byte h 1) 0 + (r .n + r .d) in (
-          by-op 7 (age (byte h 1)) (clocked r l) e refl
-              (λ p. rw (k, take-set-lt (held .clocks) (r .clocks) (byte h 1) v there, getD-take (held .clocks) (r .clocks) (byte h 1) 0 there)),
-          clock-grown r (clocked r l) (byte h 1) v refl k refl (omega arith),
-        )
+        (clock-ages e k, clock-grown r (clocked r l) (byte h 1) (getD (r .clocks) (byte h 1) 0 + (r .n + r .d)) refl k refl (omega arith))
 
     pub clock-zero : byte h 0 ≡ 8 → l ≡ set (r .clocks) (byte h 1) 0 → Executed h held r (clocked r l) × Grown r (clocked r l)
     unfolding exec

@@ -1,8 +1,8 @@
 // The trial of an edge: its bounds, and the candidate rule (document 01, 'The program', last paragraph).
 ghost use mathlib.Core.Path.{_≡_};
+ghost use mathlib.Core.Bool.{cond};
 ghost use Prim.Native.Nat.{_-_, min, max};
-ghost use Rattle.model.specs.Machine;
-ghost use Rattle.node.specs.Views.{trialOf, keptOf};
+ghost use Rattle.node.specs.After.{newTrial, raisedTo, loweredTo, metBy, keptBy};
 use crate::Kept;
 use crate::Trial;
 use crate::wide64;
@@ -31,7 +31,7 @@ fn lesser(a: u16, b: u16) -> u16
 }
 
 pub fn no_trial() -> Trial
-    ensures { λ r. ⌜ trialOf r ≡ Machine.noTrial ⌝ }
+    ensures { λ r. ⌜ r ≡ newTrial ⌝ }
 {
     Trial {
         ready: 0,
@@ -43,7 +43,7 @@ pub fn no_trial() -> Trial
 
 // Low raises the ready delay to k less the clock.
 pub fn raised(x: Trial, k: u16, clock: u64) -> Trial
-    ensures { λ r. ⌜ trialOf r ≡ Machine.raised (trialOf x) k clock ⌝ }
+    ensures { λ r. ⌜ r ≡ raisedTo x k clock ⌝ }
 {
     Trial {
         ready: greater(x.ready, left_of(k, clock)),
@@ -55,14 +55,14 @@ pub fn raised(x: Trial, k: u16, clock: u64) -> Trial
 
 // The lower of the trial's end and another, or the other where it has none.
 fn lowest(x: Trial, left: u16) -> u16
-    ensures { λ r. ⌜ r ≡ Machine.lowest (trialOf x .end) left ⌝ }
+    ensures { λ r. ⌜ r ≡ cond (x .ended) (min (x .end) left) left ⌝ }
 {
     if x.ended { lesser(x.end, left) } else { left }
 }
 
 // High lowers the end to k less the clock; a clock beyond k fails the trial.
 pub fn lowered(x: Trial, k: u16, clock: u64) -> Trial
-    ensures { λ r. ⌜ trialOf r ≡ Machine.lowered (trialOf x) k clock ⌝ }
+    ensures { λ r. ⌜ r ≡ loweredTo x k clock ⌝ }
 {
     let left = left_of(k, clock);
     let good = parts::both(x.good, clock <= wide64(k));
@@ -75,7 +75,7 @@ pub fn lowered(x: Trial, k: u16, clock: u64) -> Trial
 }
 
 pub fn met(x: Trial, b: bool) -> Trial
-    ensures { λ r. ⌜ trialOf r ≡ Machine.met (trialOf x) b ⌝ }
+    ensures { λ r. ⌜ r ≡ metBy x b ⌝ }
 {
     Trial {
         ready: x.ready,
@@ -87,7 +87,7 @@ pub fn met(x: Trial, b: bool) -> Trial
 
 // Keep applies the candidate rule: the earlier ready delay, on a tie the edge kept before.
 pub fn keeps(x: Trial, e: u8, k: Kept) -> Kept
-    ensures { λ r. ⌜ keptOf r ≡ Machine.keeps (trialOf x) e (trialOf x .end) (keptOf k) ⌝ }
+    ensures { λ r. ⌜ r ≡ keptBy x e k ⌝ }
 {
     if !x.ended {
         return k;

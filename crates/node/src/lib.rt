@@ -9,11 +9,12 @@ ghost use Prim.Native.Nat.{_+_, _-_, _*_, _≤_, _<_};
 ghost use lib.IntN.{_+ℤ_};
 ghost use lib.ListN.{length, take, drop};
 ghost use Rattle.model.specs.Reader.{byte, word};
-ghost use Rattle.model.specs.Window.{clockAt, valueAt, inRange, paired};
+ghost use Rattle.model.specs.Window.{clockAt, valueAt, inRange};
 ghost use Rattle.model.specs.Machine.{blockPlace, statementLength};
 ghost use Rattle.node.specs.declared.Counts.{Counts};
 ghost use Rattle.node.specs.declared.Node.{Node};
-ghost use Rattle.node.specs.Views.{nodeOf, Held, Within, opIn, Addable, Executed, Tried, Grown};
+ghost use Rattle.node.specs.Views.{Held, Within, opIn, Addable};
+ghost use Rattle.node.specs.After.{trying, clockTried, valueTried, effect, edgeTaken, blockChosen, after};
 
 // How many clocks and variables the node has.
 pub struct Counts {
@@ -139,7 +140,7 @@ pub fn value_at(values: [i16; 4], n: u8, i: u8) -> i16
 // The trial after a bound on that clock: low (0B) or high (0C).
 pub fn by_clock(h: &[u8], x: Trial, clock: u64) -> Trial
     requires { ⌜ (4 ≤ length (now h)) × (11 ≤ byte (now h) 0) × (byte (now h) 0 ≤ 12) ⌝ }
-    ensures { λ y. ⌜ ((held : Counts) (r : Node) → r .tried ≡ x → clockAt (take (held .clocks) (r .clocks)) (byte (now (h .entry)) 1) ≡ clock → Tried (now (h .entry)) held r y) ⌝ }
+    ensures { λ y. ⌜ y ≡ clockTried (now (h .entry)) x clock ⌝ }
 {
     let k = parts::word_at(h, 2);
     if h[0] == 11 {
@@ -151,7 +152,7 @@ pub fn by_clock(h: &[u8], x: Trial, clock: u64) -> Trial
 // The trial after a bound on that variable (0D or 0E).
 pub fn by_value(h: &[u8], x: Trial, value: i16) -> Trial
     requires { ⌜ (4 ≤ length (now h)) × (13 ≤ byte (now h) 0) × (byte (now h) 0 ≤ 14) ⌝ }
-    ensures { λ y. ⌜ ((held : Counts) (r : Node) → r .tried ≡ x → valueAt (take (held .variables) (r .values)) (byte (now (h .entry)) 1) ≡ value → Tried (now (h .entry)) held r y) ⌝ }
+    ensures { λ y. ⌜ y ≡ valueTried (now (h .entry)) x value ⌝ }
 {
     let bound = decoder::signed_at(h, 2);
     if h[0] == 13 {
@@ -163,7 +164,7 @@ pub fn by_value(h: &[u8], x: Trial, value: i16) -> Trial
 // The trial after a bound, by its op, or a new trial (0A).
 fn tried(h: &[u8], held: Counts, r: Node) -> Trial
     requires { ⌜ (4 ≤ length (now h)) × (10 ≤ byte (now h) 0) × (byte (now h) 0 ≤ 14) × Held held ⌝ }
-    ensures { λ x. ⌜ Tried (now (h .entry)) held r x ⌝ }
+    ensures { λ x. ⌜ trying r x ≡ effect (now (h .entry)) held r ⌝ }
 {
     let op = h[0];
     let a = h[1];
@@ -182,7 +183,7 @@ fn tried(h: &[u8], held: Counts, r: Node) -> Trial
 // A statement of a trial (0A to 0F).
 fn try_statement(h: &[u8], held: Counts, r: Node) -> Node
     requires { ⌜ (4 ≤ length (now h)) × (10 ≤ byte (now h) 0) × (byte (now h) 0 ≤ 15) × Held held ⌝ }
-    ensures { λ q. ⌜ Executed (now (h .entry)) held r q × Grown r q ⌝ }
+    ensures { λ q. ⌜ q ≡ effect (now (h .entry)) held r ⌝ }
 {
     let mut q = r;
     if h[0] == 15 {
@@ -206,7 +207,7 @@ pub fn sum(x: i16, z: i16) -> i16
 // Set (01) and add (02).
 fn update_statement(h: &[u8], held: Counts, r: Node) -> Node
     requires { ⌜ (4 ≤ length (now h)) × (1 ≤ byte (now h) 0) × (byte (now h) 0 ≤ 2) × Held held × Addable (now h) held r ⌝ }
-    ensures { λ q. ⌜ Executed (now (h .entry)) held r q × Grown r q ⌝ }
+    ensures { λ q. ⌜ q ≡ effect (now (h .entry)) held r ⌝ }
 {
     let a = h[1];
     if held.variables <= a {
@@ -227,7 +228,7 @@ fn update_statement(h: &[u8], held: Counts, r: Node) -> Node
 // Age (07) and zero (08).
 fn clock_statement(h: &[u8], held: Counts, r: Node) -> Node
     requires { ⌜ (4 ≤ length (now h)) × (7 ≤ byte (now h) 0) × (byte (now h) 0 ≤ 8) × Held held × Within 4000000000000000000 r ⌝ }
-    ensures { λ q. ⌜ Executed (now (h .entry)) held r q × Grown r q ⌝ }
+    ensures { λ q. ⌜ q ≡ effect (now (h .entry)) held r ⌝ }
 {
     let a = h[1];
     if held.clocks <= a {
@@ -247,7 +248,7 @@ fn clock_statement(h: &[u8], held: Counts, r: Node) -> Node
 // Enter (09): the location, after a message the paired one.
 fn enter_statement(h: &[u8], held: Counts, r: Node) -> Node
     requires { ⌜ (4 ≤ length (now h)) × (byte (now h) 0 ≡ 9) ⌝ }
-    ensures { λ q. ⌜ Executed (now (h .entry)) held r q × Grown r q ⌝ }
+    ensures { λ q. ⌜ q ≡ effect (now (h .entry)) held r ⌝ }
 {
     let to = h[3];
     let mut q = r;
@@ -263,7 +264,7 @@ fn enter_statement(h: &[u8], held: Counts, r: Node) -> Node
 // A statement of work or after it (00 to 09). Done, send and listen change no register.
 fn work_statement(h: &[u8], held: Counts, r: Node) -> Node
     requires { ⌜ (4 ≤ length (now h)) × (byte (now h) 0 ≤ 9) × Held held × Within 4000000000000000000 r × Addable (now h) held r ⌝ }
-    ensures { λ q. ⌜ Executed (now (h .entry)) held r q × Grown r q ⌝ }
+    ensures { λ q. ⌜ q ≡ effect (now (h .entry)) held r ⌝ }
 {
     let op = h[0];
     if op == 0 {
@@ -294,15 +295,14 @@ pub fn statement_length(h: &[u8]) -> usize
     4
 }
 
-// Take (10): t moves by the old d, then by the new ready delay; with nothing kept there is no next statement.
-fn take_edge(p: &[u8], held: Counts, r: Node) -> Node
-    requires { ⌜ (opIn (drop (r .pc) (now p)) ≡ 16) × Within 4000000000000000000 r ⌝ }
-    ensures { λ q. ⌜ (nodeOf (now (p .entry)) held q ≡ Rattle.model.specs.Machine.finish (now (p .entry)) (nodeOf (now (p .entry)) held r) (nodeOf (now (p .entry)) held r .rest)) × Grown r q ⌝ }
+// Take (10): t moves by the old d, then by the new ready delay; with nothing kept nothing changes.
+fn take_edge(p: &[u8], r: Node) -> Node
+    requires { ⌜ Within 4000000000000000000 r ⌝ }
+    ensures { λ q. ⌜ q ≡ edgeTaken (now (p .entry)) r ⌝ }
 {
     let k = r.kept;
     let mut q = r;
     if !k.some {
-        q.pc = p.len();
         return q;
     }
     q.pc = block_place(p, wide(byte_at(p, 2)) + wide(k.edge));
@@ -322,29 +322,28 @@ fn take_edge(p: &[u8], held: Counts, r: Node) -> Node
 }
 
 // Choose (11) goes to the present location's block.
-fn choose_block(p: &[u8], held: Counts, r: Node) -> Node
-    requires { ⌜ opIn (drop (r .pc) (now p)) ≡ 17 ⌝ }
-    ensures { λ q. ⌜ (nodeOf (now (p .entry)) held q ≡ Rattle.model.specs.Machine.finish (now (p .entry)) (nodeOf (now (p .entry)) held r) (nodeOf (now (p .entry)) held r .rest)) × Grown r q ⌝ }
+fn choose_block(p: &[u8], r: Node) -> Node
+    ensures { λ q. ⌜ q ≡ blockChosen (now (p .entry)) r ⌝ }
 {
     let mut q = r;
     q.pc = block_place(p, wide(r.location));
     q
 }
 
-// The registers after the statement at the program counter.
+// The registers after the statement at the program counter; as they are where there is none, and at a take with nothing kept.
 pub fn finish(p: &[u8], held: Counts, r: Node) -> Node
     requires { ⌜ (length (now p) ≤ 65535) × Held held × Within 4000000000000000000 r × Addable (drop (r .pc) (now p)) held r ⌝ }
-    ensures { λ q. ⌜ (nodeOf (now (p .entry)) held q ≡ Rattle.model.specs.Machine.finish (now (p .entry)) (nodeOf (now (p .entry)) held r) (nodeOf (now (p .entry)) held r .rest)) × Grown r q ⌝ }
+    ensures { λ q. ⌜ q ≡ after (now (p .entry)) held r ⌝ }
 {
     let op = op_at(p, r.pc);
     if op == 255 {
         return r;
     }
     if op == 16 {
-        return take_edge(p, held, r);
+        return take_edge(p, r);
     }
     if op == 17 {
-        return choose_block(p, held, r);
+        return choose_block(p, r);
     }
     let at = r.pc;
     let h = &p[at..];

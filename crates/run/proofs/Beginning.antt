@@ -22,6 +22,8 @@ use Rattle.program.proofs.Parting.{cut}
 use Rattle.node.specs.declared.Counts.{Counts}
 use Rattle.node.specs.declared.Node.{Node}
 use Rattle.node.specs.Views.{nodeOf, Held, Within}
+use Rattle.node.specs.After.{startOf}
+use Rattle.stand.proofs.Start.{starts}
 use Rattle.registers.specs.Words.{wordIn, nodeIn, partIn, heldIn, Eight, SameNode}
 use Rattle.registers.proofs.Frames.{put-there, put-beside, put-length, put-others, same-trans}
 use Rattle.machine.specs.Running.{RowIs}
@@ -133,7 +135,7 @@ first-row rows n c r h e t =
 -- ## The node
 
 -- what has not grown has not grown beyond m
-pub further : {m : ℕ} {q : Node} → Within 0 q → Within m q
+further : {m : ℕ} {q : Node} → Within 0 q → Within m q
 further w = record { t = omega (arith, w .t); clocks = all-then (λ x h. omega arith) (w .clocks); sleeps = omega (arith, w .sleeps) }
 
 module _ (program : List ℕ) (b : (i : ℕ) → Fits w8 (getD program i 0)) {c : ℕ} {s : Span} (at : Spans program s (partOf program c)) {l l₁ : List ℕ} {clocks variables r : ℕ}
@@ -149,8 +151,16 @@ module _ (program : List ℕ) (b : (i : ℕ) → Fits w8 (getD program i 0)) {c 
   pub put-eight : {v : List ℤ} → Eight l v → Eight l₁ v
   put-eight g = record { words = omega (arith, w .same, g .words); values = g .values }
 
+  -- the registers at the start of the part as it is lent
+  abbrev pub Begun : Node → Type 0
+  Begun q = q ≡ startOf (take (s .start + s .long - s .start) (drop (s .start) program))
+
+  -- no register has grown
+  pub begun-within : {m : ℕ} {q : Node} → Begun q → Within m q
+  begun-within {q = q} e = further (starts (take (s .start + s .long - s .start) (drop (s .start) program)) q e .1)
+
   module _ (rows : List ℕ) (n : ℕ) (few : clocks ≤ 4) (small : variables ≤ 4) {q : Node}
-      (says : ((held : Counts) → Held held → nodeOf (take (s .start + s .long - s .start) (drop (s .start) program)) held q ≡ startNode (take (s .start + s .long - s .start) (drop (s .start) program)) (held .clocks) (held .variables)) × Within 0 q)
+      (begun : Begun q)
       (first : (r ≤ n) × (own c (drop r (rowsOf rows n)) ≡ own c (drop 0 (rowsOf rows n))) × (r < n → num rows r 0 ≡ c))
       {v : List ℤ} {l′ : List ℕ} {v′ : List ℤ} (x : NodePut program rows n l₁ v c q l′ v′) where
     abbrev held : Counts
@@ -168,12 +178,14 @@ module _ (program : List ℕ) (b : (i : ℕ) → Fits w8 (getD program i 0)) {c 
     part-is : partIn program l′ c ≡ partBytes program c
     part-is = rw (x .beside 21 (omega arith) (omega arith), x .beside 22 (omega arith) (omega arith), w .begins, w .lasts, at .start, at .long)
 
-    starts : nodeOf (partBytes program c) held q ≡ startNode (partBytes program c) clocks variables
-    starts = subst (λ (p : List ℕ). nodeOf p held q ≡ startNode p clocks variables) (cut program s at) (says .0 held fits)
+    begins : nodeOf (partBytes program c) held q ≡ startNode (partBytes program c) clocks variables
+    begins =
+        subst (λ (p : List ℕ). nodeOf p held q ≡ startNode p clocks variables) (cut program s at)
+        (starts (take (s .start + s .long - s .start) (drop (s .start) program)) q begun .0 held fits)
 
     row-is : RowIs (rowsOf rows n) c (nodeIn l′ v′ c .sleeps) (wordIn l′ c 25)
     row-is =
-        let z : q .sleeps ≡ 0 = omega (arith, says .1 .sleeps) in
+        let z : q .sleeps ≡ 0 = ap (λ (y : Node). y .sleeps) begun in
         let e : nodeIn l′ v′ c .sleeps ≡ 0 = ap (λ (y : Node). y .sleeps) (x .node) ∙ z in
         rw (e, x .beside 25 (omega arith) (omega arith), w .passes) (first-row rows n c r (first .0) (first .1) (first .2))
 
@@ -186,7 +198,7 @@ module _ (program : List ℕ) (b : (i : ℕ) → Fits w8 (getD program i 0)) {c 
                 short = rw (x .beside 22 (omega arith) (omega arith)) (put-inside .short);
                 part = part-is;
                 held = rw held-is fits;
-                within = rw (x .node) (says .1);
+                within = rw (x .node) (begun-within begun);
                 row = row-is;
                 due = x .due;
                 last = x .last;
@@ -195,7 +207,7 @@ module _ (program : List ℕ) (b : (i : ℕ) → Fits w8 (getD program i 0)) {c 
               ap (λ (p : List ℕ). nodeOf p (heldIn l′ c) (nodeIn l′ v′ c)) part-is
               ∙ ap (λ (k : Counts). nodeOf (partBytes program c) k (nodeIn l′ v′ c)) held-is
               ∙ ap (nodeOf (partBytes program c) held) (x .node)
-              ∙ starts;
+              ∙ begins;
           counts = ap (λ (k : Counts). record { clocks = k .clocks; variables = k .variables }) held-is;
           others = λ i d. same-trans (record { words = λ k h. w .others i k d h; values = λ k h. refl }) (x .others i d);
           eight = x .eight;

@@ -5,7 +5,7 @@ use mathlib.Core.List.{List}
 use mathlib.Core.Option.{none, some}
 use Prim.Native.Nat.{ℕ, zero, suc, _+_, _≤_, _<_}
 use native.Mathlib.Omega.{arith}
-use borrow.Author.Tests.{ne-eqb}
+use borrow.Author.Tests.{eqb-true, eqb-false, ne-eqb}
 use lib.Dec.{eqb}
 use lib.ListN.{length, drop, getD, length-drop}
 use lib.Seq.{getD-drop, drop-drop}
@@ -15,6 +15,7 @@ use Rattle.model.specs.Places.{listAt}
 use Rattle.model.specs.Window.{Pick}
 use Rattle.model.specs.Machine.{Node, decodings, pairAt}
 use Rattle.model.specs.Run.{Stand, sleeping, sending, listening, finishing, adding, working, taking, elsewhere, nowhere, names, standAt, windowEnd}
+use Rattle.model.proofs.Bools.{clash}
 use Rattle.node.specs.declared.Kept.{Kept}
 use Rattle.node.specs.Views.{restAt, opIn, keptOf}
 use Rattle.node.proofs.Ops.{Op, absent, present, op-is, opens, stood, stand-any, stand-op}
@@ -88,6 +89,14 @@ module _ {bs : List ℕ} {op : ℕ} {s : Stand} where
   unnamed k (takes a e) n = rw e
   unnamed k (between a b c e) n = rw e
   unnamed k (lost a e) n = rw e
+
+  -- a channel is named at a listen alone
+  pub named : (k : ℕ) → Sort bs op s → names k s ≡ true → op ≡ 5
+  named k o n = go (eqb op 5) refl
+    where
+      go : (t : Bool) → eqb op 5 ≡ t → op ≡ 5
+      go true e = eqb-true op 5 e
+      go false e = clash (unnamed k o (eqb-false op 5 e) ∙ n)
 
   -- at neither a sleep nor a listen, no tick is due
   pub undue : (r : Node) → Sort bs op s → (op ≡ 0 → ⊥) → (op ≡ 5 → ⊥) → never ≡ dueTick r s

@@ -1,6 +1,5 @@
 -- The registers at a program's start. Assumes nothing.
-use mathlib.Core.Path.{_≡_, refl}
-use mathlib.Core.Bool.{true, false}
+use mathlib.Core.Path.{_≡_, refl, sym, ap, subst, _∙_}
 use mathlib.Core.List.{List, [], _∷_}
 use Prim.Native.Nat.{ℕ, zero, suc, _≤_}
 use native.Mathlib.Omega.{arith}
@@ -8,10 +7,11 @@ use lib.IntN.{pos}
 use lib.ListN.{take, replicate}
 use Rattle.model.specs.Lists.{empty, more}
 use Rattle.model.specs.Reader.{byte}
-use Rattle.model.specs.Machine.{blockPlace, startNode}
+use Rattle.model.specs.Machine.{startNode}
 use Rattle.node.specs.declared.Counts.{Counts}
 use Rattle.node.specs.declared.Node.{Node}
 use Rattle.node.specs.Views.{nodeOf, Held, Within}
+use Rattle.node.specs.After.{startOf}
 use Rattle.node.proofs.Rest.{rest-block}
 
 -- of four places the first n
@@ -23,34 +23,20 @@ first-of a (suc (suc (suc zero))) h = refl
 first-of a (suc (suc (suc (suc zero)))) h = refl
 first-of a (suc (suc (suc (suc (suc n))))) h = absurd (omega arith)
 
--- in the block at `at`, all else 0
-abbrev pub beginning : ℕ → ℕ → Node
-beginning at location =
-    record {
-      pc = at;
-      location = location;
-      clocks = 0 ∷ 0 ∷ 0 ∷ 0 ∷ [];
-      values = pos 0 ∷ pos 0 ∷ pos 0 ∷ pos 0 ∷ [];
-      t = 0;
-      n = 0;
-      d = 0;
-      edge = 0;
-      taken = false;
-      goes = 0;
-      tried = record { ready = 0; ended = false; end = 0; good = true };
-      kept = record { some = false; edge = 0; ready = 0; end = 0 };
-      sleeps = 0;
-    }
+-- in the initial location's block, all else 0
+module _ (p : List ℕ) where
+  -- a node is at its program's start
+  pub begins : (held : Counts) → Held held → nodeOf p held (startOf p) ≡ startNode p (held .clocks) (held .variables)
+  begins held h =
+      rw (rest-block p (byte p 4), first-of {A = ℕ} 0 (held .clocks) (h .clocks), first-of (pos 0) (held .variables) (h .variables))
 
--- in the initial location's block, a node is at its program's start
-pub begins : (p : List ℕ) (held : Counts) → Held held → {at location : ℕ} → location ≡ byte p 4 → at ≡ blockPlace p location
-    → nodeOf p held (beginning at location) ≡ startNode p (held .clocks) (held .variables)
-begins p held h e f =
-    rw (f, e, rest-block p (byte p 4), first-of {A = ℕ} 0 (held .clocks) (h .clocks), first-of (pos 0) (held .variables) (h .variables))
+  -- and no register has grown
+  pub still : Within 0 (startOf p)
+  still = record { t = none; clocks = more none (more none (more none (more none empty))); sleeps = none }
+    where
+      none : _≤_ 0 0
+      none = omega arith
 
--- and no register has grown
-pub still : (at location : ℕ) → Within 0 (beginning at location)
-still at location = record { t = none; clocks = more none (more none (more none (more none empty))); sleeps = none }
-  where
-    none : _≤_ 0 0
-    none = omega arith
+  -- both, of registers that are those
+  pub starts : (r : Node) → r ≡ startOf p → ((held : Counts) → Held held → nodeOf p held r ≡ startNode p (held .clocks) (held .variables)) × Within 0 r
+  starts r e = (λ held h. ap (nodeOf p held) e ∙ begins held h, subst (Within 0) (sym e) still)

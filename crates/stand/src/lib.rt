@@ -10,11 +10,12 @@ ghost use Rattle.model.specs.Lists.{any};
 ghost use Rattle.model.specs.Reader.{word, complement};
 ghost use Rattle.model.specs.Places.{listAt};
 ghost use Rattle.model.specs.Window.{inRange, paired};
-ghost use Rattle.model.specs.Machine.{pairAt, startNode};
-ghost use Rattle.model.specs.Run.{standAt, standOf, takesMessage};
+ghost use Rattle.model.specs.Machine.{pairAt};
+ghost use Rattle.model.specs.Run.{standAt, standOf};
 ghost use Rattle.node.specs.declared.Counts.{Counts};
 ghost use Rattle.node.specs.declared.Node.{Node};
-ghost use Rattle.node.specs.Views.{restAt, nodeOf, Held, Within, opIn, Grown};
+ghost use Rattle.node.specs.Views.{restAt, nodeOf, Held, Within, opIn};
+ghost use Rattle.node.specs.After.{listened, startOf};
 ghost use Rattle.stand.specs.Stands.{mayFinish, addFits, dueTick, lastTick};
 use node::Counts;
 use node::Kept;
@@ -67,13 +68,14 @@ pub fn names(p: &[u8], at: usize, k: u8) -> bool
 }
 
 // The listener's registers after a message on the channel: its statement is finished too, and enter will go to the paired location.
-pub fn take_message(p: &[u8], held: Counts, r: Node, k: u8) -> Node
-    requires { ⌜ (length (now p) ≤ 65535) × Held held × Within 4000000000000000000 r × (opIn (drop (r .pc) (now p)) ≡ 5) ⌝ }
-    ensures { λ q. ⌜ (nodeOf (now (p .entry)) held q ≡ takesMessage (now (p .entry)) k (nodeOf (now (p .entry)) held r)) × Grown r q ⌝ }
+pub fn take_message(p: &[u8], r: Node, k: u8) -> Node
+    requires { ⌜ (length (now p) ≤ 65535) × (opIn (drop (r .pc) (now p)) ≡ 5) ⌝ }
+    ensures { λ q. ⌜ q ≡ listened (now (p .entry)) k r ⌝ }
 {
     let at = r.pc;
     let location = paired_location(p, at + 4, p[at + 1], k);
-    let mut q = node::finish(p, held, r);
+    let mut q = r;
+    q.pc = at + node::statement_length(&p[at..]);
     q.taken = true;
     q.goes = location;
     q
@@ -159,7 +161,7 @@ pub fn may_finish(p: &[u8], held: Counts, r: Node, tick: u64) -> bool
 
 // A node at its program's start: in the initial location's block, all else 0.
 pub fn start_node(p: &[u8]) -> Node
-    ensures { λ r. ⌜ ((held : Counts) → Held held → nodeOf (now (p .entry)) held r ≡ startNode (now (p .entry)) (held .clocks) (held .variables)) × Within 0 r ⌝ }
+    ensures { λ r. ⌜ r ≡ startOf (now (p .entry)) ⌝ }
 {
     let location = node::byte_at(p, 4);
     let clocks = [0u64; 4];

@@ -11,15 +11,17 @@ use lib.Seq.{getD-take}
 use Rattle.model.specs.Lists.{All}
 use Rattle.model.specs.Reader.{byte}
 use Rattle.model.specs.Window.{clockAt}
-use Rattle.model.specs.Machine.{blockPlace, statementLength, keeps}
+use Rattle.model.specs.Machine.{blockPlace, statementLength}
 use Rattle.node.specs.declared.Counts.{Counts}
 use Rattle.node.specs.declared.Trial.{Trial}
 use Rattle.node.specs.declared.Kept.{Kept}
 use Rattle.node.specs.declared.Node.{Node}
-use Rattle.node.specs.Views.{trialOf, keptOf, opIn, Executed, Tried, Grown}
+use Rattle.node.specs.Views.{keptOf, opIn, Executed, Tried, Grown}
+use Rattle.node.specs.After.{keptBy, nothingKept, passing}
 use Rattle.node.proofs.Held.{still, sleep-grown, each-within}
+use Rattle.node.proofs.Trials.{kept-is}
 use Rattle.node.proofs.Steps.{slept, idle, trial-kept}
-use Rattle.node.proofs.Moves.{nothing, passing, take-none, take-some, take-grown, choose-goes}
+use Rattle.node.proofs.Moves.{take-none, take-some, take-grown, choose-goes}
 use Rattle.registers.specs.Words.{wordIn, trialIn, keptIn, nodeIn, heldIn, Stored, atPlace, withClocks, withValues, entering, withTrial, withKept, withPassage, withSleeps}
 use Rattle.registers.proofs.Puts.{stored-then, stored-same, stored-as}
 use Rattle.statement.specs.Done.{Carried, Finished}
@@ -69,11 +71,11 @@ module _ (h l : List ℕ) (v : List ℤ) (c : ℕ) (fits : 4 ≤ length h) where
     carried-trial y t s = record { node = withTrial r y; executed = t; grown = still r (withTrial r y) refl refl refl; place = refl; stored = s }
 
     pub carried-kept : (x : Trial) (k k′ : Kept) → x ≡ trialIn l c → k ≡ keptIn l c → byte h 0 ≡ 15
-        → keptOf k′ ≡ keeps (trialOf x) (byte h 3) (trialOf x .end) (keptOf k) → Stored l v c (withKept r k′) l′ v → Carried h l v c l′ v
+        → k′ ≡ keptBy x (byte h 3) k → Stored l v c (withKept r k′) l′ v → Carried h l v c l′ v
     carried-kept x k k′ ex ek e f s =
         record {
           node = withKept r k′;
-          executed = trial-kept h held r fits k′ e (f ∙ ap₂ (λ (y : Trial) (z : Kept). keeps (trialOf y) (byte h 3) (trialOf y .end) (keptOf z)) ex ek);
+          executed = trial-kept h held r fits k′ e (ap keptOf (f ∙ ap₂ (λ (y : Trial) (z : Kept). keptBy y (byte h 3) z) ex ek) ∙ kept-is (trialIn l c) (byte h 3) (keptIn l c));
           grown = still r (withKept r k′) refl refl refl;
           place = refl;
           stored = s;
@@ -111,7 +113,7 @@ module _ (p l : List ℕ) (v : List ℤ) (c : ℕ) where
 
   pub finished-taken : (k : Kept) (to t d : ℕ) {l₁ l₂ l₃ : List ℕ} → k ≡ keptIn l c → opIn (drop (wordIn l c 0) p) ≡ 16 → k .some ≡ true → to ≡ blockPlace p (byte p 2 + k .edge)
       → t ≡ wordIn l c 1 + wordIn l c 7 % 65536 + k .ready → d ≡ k .end - k .ready → Stored l v c (atPlace now to) l₁ v
-      → Stored l₁ v c (withPassage (nodeIn l₁ v c) (k .edge) t (k .ready) d) l₂ v → Stored l₂ v c (withKept (nodeIn l₂ v c) (nothing now)) l₃ v → Finished p l v c to l₃ v
+      → Stored l₁ v c (withPassage (nodeIn l₁ v c) (k .edge) t (k .ready) d) l₂ v → Stored l₂ v c (withKept (nodeIn l₂ v c) (nothingKept)) l₃ v → Finished p l v c to l₃ v
   finished-taken k to t d {l₁} {l₂} {l₃} ek o f et tt dd s₁ s₂ s₃ =
       let some : keptIn l c .some ≡ true = sym (ap (λ (x : Kept). x .some) ek) ∙ f in
       let place : to ≡ blockPlace p (byte p 2 + keptIn l c .edge) = et ∙ ap (λ (x : Kept). blockPlace p (byte p 2 + x .edge)) ek in
@@ -119,8 +121,8 @@ module _ (p l : List ℕ) (v : List ℤ) (c : ℕ) where
       let span : d ≡ keptIn l c .end - keptIn l c .ready = dd ∙ ap (λ (x : Kept). x .end - x .ready) ek in
       let node : nodeIn l₃ v c ≡ passing now to t d =
       s₃ .node
-      ∙ (ap (λ (x : Node). withKept x (nothing now)) (s₂ .node ∙ ap (λ (x : Node). withPassage x (k .edge) t (k .ready) d) (s₁ .node))
-      ∙ ap (λ (x : Kept). withKept (withPassage (atPlace now to) (x .edge) t (x .ready) d) (nothing now)) ek) in
+      ∙ (ap (λ (x : Node). withKept x (nothingKept)) (s₂ .node ∙ ap (λ (x : Node). withPassage x (k .edge) t (k .ready) d) (s₁ .node))
+      ∙ ap (λ (x : Kept). withKept (withPassage (atPlace now to) (x .edge) t (x .ready) d) (nothingKept)) ek) in
       record {
         node = passing now to t d;
         finished = take-some p has now to t d o some place time span;

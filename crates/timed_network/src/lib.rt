@@ -3,11 +3,9 @@
 ghost use mathlib.Core.Path.{_≡_};
 ghost use Prim.Native.Nat.{_≤_};
 ghost use Rattle.model.specs.Program.{partOf};
-ghost use Rattle.model.specs.Machine.{startNode};
 ghost use Rattle.model.specs.Calls.{checkCall, scheduleCall, translateCall, runCall, numberOf, concernedOf, Demand3Of};
-ghost use Rattle.node.specs.declared.Counts.{Counts};
-ghost use Rattle.node.specs.Views.{nodeOf, Held, Within};
-ghost use Rattle.lent_node.specs.Step.{heldOf, Stepped};
+ghost use Rattle.node.specs.After.{startOf};
+ghost use Rattle.lent_node.specs.Step.{heldOf, steppedOf, messageOf};
 ghost use Rattle.passages.specs.Passages.{passagesCall};
 ghost use Rattle.timed_network.specs.Numbers.{NumbersOf};
 use calls::Called;
@@ -160,7 +158,7 @@ pub extern "C" fn timed_network_passages(table: &[u8], list: &mut [Passage]) -> 
 // The registers at the start of the node's part.
 #[no_mangle]
 pub extern "C" fn timed_network_start(p: &[u8]) -> Node
-    ensures { λ r. ⌜ ((held : Counts) → Held held → nodeOf (now (p .entry)) held r ≡ startNode (now (p .entry)) (held .clocks) (held .variables)) × Within 0 r ⌝ }
+    ensures { λ r. ⌜ r ≡ startOf (now (p .entry)) ⌝ }
 {
     lent_node::start(p)
 }
@@ -168,8 +166,17 @@ pub extern "C" fn timed_network_start(p: &[u8]) -> Node
 // One step on registers that are lent.
 #[no_mangle]
 pub extern "C" fn timed_network_step(r: &mut Node, p: &[u8], clocks: u8, variables: u8)
-    ensures { λ _. ⌜ Stepped (now (p .entry)) (heldOf clocks variables) (now (r .entry)) (now (r .exit)) ⌝ }
+    ensures { λ _. ⌜ now (r .exit) ≡ steppedOf (now (p .entry)) (heldOf clocks variables) (now (r .entry)) ⌝ }
 {
     let next = lent_node::stepped(p, clocks, variables, *r);
     *r = next;
+}
+
+// A message on the channel, taken by registers that are lent.
+#[no_mangle]
+pub extern "C" fn timed_network_take_message(r: &mut Node, p: &[u8], channel: u8)
+    ensures { λ _. ⌜ now (r .exit) ≡ messageOf (now (p .entry)) channel (now (r .entry)) ⌝ }
+{
+    let heard = lent_node::message_taken(p, channel, *r);
+    *r = heard;
 }

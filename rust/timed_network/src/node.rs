@@ -2,7 +2,7 @@
 //!
 //! [`Node::start`] gives a node's registers at the start of its part of the
 //! program bytes, [`Node::step`] carries out the statement at its program
-//! counter.
+//! counter, [`Node::take_message`] finishes a listen with a message.
 
 mod exported;
 
@@ -84,18 +84,23 @@ impl Node {
     /// Nothing changes where the part has more than 65,535 bytes, where there
     /// are more than four clocks or variables, where `t`, `sleeps` or one of
     /// the four clocks is above 4,000,000,000,000,000,000, where an addition
-    /// would leave -32,768 to 32,767, and where there is no statement.
+    /// would leave -32,768 to 32,767, at a take with nothing kept, and where
+    /// there is no statement.
     ///
     /// Whether the statement may be finished now is not asked: not the tick
-    /// of a sleep or a listen, and not the listener of a send. A listen that
-    /// takes a message is this step, then [`Node::take_message`].
+    /// of a sleep or a listen, and not the listener of a send. A listen is
+    /// finished here without a message, by [`Node::take_message`] with one.
     pub fn step(&mut self, part: &[u8], clocks: u8, variables: u8) {
         exported::step(self, part, clocks, variables);
     }
 
-    /// Notes that a message was taken, and the location paired with it.
-    pub fn take_message(&mut self, location: u8) {
-        self.taken = true;
-        self.goes = location;
+    /// Finishes the listen at the program counter of the part with a message
+    /// on the channel, and notes the location paired with it.
+    ///
+    /// Nothing changes where the node does not stand at a listen that names
+    /// the channel, where it has taken a message already, and where the part
+    /// has more than 65,535 bytes.
+    pub fn take_message(&mut self, part: &[u8], channel: u8) {
+        exported::take_message(self, part, channel);
     }
 }

@@ -67,15 +67,16 @@ fn compare(part: &[u8], component: &Component) -> usize {
             assert_eq!(node, before);
             return steps;
         }
-        let heard = (0..=255).find_map(|channel| second.listens_to(channel));
+        if statement.op == Op::Listen && steps % 2 == 1 {
+            let heard = |channel| Some((channel, second.listens_to(channel)?));
+            let (channel, (pairs, location)) = (0..=255).find_map(heard).expect("a pair");
+            second.received(pairs, location);
+            node.take_message(part, channel);
+            continue;
+        }
         node.step(part, clocks, variables);
         match statement.op {
             Op::Send => second.sent(),
-            Op::Listen if steps % 2 == 1 => {
-                let (pairs, location) = heard.expect("a pair");
-                second.received(pairs, location);
-                node.take_message(location);
-            }
             Op::Listen => {
                 let tick = second.window_end();
                 second.finish(0, statement, tick).expect("it is allowed");
@@ -171,4 +172,79 @@ fn without_a_statement_nothing_changes() {
         node.step(if pc == 0 { &[] } else { &part }, 4, 4);
         assert_eq!(node, before, "at {pc}");
     }
+}
+
+#[test]
+fn a_take_with_nothing_kept_changes_nothing() {
+    let part = one_statement([16, 0, 0, 0]);
+    let mut node = Node::start(&part);
+    (node.t, node.d, node.goes) = (7, 3, 5);
+    (node.kept.edge, node.kept.ready, node.kept.end) = (1, 2, 9);
+    let before = node;
+    node.step(&part, 4, 4);
+    assert_eq!(node, before);
+    node.kept.some = true;
+    node.step(&part, 4, 4);
+    assert_eq!((node.t, node.n, node.d, node.edge), (12, 2, 7, 1));
+    assert!(!node.kept.some);
+}
+
+/// A listen on two channels: 3 leads to location 4, 5 to location 6.
+const LISTEN: [u8; 20] = [
+    0, 20, 1, 0, 0, 0, 0, 0, 5, 2, 0, 0, 6, 3, 0, 4, 6, 5, 0, 6,
+];
+
+#[test]
+fn a_message_is_taken_and_its_location_entered() {
+    let part = [&LISTEN[..], &[9, 0, 0, 2]].concat();
+    for (channel, location) in [(3, 4), (5, 6)] {
+        let mut node = Node::start(&part);
+        (node.t, node.n, node.d, node.edge) = (9, 2, 3, 1);
+        let expected = Node {
+            pc: 20,
+            taken: true,
+            goes: location,
+            ..node
+        };
+        node.take_message(&part, channel);
+        assert_eq!(node, expected);
+        node.take_message(&part, channel);
+        assert_eq!(node, expected);
+        node.step(&part, 1, 0);
+        let entered = Node {
+            pc: 24,
+            location,
+            taken: false,
+            ..expected
+        };
+        assert_eq!(node, entered);
+    }
+    let mut node = Node::start(&part);
+    node.step(&part, 1, 0);
+    node.step(&part, 1, 0);
+    assert_eq!((node.location, node.pc), (2, 24));
+}
+
+#[test]
+fn a_message_that_no_listen_names_changes_nothing() {
+    let mut part = LISTEN.to_vec();
+    let start = Node::start(&part);
+    let left = |node: Node, part: &[u8], channel: u8| {
+        let mut after = node;
+        after.take_message(part, channel);
+        after == node
+    };
+    assert!(left(start, &part, 4));
+    assert!(left(start, &[], 3));
+    assert!(left(Node { pc: 12, ..start }, &part, 3));
+    let taken = Node {
+        taken: true,
+        goes: 9,
+        ..start
+    };
+    assert!(left(taken, &part, 3));
+    part.resize(65_535, 0);
+    assert!(!left(start, &part, 3));
+    part.push(0);
+    assert!(left(start, &part, 3));
 }

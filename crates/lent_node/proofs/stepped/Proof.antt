@@ -17,7 +17,7 @@ finish-requires c κs =
 returns : tie.Need-returns
 returns c =
     let a = c .before .before .before .before .args in
-    taken (a .p .now) (heldOf (a .clocks) (a .variables)) (a .r) (c .finish .result) (sym (c .before .before .may-step .ensures) ∙ c .before .if1 .taken) (c .finish .ensures .0) (c .finish .ensures .1)
+    taken (a .p .now) (heldOf (a .clocks) (a .variables)) (a .r) (c .finish .result) (sym (c .before .before .may-step .ensures) ∙ c .before .if1 .taken) (c .finish .ensures)
 
 returns-2 : tie.Need-returns-2
 returns-2 c =

@@ -1,4 +1,7 @@
 -- `machine::hear` meets its contract. Assumes nothing.
+use mathlib.Core.Path.{refl}
+use Rattle.registers.specs.Words.{heldIn}
+use Rattle.stand.proofs.Message.{message-grows}
 use borrow.Author.Needs.{needs}
 use Rattle.machine.proofs.NodeMoves.{asks, message-moved}
 use Rattle.machine.proofs.hear.Statement.{statement}
@@ -12,9 +15,6 @@ word-requires-2 c κs = search needs
 
 add-end : tie.Need-add-end
 add-end c = search needs
-
-counts-requires : tie.Need-counts-requires
-counts-requires c κs = search needs
 
 load-requires : tie.Need-load-requires
 load-requires c κs = search needs
@@ -30,41 +30,39 @@ part-take-message-end c = search needs
 
 take-message-requires : tie.Need-take-message-requires
 take-message-requires c κs =
-    let start = c .before .before .before .before .before .before .before .before .before .before .before .before .before in
+    let start = c .before .before .before .before .before .before .before .before .before .before .before in
     let a = start .args in
     let pre = start .pre in
-    let base = c .before .before .before .before .before .before .before .before .word in
-    let size = c .before .before .before .before .before .before .word2 in
-    let held = c .before .before .before .before .counts in
+    let base = c .before .before .before .before .before .before .word in
+    let size = c .before .before .before .before .word2 in
     let r = c .before .load in
     let asked =
-    asks (a .program .now) (a .rows .now) (a .n) (a .l .now) (a .v .now) (a .i) (base .result) (size .result) (held .result) (r .result)
+    asks (a .program .now) (a .rows .now) (a .n) (a .l .now) (a .v .now) (a .i) (base .result) (size .result) (heldIn (a .l .now) (a .i)) (r .result)
     (base .ensures)
     (size .ensures)
-    (held .ensures)
+    refl
     (r .ensures)
     (pre .3) in
-    (asked .short, asked .held, asked .within, asked .op (pre .4))
+    (asked .short, asked .op (pre .4))
 
 put-node-requires : tie.Need-put-node-requires
 put-node-requires c κs =
-    let start = c .before .before .before .before .before .before .before .before .before .before .before .before .before .before .before .before in
+    let start = c .before .before .before .before .before .before .before .before .before .before .before .before .before .before in
     let a = start .args in
     let pre = start .pre in
-    let base = c .before .before .before .before .before .before .before .before .before .before .before .word in
-    let size = c .before .before .before .before .before .before .before .before .before .word2 in
-    let held = c .before .before .before .before .before .before .before .counts in
+    let base = c .before .before .before .before .before .before .before .before .before .word in
+    let size = c .before .before .before .before .before .before .before .word2 in
     let r = c .before .before .before .before .load in
     let q = c .before .before .take-message in
     let asked =
-    asks (a .program .now) (a .rows .now) (a .n) (a .l .now) (a .v .now) (a .i) (base .result) (size .result) (held .result) (r .result)
+    asks (a .program .now) (a .rows .now) (a .n) (a .l .now) (a .v .now) (a .i) (base .result) (size .result) (heldIn (a .l .now) (a .i)) (r .result)
     (base .ensures)
     (size .ensures)
-    (held .ensures)
+    refl
     (r .ensures)
     (pre .3) in
     let before = asked .within in
-    let after = asked .put (q .result) (q .ensures .1) in
+    let after = asked .put (q .result) (message-grows _ (a .k) (r .result) (q .result) (q .ensures)) in
     (pre .0, pre .1, pre .2, asked .inside, search needs)
 
 same-length : tie.Need-same-length
@@ -75,27 +73,25 @@ same-length-2 c = search needs
 
 returns : tie.Need-returns
 returns c =
-    let start = c .before .before .before .before .before .before .before .before .before .before .before .before .before .before .before .before .before .before .before .before in
+    let start = c .before .before .before .before .before .before .before .before .before .before .before .before .before .before .before .before .before .before in
     let a = start .args in
     let pre = start .pre in
-    let base = c .before .before .before .before .before .before .before .before .before .before .before .before .before .before .before .word in
-    let size = c .before .before .before .before .before .before .before .before .before .before .before .before .before .word2 in
-    let held = c .before .before .before .before .before .before .before .before .before .before .before .counts in
+    let base = c .before .before .before .before .before .before .before .before .before .before .before .before .before .word in
+    let size = c .before .before .before .before .before .before .before .before .before .before .before .word2 in
     let r = c .before .before .before .before .before .before .before .before .load in
     let q = c .before .before .before .before .before .before .take-message in
     let put = c .before .before .before .put-node in
-    message-moved (a .program .now) (a .rows .now) (a .n) (a .l .now) (a .v .now) (a .i) (base .result) (size .result) (held .result) (q .result)
+    message-moved (a .program .now) (a .rows .now) (a .n) (a .l .now) (a .v .now) (a .i) (base .result) (size .result) (heldIn (a .l .now) (a .i)) (q .result)
     (put .last .1 .1 .1 .0)
     (put .last .1 .1 .1 .1 .0)
     (base .ensures)
     (size .ensures)
-    (held .ensures)
+    refl
     (r .result)
     (a .k)
     (r .ensures)
     (pre .4)
-    (q .ensures .0)
-    (q .ensures .1)
+    (q .ensures)
     (put .ensures)
 
 pub hear-spec : {M : Type 1} → statement M
@@ -105,7 +101,6 @@ hear-spec =
     word-requires
     word-requires-2
     add-end
-    counts-requires
     load-requires
     sub-take-message
     part-take-message-start

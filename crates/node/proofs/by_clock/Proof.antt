@@ -1,6 +1,6 @@
 -- `node::by_clock` meets its contract. Assumes nothing.
-use native.Mathlib.Omega.{arith}
-use Rattle.node.proofs.Steps.{trial-low, trial-high}
+use borrow.Author.Tests.{eq-eqb, ne-eqb}
+use Rattle.model.specs.Reader.{byte}
 use mathlib.Core.Path.{_∙_}
 use borrow.Author.Needs.{needs}
 use Rattle.node.proofs.by_clock.Statement.{statement}
@@ -16,21 +16,17 @@ raised-requires : tie.Need-raised-requires
 raised-requires c κs = search needs
 
 returns : tie.Need-returns
-returns c held r ex ec =
-    let s = c .before .before .before .before .before in
-    let a = s .args in
-    trial-low (a .h .now) held r (s .pre .0) (c .raised .result) (c .before .if1 .taken)
-    (c .raised .ensures ∙ rw (ex, ec, c .before .before .before .word-at .ensures))
+returns c =
+    let h = c .before .before .before .before .before .args .h .now in
+    c .raised .ensures ∙ rw (c .before .before .before .word-at .ensures, eq-eqb (byte h 0) 11 (c .before .if1 .taken))
 
 lowered-requires : tie.Need-lowered-requires
 lowered-requires c κs = search needs
 
 returns-2 : tie.Need-returns-2
-returns-2 c held r ex ec =
-    let s = c .before .before .before .before .before in
-    let a = s .args in
-    trial-high (a .h .now) held r (s .pre .0) (c .lowered .result) (omega (arith, c .before .if1 .left, s .pre .2))
-    (c .lowered .ensures ∙ rw (ex, ec, c .before .before .before .word-at .ensures))
+returns-2 c =
+    let h = c .before .before .before .before .before .args .h .now in
+    c .lowered .ensures ∙ rw (c .before .before .before .word-at .ensures, ne-eqb (byte h 0) 11 (c .before .if1 .left))
 
 pub by-clock-spec : {M : Type 1} → statement M
 by-clock-spec =

@@ -1,8 +1,8 @@
 -- `node::by_value` meets its contract. Assumes nothing.
 use mir.ValLaws.{toZ-ofZ}
 use mir.Syntax.{w16}
-use native.Mathlib.Omega.{arith}
-use Rattle.node.proofs.Steps.{trial-data-low, trial-data-high}
+use borrow.Author.Tests.{eq-eqb, ne-eqb}
+use Rattle.model.specs.Reader.{byte}
 use mathlib.Core.Path.{_∙_}
 use borrow.Author.Needs.{needs, sfits-of}
 use Rattle.node.proofs.by_value.Statement.{statement}
@@ -18,23 +18,23 @@ met-requires : tie.Need-met-requires
 met-requires c κs = search needs
 
 returns : tie.Need-returns
-returns c held r ex ev =
+returns c =
     let s = c .before .before .before .before .before in
     let a = s .args in
     let k = c .before .before .before .signed-at in
-    trial-data-low (a .h .now) held r (s .pre .0) (c .met .result) (c .before .if1 .taken)
-    (c .met .ensures ∙ rw (ex, ev, toZ-ofZ w16 (k .result) (sfits-of (k .ok)), toZ-ofZ w16 (a .value) (s .fits .value), k .ensures))
+    c .met .ensures
+    ∙ rw (toZ-ofZ w16 (k .result) (sfits-of (k .ok)), toZ-ofZ w16 (a .value) (s .fits .value), k .ensures, eq-eqb (byte (a .h .now) 0) 13 (c .before .if1 .taken))
 
 met-requires-2 : tie.Need-met-requires-2
 met-requires-2 c κs = search needs
 
 returns-2 : tie.Need-returns-2
-returns-2 c held r ex ev =
+returns-2 c =
     let s = c .before .before .before .before .before in
     let a = s .args in
     let k = c .before .before .before .signed-at in
-    trial-data-high (a .h .now) held r (s .pre .0) (c .met2 .result) (omega (arith, c .before .if1 .left, s .pre .2))
-    (c .met2 .ensures ∙ rw (ex, ev, toZ-ofZ w16 (k .result) (sfits-of (k .ok)), toZ-ofZ w16 (a .value) (s .fits .value), k .ensures))
+    c .met2 .ensures
+    ∙ rw (toZ-ofZ w16 (k .result) (sfits-of (k .ok)), toZ-ofZ w16 (a .value) (s .fits .value), k .ensures, ne-eqb (byte (a .h .now) 0) 13 (c .before .if1 .left))
 
 pub by-value-spec : {M : Type 1} → statement M
 by-value-spec =

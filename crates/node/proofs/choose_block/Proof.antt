@@ -1,7 +1,6 @@
 -- `node::choose_block` meets its contract. Assumes nothing.
-use mathlib.Core.Path.{refl, _∙_}
-use Rattle.node.proofs.Held.{still}
-use Rattle.node.proofs.Moves.{choose-goes}
+use mathlib.Core.Path.{ap, _∙_}
+use Rattle.node.specs.After.{moved}
 use borrow.Author.Needs.{needs}
 use Rattle.node.proofs.choose_block.Statement.{statement}
 use Rattle.node.proofs.choose_block.Tie as tie
@@ -14,11 +13,7 @@ block-place-requires c κs = search needs
 
 returns : tie.Need-returns
 returns c =
-    let s = c .before .before .before in
-    let a = s .args in (
-      choose-goes (a .p .now) (a .held) (a .r) (c .block-place .result) (s .pre) (c .block-place .ensures ∙ rw (c .before .wide .ensures .0)),
-      still (a .r) _ refl refl refl,
-    )
+    ap (moved (c .before .before .before .args .r)) (c .block-place .ensures ∙ rw (c .before .wide .ensures .0))
 
 pub choose-block-spec : {M : Type 1} → statement M
 choose-block-spec = tie.close (tie.spec wide-requires block-place-requires returns)

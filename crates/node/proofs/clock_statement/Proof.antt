@@ -1,11 +1,11 @@
 -- `node::clock_statement` meets its contract. Assumes nothing.
-use mathlib.Core.Path.{refl, _∙_}
+use mathlib.Core.Path.{_∙_}
 use mathlib.Core.Logic.{⊎-elim}
 use Prim.Native.Nat.{_<_}
 use native.Mathlib.Omega.{arith}
 use Rattle.model.specs.Reader.{byte}
-use Rattle.node.proofs.Held.{still, each-within}
-use Rattle.node.proofs.Steps.{clocks-past, clock-aged, clock-zero}
+use Rattle.node.proofs.Held.{each-within}
+use Rattle.node.proofs.Effects.{no-clock-is, aged-is, zero-is}
 use borrow.Author.Needs.{needs}
 use Rattle.node.proofs.clock_statement.Statement.{statement}
 use Rattle.node.proofs.clock_statement.Tie as tie
@@ -17,7 +17,7 @@ returns : tie.Need-returns
 returns c =
     let s = c .before .before .before .before in
     let a = s .args in
-    (clocks-past (a .h .now) (a .held) (a .r) (s .pre .0) (s .pre .1) (s .pre .2) (c .if1 .taken), still (a .r) _ refl refl refl)
+    no-clock-is (a .h .now) (a .held) (a .r) (s .pre .1) (s .pre .2) (c .if1 .taken)
 
 shared-slice-read-if2 : tie.Need-shared-slice-read-if2
 shared-slice-read-if2 c = search needs
@@ -69,9 +69,8 @@ returns-2 c =
     let a = s .args in
     let there : byte (a .h .now) 1 < a .held .clocks = omega arith in
     ⊎-elim
-    (λ w. clock-zero (a .h .now) (a .held) (a .r) (s .pre .0) (c .if2 .clocks) there (w .0 .taken) (w .2 ∙ rw (w .1 .ensures .0)))
-    (λ w. clock-aged (a .h .now) (a .held) (a .r) (s .pre .0) (c .if2 .clocks) there (omega (arith, w .0 .left)) (omega (arith, w .2 .ensures))
-    (omega (arith, w .3 .ensures))
+    (λ w. zero-is (a .h .now) (a .held) (a .r) (c .if2 .clocks) there (w .0 .taken) (w .2 ∙ rw (w .1 .ensures .0)))
+    (λ w. aged-is (a .h .now) (a .held) (a .r) (c .if2 .clocks) there (omega (arith, w .0 .left))
     (w .5 ∙ rw (w .1 .ensures .0, w .2 .ensures .0, w .3 .ensures .0, w .4 .ensures .0)))
     (c .if2 .came)
 

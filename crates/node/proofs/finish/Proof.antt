@@ -1,12 +1,12 @@
 -- `node::finish` meets its contract. Assumes nothing.
-use mathlib.Core.Path.{refl, sym, _∙_}
+use mathlib.Core.Path.{sym, _∙_}
 use Prim.Native.Nat.{_+_, _-_, _≤_}
 use native.Mathlib.Omega.{arith}
 use lib.ListN.{length, take, drop}
 use Rattle.parts.proofs.Skim.{tail}
-use Rattle.node.proofs.Held.{still}
 use Rattle.node.proofs.Ops.{Opens, opens}
-use Rattle.node.proofs.Moves.{inside, below-ends, finish-none, finish-on, moved-within, moved-grown}
+use Rattle.node.proofs.Moves.{inside, below-ends, moved-within}
+use Rattle.node.proofs.Effects.{after-none, after-take, after-choose, after-by}
 use borrow.Author.Needs.{needs}
 use Rattle.node.proofs.finish.Statement.{statement}
 use Rattle.node.proofs.finish.Tie as tie
@@ -17,19 +17,23 @@ op-at-requires c κs = search needs
 returns : tie.Need-returns
 returns c =
     let a = c .before .before .before .args in
-    (finish-none (a .p .now) (a .held) (a .r) (sym (c .before .op-at .ensures) ∙ c .if1 .taken), still (a .r) (a .r) refl refl refl)
+    sym (after-none (a .p .now) (a .held) (a .r) (sym (c .before .op-at .ensures) ∙ c .if1 .taken))
 
 take-edge-requires : tie.Need-take-edge-requires
 take-edge-requires c κs = search needs
 
 returns-2 : tie.Need-returns-2
-returns-2 c = search needs
+returns-2 c =
+    let a = c .before .before .before .before .before .args in
+    c .take-edge .ensures ∙ sym (after-take (a .p .now) (a .held) (a .r) (sym (c .before .before .before .op-at .ensures) ∙ c .before .if2 .taken))
 
 choose-block-requires : tie.Need-choose-block-requires
 choose-block-requires c κs = search needs
 
 returns-3 : tie.Need-returns-3
-returns-3 c = search needs
+returns-3 c =
+    let a = c .before .before .before .before .before .before .args in
+    c .choose-block .ensures ∙ sym (after-choose (a .p .now) (a .held) (a .r) (sym (c .before .before .before .before .op-at .ensures) ∙ c .before .if3 .taken))
 
 -- the op is known, and its statement stands inside the part
 opened : (c : tie.Else3) → Opens (drop (c .before .before .before .before .before .args .r .pc) (c .before .before .before .before .before .args .p .now)) (c .before .before .before .op-at .result)
@@ -73,15 +77,11 @@ returns-4 : tie.Need-returns-4
 returns-4 c =
     let e = c .before .before .before .before in
     let s = e .before .before .before .before .before in
-    let a = s .args in (
-      finish-on (a .p .now) (a .held) (a .r) _ (tail (a .p .now) (a .r .pc)) (e .before .before .before .op-at .result) (sym (e .before .before .before .op-at .ensures))
-          (omega arith)
-          (c .before .before .statement-length .result)
-          (c .before .before .statement-length .ensures .0)
-          (c .work-statement .result)
-          (c .work-statement .ensures .0),
-      moved-grown _ (a .r) (c .work-statement .result) (c .work-statement .ensures .1),
-    )
+    let a = s .args in
+    after-by (a .p .now) (a .held) (a .r) _ (tail (a .p .now) (a .r .pc)) (omega (arith, e .before .before .before .op-at .ensures)) (c .before .before .statement-length .result)
+    (c .before .before .statement-length .ensures .0)
+    (c .work-statement .result)
+    (c .work-statement .ensures)
 
 try-statement-requires : tie.Need-try-statement-requires
 try-statement-requires c κs =
@@ -95,15 +95,11 @@ returns-5 c =
     let e = c .before .before .before .before in
     let s = e .before .before .before .before .before in
     let a = s .args in
-    let w = opened e .low in (
-      finish-on (a .p .now) (a .held) (a .r) _ (tail (a .p .now) (a .r .pc)) (e .before .before .before .op-at .result) (sym (e .before .before .before .op-at .ensures))
-          (omega arith)
-          (c .before .before .statement-length .result)
-          (c .before .before .statement-length .ensures .0)
-          (c .try-statement .result)
-          (c .try-statement .ensures .0),
-      moved-grown _ (a .r) (c .try-statement .result) (c .try-statement .ensures .1),
-    )
+    let w = opened e .low in
+    after-by (a .p .now) (a .held) (a .r) _ (tail (a .p .now) (a .r .pc)) (omega (arith, e .before .before .before .op-at .ensures)) (c .before .before .statement-length .result)
+    (c .before .before .statement-length .ensures .0)
+    (c .try-statement .result)
+    (c .try-statement .ensures)
 
 pub finish-spec : {M : Type 1} → statement M
 finish-spec =

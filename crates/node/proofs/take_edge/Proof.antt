@@ -1,19 +1,17 @@
 -- `node::take_edge` meets its contract. Assumes nothing.
-use mathlib.Core.Path.{_≡_, refl, _∙_}
+use mathlib.Core.Path.{_≡_, sym, ap, _∙_}
 use Prim.Native.Nat.{_+_}
 use native.Mathlib.Omega.{arith}
 use borrow.Author.Tests.{not-true, not-false}
-use Rattle.node.proofs.Held.{still}
-use Rattle.node.proofs.Moves.{take-none, take-some, take-grown}
+use Rattle.node.proofs.Effects.{taken-some, taken-none}
 use borrow.Author.Needs.{needs}
 use Rattle.node.proofs.take_edge.Statement.{statement}
 use Rattle.node.proofs.take_edge.Tie as tie
 
 returns : tie.Need-returns
 returns c =
-    let s = c .before .before .before .before in
-    let a = s .args in
-    (take-none (a .p .now) (a .held) (a .r) (s .pre .0) (not-true _ (c .if1 .taken)), still (a .r) _ refl refl refl)
+    let a = c .before .before .before .before .args in
+    sym (taken-none (a .p .now) (a .r) (not-true _ (c .if1 .taken)))
 
 byte-at-requires : tie.Need-byte-at-requires
 byte-at-requires c κs = search needs
@@ -54,18 +52,10 @@ returns-2 c =
     let new = old .before in
     let place = new .before .before in
     let if1 = place .before .before .before .before in
-    let s = if1 .before .before .before .before in
-    let a = s .args in
-    let t : a .r .t + old .wide642 .result + c .wide643 .result ≡ a .r .t + a .r .d + a .r .kept .ready =
-    rw (old .wide642 .ensures .0, c .wide643 .ensures .0) in (
-      take-some (a .p .now) (a .held) (a .r) (place .block-place .result) (a .r .t + old .wide642 .result + c .wide643 .result) (new .left-of .result)
-          (s .pre .0)
-          (not-false _ (if1 .if1 .left))
-          (place .block-place .ensures ∙ rw (place .before .wide2 .ensures .0, place .before .before .wide .ensures .0, place .before .before .before .byte-at .ensures))
-          t
-          (new .left-of .ensures ∙ rw (new .before .wide64 .ensures .0)),
-      take-grown (a .r) _ (omega (arith, old .wide642 .ensures)) (omega (arith, c .wide643 .ensures)) t refl refl,
-    )
+    let a = if1 .before .before .before .before .args in
+    sym
+    (taken-some (a .p .now) (a .r) (not-false _ (if1 .if1 .left))
+    ∙ rw (place .block-place .ensures, place .before .wide2 .ensures .0, place .before .before .wide .ensures .0, place .before .before .before .byte-at .ensures, old .wide642 .ensures .0, c .wide643 .ensures .0, new .left-of .ensures, new .before .wide64 .ensures .0))
 
 pub take-edge-spec : {M : Type 1} → statement M
 take-edge-spec =

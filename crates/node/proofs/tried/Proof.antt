@@ -1,8 +1,9 @@
 -- `node::tried` meets its contract. Assumes nothing.
 use mir.Syntax.{w16}
 use mir.ValLaws.{toZ-ofZ}
-use Rattle.node.proofs.Steps.{trial-new}
-use mathlib.Core.Path.{refl, sym, _∙_}
+use Rattle.node.proofs.Effects.{trial-is, clock-tried-is, value-tried-is}
+use native.Mathlib.Omega.{arith}
+use mathlib.Core.Path.{_∙_}
 use borrow.Author.Needs.{needs, sfits-of}
 use Rattle.node.proofs.tried.Statement.{statement}
 use Rattle.node.proofs.tried.Tie as tie
@@ -20,7 +21,7 @@ returns : tie.Need-returns
 returns c =
     let s = c .before .before .before .before .before .before .before .before in
     let a = s .args in
-    trial-new (a .h .now) (a .held) (a .r) (s .pre .0) (c .no-trial .result) (c .before .if1 .taken) (c .no-trial .ensures)
+    trial-is (a .h .now) (a .held) (a .r) (c .no-trial .result) (c .before .if1 .taken) (c .no-trial .ensures)
 
 clock-at-requires : tie.Need-clock-at-requires
 clock-at-requires c κs = search needs
@@ -31,7 +32,7 @@ by-clock-requires c κs = search needs
 returns-2 : tie.Need-returns-2
 returns-2 c =
     let a = c .before .before .before .before .before .before .before .before .before .before .args in
-    c .by-clock .ensures (a .held) (a .r) refl (sym (c .before .clock-at .ensures))
+    clock-tried-is (a .h .now) (a .held) (a .r) (c .by-clock .result) (c .before .clock-at .result) (omega arith) (omega arith) (c .by-clock .ensures) (c .before .clock-at .ensures)
 
 value-at-requires : tie.Need-value-at-requires
 value-at-requires c κs = search needs
@@ -42,7 +43,8 @@ by-value-requires c κs = search needs
 returns-3 : tie.Need-returns-3
 returns-3 c =
     let a = c .before .before .before .before .before .before .before .before .before .before .args in
-    c .by-value .ensures (a .held) (a .r) refl (sym (c .before .value-at .ensures) ∙ sym (toZ-ofZ w16 (c .before .value-at .result) (sfits-of (c .before .value-at .ok))))
+    value-tried-is (a .h .now) (a .held) (a .r) (c .by-value .result) _ (omega arith) (omega arith) (c .by-value .ensures)
+    (toZ-ofZ w16 (c .before .value-at .result) (sfits-of (c .before .value-at .ok)) ∙ c .before .value-at .ensures)
 
 pub tried-spec : {M : Type 1} → statement M
 tried-spec =

@@ -1,7 +1,5 @@
 -- `node::try_statement` meets its contract. Assumes nothing.
-use mathlib.Core.Path.{refl}
-use Rattle.node.proofs.Held.{still}
-use Rattle.node.proofs.Steps.{trial-kept}
+use Rattle.node.proofs.Effects.{keep-is}
 use borrow.Author.Needs.{needs}
 use Rattle.node.proofs.try_statement.Statement.{statement}
 use Rattle.node.proofs.try_statement.Tie as tie
@@ -22,12 +20,10 @@ returns : tie.Need-returns
 returns c =
     let s = c .before .before .before .before .before in
     let a = s .args in
-    (trial-kept (a .h .now) (a .held) (a .r) (s .pre .0) (c .keeps .result) (c .before .before .if1 .taken) (c .keeps .ensures), still (a .r) _ refl refl refl)
+    keep-is (a .h .now) (a .held) (a .r) (c .keeps .result) (c .before .before .if1 .taken) (c .keeps .ensures)
 
 returns-2 : tie.Need-returns-2
-returns-2 c =
-    let a = c .before .before .before .before .args in
-    (c .tried .ensures, still (a .r) _ refl refl refl)
+returns-2 c = c .tried .ensures
 
 pub try-statement-spec : {M : Type 1} → statement M
 try-statement-spec =

@@ -4,13 +4,13 @@ use lib.ListN.{getD}
 use mir.Syntax.{w16}
 use mir.Val.{SFits, toZ, ofZ}
 use mir.ValLaws.{toZ-ofZ}
-use mathlib.Core.Path.{_≡_, refl, _∙_}
+use mathlib.Core.Path.{_≡_, _∙_}
 use mathlib.Core.Logic.{⊎-elim}
 use Prim.Native.Nat.{_<_}
 use native.Mathlib.Omega.{arith}
 use Rattle.model.specs.Reader.{byte, word, complement}
-use Rattle.node.proofs.Held.{still}
-use Rattle.node.proofs.Steps.{values-past, added-fits, value-set, value-added}
+use Rattle.node.proofs.Steps.{added-fits}
+use Rattle.node.proofs.Effects.{no-value-is, set-is, added-is}
 use borrow.Author.Needs.{needs, sfits-of}
 use Rattle.node.proofs.update_statement.Statement.{statement}
 use Rattle.node.proofs.update_statement.Tie as tie
@@ -22,7 +22,7 @@ returns : tie.Need-returns
 returns c =
     let s = c .before .before .before .before in
     let a = s .args in
-    (values-past (a .h .now) (a .held) (a .r) (s .pre .0) (s .pre .1) (s .pre .2) (c .if1 .taken), still (a .r) _ refl refl refl)
+    no-value-is (a .h .now) (a .held) (a .r) (s .pre .1) (s .pre .2) (c .if1 .taken)
 
 signed-at-requires : tie.Need-signed-at-requires
 signed-at-requires c κs = search needs
@@ -73,18 +73,16 @@ returns-2 c =
     let s = c .before .before .before .before .before .before .before .before in
     let a = s .args in
     let there : byte (a .h .now) 1 < a .held .variables = omega arith in
-    let read = toZ-ofZ w16 (z .result) (sfits-of (z .ok)) in (
-      ⊎-elim
-          (λ w. value-set (a .h .now) (a .held) (a .r) (s .pre .0) (c .if2 .values) there (w .0 .taken) (w .2 ∙ rw (w .1 .ensures .0, read, z .ensures)))
-          (λ w.
-          let fits : SFits w16 (getD (a .r .values) (w .1 .result) (pos 0)) = search needs in
-          let old = toZ-ofZ w16 (getD (a .r .values) (w .1 .result) (pos 0)) fits in
-          let new : toZ w16 (ofZ w16 (w .3 .result)) ≡ getD (a .r .values) (byte (a .h .now) 1) (pos 0) +ℤ complement (word (a .h .now) 2) =
-          toZ-ofZ w16 (w .3 .result) (sfits-of (w .3 .ok)) ∙ w .3 .ensures ∙ rw (old, read, z .ensures, w .1 .ensures .0) in
-          value-added (a .h .now) (a .held) (a .r) (s .pre .0) (c .if2 .values) there (omega (arith, w .0 .left)) (w .5 ∙ rw (w .4 .ensures .0, new)))
-          (c .if2 .came),
-      still (a .r) _ refl refl refl,
-    )
+    let read = toZ-ofZ w16 (z .result) (sfits-of (z .ok)) in
+    ⊎-elim
+    (λ w. set-is (a .h .now) (a .held) (a .r) (c .if2 .values) there (w .0 .taken) (w .2 ∙ rw (w .1 .ensures .0, read, z .ensures)))
+    (λ w.
+    let fits : SFits w16 (getD (a .r .values) (w .1 .result) (pos 0)) = search needs in
+    let old = toZ-ofZ w16 (getD (a .r .values) (w .1 .result) (pos 0)) fits in
+    let new : toZ w16 (ofZ w16 (w .3 .result)) ≡ getD (a .r .values) (byte (a .h .now) 1) (pos 0) +ℤ complement (word (a .h .now) 2) =
+    toZ-ofZ w16 (w .3 .result) (sfits-of (w .3 .ok)) ∙ w .3 .ensures ∙ rw (old, read, z .ensures, w .1 .ensures .0) in
+    added-is (a .h .now) (a .held) (a .r) (c .if2 .values) there (omega (arith, w .0 .left)) (w .5 ∙ rw (w .4 .ensures .0, new)))
+    (c .if2 .came)
 
 pub update-statement-spec : {M : Type 1} → statement M
 update-statement-spec =

@@ -1,8 +1,6 @@
 -- `node::work_statement` meets its contract. Assumes nothing.
-use mathlib.Core.Path.{refl}
 use native.Mathlib.Omega.{arith}
-use Rattle.node.proofs.Held.{still, sleep-grown}
-use Rattle.node.proofs.Steps.{slept, idle}
+use Rattle.node.proofs.Effects.{sleep-is, idle-is}
 use borrow.Author.Needs.{needs}
 use Rattle.node.proofs.work_statement.Statement.{statement}
 use Rattle.node.proofs.work_statement.Tie as tie
@@ -17,7 +15,7 @@ returns : tie.Need-returns
 returns c =
     let s = c .before .before .before .before in
     let a = s .args in
-    (slept (a .h .now) (a .held) (a .r) (s .pre .0) (c .before .if1 .taken), sleep-grown (a .r) _ refl refl refl)
+    sleep-is (a .h .now) (a .held) (a .r) (c .before .if1 .taken)
 
 update-statement-requires : tie.Need-update-statement-requires
 update-statement-requires c κs = search needs
@@ -29,7 +27,7 @@ returns-3 : tie.Need-returns-3
 returns-3 c =
     let s = c .before .before .before .before .before in
     let a = s .args in
-    (idle (a .h .now) (a .held) (a .r) (s .pre .0) (omega arith) (omega arith), still (a .r) (a .r) refl refl refl)
+    idle-is (a .h .now) (a .held) (a .r) (omega arith) (omega arith)
 
 clock-statement-requires : tie.Need-clock-statement-requires
 clock-statement-requires c κs = search needs

@@ -1,6 +1,6 @@
 -- `run::start_node` meets its contract. Assumes nothing.
 use borrow.Author.Needs.{needs}
-use Rattle.run.proofs.Beginning.{put-eight, put-inside, further, node-started}
+use Rattle.run.proofs.Beginning.{put-eight, put-inside, begun-within, node-started}
 use Rattle.run.proofs.start_node.Statement.{statement}
 use Rattle.run.proofs.start_node.Tie as tie
 
@@ -50,7 +50,7 @@ put-node-requires c κs =
     let pre = c .before .before .before .before .before .before .before .before .before .before .before .before .before .before .before .before .pre in
     let span = c .before .before .before .before .before .before .before .before .before .before .before .span-of .ensures in
     let put = c .before .before .before .before .before .before .put-fixed .ensures in
-    (put-eight program known span put (pre .0), pre .1, pre .2, put-inside program known span put, further (c .before .before .start-node .ensures .1))
+    (put-eight program known span put (pre .0), pre .1, pre .2, put-inside program known span put, begun-within program known span put (c .before .before .start-node .ensures))
 
 same-length : tie.Need-same-length
 same-length c = search needs

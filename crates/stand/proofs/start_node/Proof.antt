@@ -1,5 +1,4 @@
 -- `stand::start_node` meets its contract. Assumes nothing.
-use Rattle.stand.proofs.Start.{begins, still}
 use borrow.Author.Needs.{needs}
 use Rattle.stand.proofs.start_node.Statement.{statement}
 use Rattle.stand.proofs.start_node.Tie as tie
@@ -15,8 +14,7 @@ block-place-requires c κs = search needs
 
 returns : tie.Need-returns
 returns c =
-    let a = c .before .before .before .args in
-    (λ held h. begins (a .p .now) held h (c .before .byte-at .ensures) (c .block-place .ensures), still (c .block-place .result) (c .before .byte-at .result))
+    rw (c .block-place .ensures, c .before .byte-at .ensures)
 
 pub start-node-spec : {M : Type 1} → statement M
 start-node-spec =

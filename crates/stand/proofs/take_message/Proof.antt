@@ -3,15 +3,16 @@ use mathlib.Core.Path.{refl, sym}
 use Prim.Native.Nat.{_+_, _≤_}
 use native.Mathlib.Omega.{arith}
 use borrow.Author.Needs.{needs}
-use lib.ListN.{length, drop}
+use lib.ListN.{length, length-drop}
+use Rattle.parts.proofs.Skim.{tail}
 use Rattle.stand.proofs.ByOp.{stands-whole}
-use Rattle.stand.proofs.Message.{not-adding, takes-message, told-grown}
+use Rattle.stand.proofs.Message.{listened-is}
 use Rattle.stand.proofs.take_message.Statement.{statement}
 use Rattle.stand.proofs.take_message.Tie as tie
 
 -- the listen's own four bytes are there
 whole : (s : tie.Start) → s .args .r .pc + 4 ≤ length (s .args .p .now)
-whole s = stands-whole (s .args .p .now) (s .args .r .pc) (sym (s .pre .3)) 5 refl (omega arith)
+whole s = stands-whole (s .args .p .now) (s .args .r .pc) (sym (s .pre .1)) 5 refl (omega arith)
 
 add-paired-location : tie.Need-add-paired-location
 add-paired-location c = let h = whole (c .before) in search needs
@@ -25,17 +26,30 @@ shared-slice-read-paired-location c = let h = whole (c .before .before) in searc
 paired-location-requires : tie.Need-paired-location-requires
 paired-location-requires c κs = let h = whole (c .before .before) in search needs
 
-finish-requires : tie.Need-finish-requires
-finish-requires c κs =
-    let s = c .before .before .before in
-    let a = s .args in
-    (s .pre .0, s .pre .1, s .pre .2, not-adding (drop (a .r .pc) (a .p .now)) (a .held) (a .r) (s .pre .3))
+sub-statement-length : tie.Need-sub-statement-length
+sub-statement-length c = let h = whole (c .before .before .before) in search needs
+
+part-statement-length-start : tie.Need-part-statement-length-start
+part-statement-length-start c = let h = whole (c .before .before .before) in search needs
+
+part-statement-length-end : tie.Need-part-statement-length-end
+part-statement-length-end c = search needs
+
+statement-length-requires : tie.Need-statement-length-requires
+statement-length-requires c κs =
+    let s = c .before .before .before .before in
+    let h = whole s in
+    rw (tail (s .args .p .now) (s .args .r .pc)) (simp length-drop (omega arith))
+
+add-q : tie.Need-add-q
+add-q c = let h = whole (c .before .before .before .before .before) in omega (arith, c .statement-length .ensures .1)
 
 returns : tie.Need-returns
 returns c =
-    let s = c .before .before .before .before in
+    let s = c .before .before .before .before .before in
     let a = s .args in
-    (takes-message (a .p .now) (a .held) (a .r) (c .finish .result) (a .k) (c .before .paired-location .result) (s .pre .3) (c .finish .ensures .0) (c .before .paired-location .ensures), told-grown (a .r) (c .finish .result) (c .before .paired-location .result) (c .finish .ensures .1))
+    let n = c .statement-length in
+    listened-is (a .p .now) (a .k) (a .r) (s .pre .1) _ (n .result) (c .before .before .paired-location .result) (tail (a .p .now) (a .r .pc)) (n .ensures .0) (c .before .before .paired-location .ensures)
 
 pub take-message-spec : {M : Type 1} → statement M
 take-message-spec =
@@ -45,5 +59,9 @@ take-message-spec =
     add-paired-location-2
     shared-slice-read-paired-location
     paired-location-requires
-    finish-requires
+    sub-statement-length
+    part-statement-length-start
+    part-statement-length-end
+    statement-length-requires
+    add-q
     returns)

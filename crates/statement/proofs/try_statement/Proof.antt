@@ -1,10 +1,13 @@
 -- `statement::try_statement` meets its contract. Assumes nothing.
 use mir.ValLaws.{toZ-ofZ}
 use mir.Syntax.{w16}
+use native.Mathlib.Omega.{arith}
+use Rattle.node.specs.Views.{trialOf}
 use Rattle.node.proofs.Steps.{trial-new}
+use Rattle.node.proofs.Effects.{clock-tries, value-tries}
 use Rattle.statement.proofs.Carries.{carried-kept, carried-trial}
 use Rattle.registers.specs.Words.{nodeIn, heldIn}
-use mathlib.Core.Path.{sym, _∙_}
+use mathlib.Core.Path.{ap, _∙_}
 use borrow.Author.Needs.{needs, sfits-of}
 use Rattle.statement.proofs.try_statement.Statement.{statement}
 use Rattle.statement.proofs.try_statement.Tie as tie
@@ -54,7 +57,7 @@ returns-2 c =
     let a = s .args in
     let p = s .pre in
     carried-trial (a .h .now) (a .l .now) (a .v .now) (a .c) (p .0) (c .before .before .before .before .no-trial .result)
-    (trial-new (a .h .now) (heldIn (a .l .now) (a .c)) (nodeIn (a .l .now) (a .v .now) (a .c)) (p .0) (c .before .before .before .before .no-trial .result) (c .before .before .before .before .before .if2 .taken) (c .before .before .before .before .no-trial .ensures))
+    (trial-new (a .h .now) (heldIn (a .l .now) (a .c)) (nodeIn (a .l .now) (a .v .now) (a .c)) (p .0) (c .before .before .before .before .no-trial .result) (c .before .before .before .before .before .if2 .taken) (ap trialOf (c .before .before .before .before .no-trial .ensures)))
     (c .before .before .put-trial .ensures (a .v .now))
 
 load-trial-requires-2 : tie.Need-load-trial-requires-2
@@ -81,7 +84,7 @@ returns-3 c =
     let a = s .args in
     let p = s .pre in
     carried-trial (a .h .now) (a .l .now) (a .v .now) (a .c) (p .0) (c .before .before .before .before .by-clock .result)
-    (c .before .before .before .before .by-clock .ensures (heldIn (a .l .now) (a .c)) (nodeIn (a .l .now) (a .v .now) (a .c)) (sym (c .before .before .before .before .before .before .before .before .before .load-trial2 .ensures)) (sym (c .before .before .before .before .before .clock .ensures)))
+    (clock-tries (a .h .now) (heldIn (a .l .now) (a .c)) (nodeIn (a .l .now) (a .v .now) (a .c)) (p .0) _ _ _ (omega arith) (omega arith) (c .before .before .before .before .by-clock .ensures) (c .before .before .before .before .before .before .before .before .before .load-trial2 .ensures) (c .before .before .before .before .before .clock .ensures))
     (c .before .before .put-trial2 .ensures (a .v .now))
 
 shared-slice-read-value : tie.Need-shared-slice-read-value
@@ -106,8 +109,8 @@ returns-4 c =
     let p = s .pre in
     let x = c .before .before .before .before .before .value in
     carried-trial (a .h .now) (a .l .now) (a .v .now) (a .c) (p .0) (c .before .before .before .before .by-value .result)
-    (c .before .before .before .before .by-value .ensures (heldIn (a .l .now) (a .c)) (nodeIn (a .l .now) (a .v .now) (a .c)) (sym (c .before .before .before .before .before .before .before .before .before .load-trial2 .ensures))
-    (sym (toZ-ofZ w16 (x .result) (sfits-of (x .ok)) ∙ x .ensures)))
+    (value-tries (a .h .now) (heldIn (a .l .now) (a .c)) (nodeIn (a .l .now) (a .v .now) (a .c)) (p .0) _ _ _ (omega arith) (omega arith) (c .before .before .before .before .by-value .ensures) (c .before .before .before .before .before .before .before .before .before .load-trial2 .ensures)
+    (toZ-ofZ w16 (x .result) (sfits-of (x .ok)) ∙ x .ensures))
     (c .before .before .put-trial3 .ensures (a .v .now))
 
 pub try-statement-spec : {M : Type 1} → statement M

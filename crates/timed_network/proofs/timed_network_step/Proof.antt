@@ -44,7 +44,7 @@ use denote.Exit.{yes}
 use Rattle.node.specs.declared.Node.{Node}
 use Rattle.node.proofs.Node as T
 use Rattle.node.proofs.Node.Laws as T′
-use Rattle.lent_node.specs.Step.{heldOf, Stepped}
+use Rattle.lent_node.specs.Step.{heldOf, steppedOf}
 use Rattle.lent_node.proofs.stepped as stepped
 use Rattle.lent_node.proofs.stepped.Symbol as stepped-def
 use Rattle.lent_node.proofs.stepped.Symbol.{name as #lent-node·stepped}
@@ -71,8 +71,8 @@ module _ {M : Type 1} (𝓤 : URA M) (H : Heap 𝓤) (A : Atoms 𝓤) (at-mem : 
   Stepping = tripleOf 𝓤 H A stepped.signature (stepped.spec 𝓤 H A at-mem run)
 
   stepped-of : (κ′ : Lft) (s : RefT (List ℕ)) (c v : ℕ) (h r : Node)
-      → ent 𝓤 (ensured 𝓤 H A stepped.ended (stepped.clauses 𝓤 H A at-mem run) (κ′, tt) (s, (c, (v, (h, tt)))) tt r) (fact 𝓤 (Stepped (s .now) (heldOf c v) h r))
-  stepped-of κ′ s c v h r = exE 𝓤 _ (λ ws. snd∗ 𝓤 (sem 𝓤 H A (lasts stepped.ended (κ′, tt) (s, (c, (v, (h, tt)))) ws)) (fact 𝓤 (Stepped (s .now) (heldOf c v) h r)))
+      → ent 𝓤 (ensured 𝓤 H A stepped.ended (stepped.clauses 𝓤 H A at-mem run) (κ′, tt) (s, (c, (v, (h, tt)))) tt r) (fact 𝓤 (r ≡ steppedOf (s .now) (heldOf c v) h))
+  stepped-of κ′ s c v h r = exE 𝓤 _ (λ ws. snd∗ 𝓤 (sem 𝓤 H A (lasts stepped.ended (κ′, tt) (s, (c, (v, (h, tt)))) ws)) (fact 𝓤 (r ≡ steppedOf (s .now) (heldOf c v) h)))
 
 module _ {M : Type 1} (𝓤 : URA M) (H : Heap 𝓤) (A : Atoms 𝓤) (W : Given 𝓤 H A) (at-mem : Memory → SProp 𝓤) (run : Routine → Fun 𝓤) (κ κ′ : Lft) (q q′ : Share) (b o : ℕ) (γ : GName) (h : Node) (s : RefT (List ℕ)) (c v : ℕ)
     (room : Room u8 (length (s .now))) (gc : c < 2 ^ 8) (gv : v < 2 ^ 8) where
@@ -95,7 +95,7 @@ module _ {M : Type 1} (𝓤 : URA M) (H : Heap 𝓤) (A : Atoms 𝓤) (W : Given
   abbrev Post : Val → SProp 𝓤
   Post = walkOf 𝓤 H A step.ended stayed (step.clauses 𝓤 H A at-mem run) .post ((κs, qs, tt, x, at), tt)
 
-  exits : (r : Node) → Stepped (s .now) (heldOf c v) h r
+  exits : (r : Node) → r ≡ steppedOf (s .now) (heldOf c v) h
       → ent 𝓤 (⋆ 𝓤 H A (‵ (fobs γ (T.the-row .coded .code r)) ∷ ‵ (fbor κ (Body (mem (T.the-row)) b o γ)) ∷ ‵ (flft κ q) ∷ (‵ (flft κ′ q′) ⊛ ‵ ftrue) ∷ [])) (Post vunit)
   exits r e =
       qed W (‵ (fobs γ (T.the-row .coded .code r)) ∷ ‵ (fbor κ (Body (mem (T.the-row)) b o γ)) ∷ ‵ (flft κ q) ∷ (‵ (flft κ′ q′) ⊛ ‵ ftrue) ∷ []) ∵
@@ -133,7 +133,7 @@ module _ {M : Type 1} (𝓤 : URA M) (H : Heap 𝓤) (A : Atoms 𝓤) (W : Given
         calls-at ! fm (Stepping 𝓤 H A at-mem run) known to-stepped
         (and-then ! (load ! (from ! (stop !)) (look ! 14 refl)) (and-then ! (load ! (from ! (stop !)) (look ! 12 refl)) (and-then ! (load ! (from ! (stop !)) (look ! 10 refl)) (and-then ! (load ! (from ! (stop !)) (look ! 6 refl)) (no-more !))))) (λ w.
         use1 W (later (some (λ (r : Node). ((‵ (flft κ′ q′) ⊛ ‵ ftrue) ⊛ ‵ (T.the-row .own r (w ∷ []))) ⊛ raw (ensured 𝓤 H A stepped.ended (stepped.clauses 𝓤 H A at-mem run) (κ′, tt) (s, (c, (v, (h, tt)))) tt r)))) (id⊢ 𝓤 _) $ await ! tt $ pick ! (λ r.
-        split ! $ move ! (1 ∷ []) $ use1 W (raw (fact 𝓤 (Stepped (s .now) (heldOf c v) h r))) (stepped-of 𝓤 H A at-mem run κ′ s c v h r) $ heard ! (Stepped (s .now) (heldOf c v) h r) (λ e. split ! $ move ! (1 ∷ []) $
+        split ! $ move ! (1 ∷ []) $ use1 W (raw (fact 𝓤 (r ≡ steppedOf (s .now) (heldOf c v) h))) (stepped-of 𝓤 H A at-mem run κ′ s c v h r) $ heard ! (r ≡ steppedOf (s .now) (heldOf c v) h) (λ e. split ! $ move ! (1 ∷ []) $
         peeks ! (T.the-row) (Is (T.the-row)) (shows 𝓤 H A (T.the-row)) r (w ∷ []) (λ is.
         -- [what r owns; the slice's token; the registers' cell; what h owns; the open borrow; obs; auth; _6; …; _5; …; _4; …; _3; …; _2; …; _1; …; room for _0; …]
         land ! (from ! (stop !)) (init ! 9 refl (LL.lawful T.the-type T′.the-laws 𝓤 H A W .typed r _ is .0)) $

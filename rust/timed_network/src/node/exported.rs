@@ -13,6 +13,7 @@ extern "C" {
         clocks: u8,
         variables: u8,
     );
+    fn timed_network_take_message(node: *mut Node, part: *const u8, length: usize, channel: u8);
 }
 
 /// The registers at the start of a part.
@@ -30,4 +31,10 @@ pub(crate) fn step(node: &mut Node, part: &[u8], clocks: u8, variables: u8) {
     // reads inside the one, writes the other and keeps no pointer; with
     // length 0 it does not read the part's pointer.
     unsafe { timed_network_step(node, part.as_ptr(), part.len(), clocks, variables) }
+}
+
+/// A message taken.
+pub(crate) fn take_message(node: &mut Node, part: &[u8], channel: u8) {
+    // As for `step`.
+    unsafe { timed_network_take_message(node, part.as_ptr(), part.len(), channel) }
 }
