@@ -9,7 +9,6 @@ use Rattle.calls.specs.declared.Ran.{Ran}
 pub record Answers (call : RunCall) (r : Ran) (later : List ℕ) : Type 0 where
   pub verdict : r .verdict ≡ call .verdict
   pub end : r .end ≡ call .end
-  pub node : r .node ≡ call .node
   pub tick : r .tick ≡ call .tick
   pub used : r .used ≡ call .used
   pub size : r .size ≡ call .size

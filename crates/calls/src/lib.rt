@@ -1,25 +1,27 @@
 // The calls, for Rattle. Each contract equates the answer, and each lent number afterwards, with the call's
 // definition in model's specs/Calls.antt, for all inputs.
 ghost use mathlib.Core.Path.{_≡_};
+ghost use mathlib.Core.Logic.{_↔_};
 ghost use mathlib.Core.List.{List};
 ghost use Prim.Native.Nat.{ℕ, _*_, _≤_};
 ghost use lib.ListN.{length};
-ghost use Rattle.model.specs.declared.Verdict.the-variants.{Refused};
+ghost use Rattle.model.specs.declared.Verdict.the-variants.{Accepted, Refused};
 ghost use Rattle.model.specs.Reader.{byte};
 ghost use Rattle.model.specs.Places.{Valid};
 ghost use Rattle.model.specs.Program.{partOf, within};
-ghost use Rattle.model.specs.Calls.{notRun, checkCall, scheduleCall, translateCall, runCall, Demand3Of};
+ghost use Rattle.model.specs.Calls.{notRun, checkCall, scheduleCall, translateCall, runCall, endOf, Demand3Of};
+ghost use Rattle.model.specs.Acceptance.{Accepts};
+ghost use Rattle.model.specs.Observations.{ObservationsRead};
 ghost use Rattle.table.specs.Directory.{startsOf};
 ghost use Rattle.run.specs.Ends.{Planned};
 ghost use Rattle.calls.specs.Ran.{Answers};
+use model::End;
 use model::Verdict;
 
-// The answer of a run: document 01's number of the end, the node (255 unless late), the tick, the choices used and the observations
-// written; after a refusal 0, 255, 0, 0 and 0.
+// The answer of a run: the end, the tick, the choices used and the observations written; after a refusal `Horizon`, 0, 0 and 0.
 pub struct Ran {
     pub verdict: Verdict,
-    pub end: u8,
-    pub node: u8,
+    pub end: End,
     pub tick: u32,
     pub used: u32,
     pub size: usize,
@@ -50,9 +52,9 @@ fn plan_verdict(table: &[u8], starts: [u16; 8]) -> Verdict
     r.verdict
 }
 
-// Whether the table is accepted.
+// Whether the table is accepted; and what that means: it is, exactly if demand 2's statement holds of its bytes.
 pub fn check(table: &[u8]) -> Verdict
-    ensures { λ r. ⌜ r ≡ checkCall (now (table .entry)) ⌝ }
+    ensures { λ r. ⌜ (r ≡ checkCall (now (table .entry))) × ((checkCall (now (table .entry)) ≡ Accepted) ↔ Accepts (now (table .entry))) ⌝ }
 {
     let r = table::read(table);
     let v = r.verdict;
@@ -148,13 +150,24 @@ pub fn part<'a>(program: &'a [u8], node: u8) -> &'a [u8]
     program::part(program, node)
 }
 
+// The end that has this number and this node.
+fn end_of(number: u8, node: u8) -> End
+    ensures { λ r. ⌜ r ≡ endOf number node ⌝ }
+{
+    match number {
+        0 => End::Horizon,
+        1 => End::UsedUp,
+        2 => End::Late(node),
+        _ => End::NotAllowed,
+    }
+}
+
 fn not_run(number: u8, component: u8) -> Ran
     ensures { λ r. ⌜ ((lent : List ℕ) → Answers (notRun number component lent) r lent) ⌝ }
 {
     Ran {
         verdict: Verdict::Refused(number, component),
-        end: 0,
-        node: 255,
+        end: End::Horizon,
         tick: 0,
         used: 0,
         size: 0,
@@ -182,8 +195,7 @@ fn run_planned(
     let e = run::run_table(table, starts, rows, n, choices, observations);
     Ran {
         verdict: Verdict::Accepted,
-        end: e.end,
-        node: e.node,
+        end: end_of(e.end, e.node),
         tick: e.tick as u32,
         used: e.used as u32,
         size: e.written,
@@ -206,9 +218,9 @@ fn run_read(table: &[u8], starts: [u16; 8], choices: &[u8], observations: &mut [
 }
 
 // Runs an accepted table's programs under a list of choices; 32 bytes an observation. Every number and every lent byte is the definition's,
-// and demand 3 holds of the run.
+// demand 3 holds of the run, and what was written, read back, is what the run observed.
 pub fn run(table: &[u8], choices: &[u8], observations: &mut [u8]) -> Ran
-    ensures { λ r. ⌜ Answers (runCall (now (table .entry)) (now (choices .entry)) (now (observations .entry))) r (now (observations .exit)) × Demand3Of (now (table .entry)) (now (choices .entry)) ⌝ }
+    ensures { λ r. ⌜ Answers (runCall (now (table .entry)) (now (choices .entry)) (now (observations .entry))) r (now (observations .exit)) × Demand3Of (now (table .entry)) (now (choices .entry)) × ObservationsRead (now (table .entry)) (now (choices .entry)) (now (observations .entry)) ⌝ }
 {
     let r = table::read(table);
     let v = r.verdict;

@@ -1,5 +1,7 @@
 use mathlib.Core.Path.{sym, ap, _∙_}
 use Rattle.model.specs.Calls.{verdictOf, checkCall}
+use Rattle.model.proofs.Acceptance.{accepted-is}
+use Rattle.translator.proofs.Standing.{slice-bytes}
 use Rattle.table.proofs.Answered.{was-valid, its-starts, was-refused}
 use borrow.Author.Needs.{needs}
 use Rattle.calls.proofs.check.Statement.{statement}
@@ -31,12 +33,16 @@ plan-verdict-requires c κs =
 returns : tie.Need-returns
 unfolding checkCall
 returns c =
-    let bs = c .before .before .before .before .before .args .table .now in
-    sym (ap verdictOf (was-refused bs (c .before .before .before .read .result) (c .before .before .before .read .ensures) (c .before .v .given .1)))
+    let bs = c .before .before .before .before .before .args .table .now in (
+      sym (ap verdictOf (was-refused bs (c .before .before .before .read .result) (c .before .before .before .read .ensures) (c .before .v .given .1))),
+      accepted-is bs (slice-bytes bs (c .before .before .before .before .shared-slice-known .given)),
+    )
 
 -- src/lib.rt:75:1
 returns-2 : tie.Need-returns-2
-returns-2 c = search needs
+returns-2 c =
+    let bs = c .before .before .before .before .before .before .args .table .now in
+    (c .plan-verdict .ensures, accepted-is bs (slice-bytes bs (c .before .before .before .before .before .shared-slice-known .given)))
 
 pub check-spec : {M : Type 1} → statement M
 check-spec =

@@ -1,4 +1,5 @@
 -- `calls::run` meets its contract. Assumes nothing.
+use Rattle.model.proofs.ObservationsBack.{observations-read}
 use Rattle.table.proofs.Answered.{was-valid, its-starts, was-refused}
 use Rattle.calls.proofs.RunCalls.{run-refused, demanded}
 use borrow.Author.Needs.{needs}
@@ -26,13 +27,13 @@ returns : tie.Need-returns
 returns c =
     let a = c .before .before .before .before .before .before .before .before .args in
     let k = run-refused (a .table .now) (a .choices .now) (a .observations .now) (was-refused (a .table .now) (c .before .before .before .before .read .result) (c .before .before .before .before .read .ensures) (c .before .before .v .given .1)) in
-    (rw k (c .not-run .ensures (a .observations .now)), demanded (a .table .now) (a .choices .now))
+    (rw k (c .not-run .ensures (a .observations .now)), demanded (a .table .now) (a .choices .now), observations-read (a .table .now) (a .choices .now) (a .observations .now))
 
 same-length : tie.Need-same-length
 same-length c = search needs
 
 returns-2 : tie.Need-returns-2
-returns-2 c = let a = c .before .before .before .before .before .before .before .before .before .before .before .args in (c .before .before .run-read .ensures, demanded (a .table .now) (a .choices .now))
+returns-2 c = let a = c .before .before .before .before .before .before .before .before .before .before .before .args in (c .before .before .run-read .ensures, demanded (a .table .now) (a .choices .now), observations-read (a .table .now) (a .choices .now) (a .observations .now))
 
 pub run-spec : {M : Type 1} → statement M
 run-spec =
