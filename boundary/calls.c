@@ -9,14 +9,16 @@ _Static_assert(sizeof(PartNumbers) == 16 && offsetof(PartNumbers, length) == 8, 
 _Static_assert(sizeof(RunNumbers) == 16 && offsetof(RunNumbers, tick) == 4 &&
                    offsetof(RunNumbers, size) == 12,
                "run");
+_Static_assert(sizeof(Passage) == 16 && offsetof(Passage, entry) == 4, "passage");
 
-unsigned long made[5];
+unsigned long made[CALLS];
 uint32_t list[MAX_LIST];
 uint8_t program[MAX_PROGRAM];
 uint8_t observations[MAX_OBSERVATIONS];
+Passage passages[MAX_PASSAGES];
 
 static struct place table_place, choices_place, bytes_place;
-static struct place list_place, program_place, observations_place;
+static struct place list_place, program_place, observations_place, passages_place;
 
 void calls_start(void) {
     table_place = place_new(MAX_TABLE);
@@ -25,6 +27,7 @@ void calls_start(void) {
     list_place = place_new(sizeof list);
     program_place = place_new(MAX_PROGRAM);
     observations_place = place_new(MAX_OBSERVATIONS);
+    passages_place = place_new(sizeof passages);
 }
 
 /* What holds for every verdict; `most` is the highest number of the call. */
@@ -107,5 +110,34 @@ RunNumbers guarded_run(enum where where, struct bytes table,
     place_input_done(&choices_place, choices.at);
     place_output_done(&observations_place, (size_t)answer.size * OBSERVATION,
                       observations);
+    return answer;
+}
+
+/* The seven numbers that the schedule has of a passage. */
+static int same_passage(const Passage *passage, const uint32_t *row) {
+    return passage->component == row[0] && passage->edge == row[1] &&
+           passage->location == row[2] && passage->entry == row[3] &&
+           passage->ready == row[4] && passage->end == row[5] &&
+           passage->message == row[6];
+}
+
+/* The answer and the passages are held to those of the schedule. */
+CallNumbers guarded_passages(enum where where, struct bytes table, size_t lent) {
+    const uint8_t *in = place_input(&table_place, where, table.at, table.length);
+    uint8_t *out = place_output(&passages_place, where, lent * sizeof passages[0]);
+    CallNumbers answer =
+        timed_network_passages(in, table.length, (Passage *)(void *)out, lent);
+    made[5]++;
+    try_call(answer, MAX_PASSAGES);
+    place_input_done(&table_place, table.at);
+    place_output_done(&passages_place, answer.size * sizeof passages[0],
+                      (uint8_t *)passages);
+    CallNumbers planned = guarded_schedule(where, table, FIELDS * lent);
+    if (answer.number != planned.number || answer.component != planned.component ||
+        answer.size != planned.size)
+        fail("another answer than that of the schedule");
+    for (size_t i = 0; i < answer.size; i++)
+        if (!same_passage(&passages[i], &list[FIELDS * i]))
+            fail("another passage than that of the schedule");
     return answer;
 }

@@ -1,4 +1,4 @@
-/* The five calls with every buffer in a place of its own, each answer tried. */
+/* The calls with every buffer in a place of its own, each answer tried. */
 #ifndef CALLS_H
 #define CALLS_H
 
@@ -21,13 +21,15 @@ struct bytes {
     size_t length;
 };
 
-/* Calls made so far, by call: check, schedule, translate, part, run. */
-extern unsigned long made[5];
+/* Calls made so far, by call: check, schedule, translate, part, run, passages. */
+enum { CALLS = 6 };
+extern unsigned long made[CALLS];
 
 /* What the last call that writes has written, without what was lent past it. */
 extern uint32_t list[MAX_LIST];
 extern uint8_t program[MAX_PROGRAM];
 extern uint8_t observations[MAX_OBSERVATIONS];
+extern Passage passages[MAX_PASSAGES];
 
 void calls_start(void);
 
@@ -38,5 +40,6 @@ CallNumbers guarded_translate(enum where where, struct bytes table, size_t lent)
 PartNumbers guarded_part(enum where where, struct bytes bytes, uint8_t node);
 RunNumbers guarded_run(enum where where, struct bytes table,
                        struct bytes choices, size_t lent);
+CallNumbers guarded_passages(enum where where, struct bytes table, size_t lent);
 
 #endif

@@ -1,6 +1,6 @@
 /*
- * Tries the five exported calls with every buffer next to memory that allows
- * no access.
+ * Tries the exported calls on tables and programs with every buffer next to
+ * memory that allows no access.
  *
  *   boundary ROOT ROUNDS SEED
  *
@@ -28,14 +28,14 @@ static void same(int condition, const char *what) {
         fail(what);
 }
 
-/* The three calls that write, with as much lent as they need plus `more`. */
+/* The calls that write, with as much lent as they need plus `more`. */
 static void lend(enum where where, struct bytes table, struct bytes choices, long more) {
     size_t rows = guarded_schedule(where, table, MAX_LIST).size;
     size_t length = guarded_translate(where, table, MAX_PROGRAM).size;
-    size_t needed[3] = {FIELDS * rows, length, OBSERVATION * rows};
-    size_t most[3] = {MAX_LIST, MAX_PROGRAM, MAX_OBSERVATIONS};
-    size_t lent[3];
-    for (int i = 0; i < 3; i++) {
+    size_t needed[4] = {FIELDS * rows, length, OBSERVATION * rows, rows};
+    size_t most[4] = {MAX_LIST, MAX_PROGRAM, MAX_OBSERVATIONS, MAX_PASSAGES};
+    size_t lent[4];
+    for (int i = 0; i < 4; i++) {
         long sum = (long)needed[i] + more;
         lent[i] = sum < 0 ? 0 : (size_t)sum > most[i] ? most[i] : (size_t)sum;
     }
@@ -45,6 +45,8 @@ static void lend(enum where where, struct bytes table, struct bytes choices, lon
          "program bytes are refused or taken wrongly");
     same(guarded_run(where, table, choices, lent[2]).number == (lent[2] < needed[2] ? 13 : 0),
          "observations are refused or taken wrongly");
+    same(guarded_passages(where, table, lent[3]).number == (lent[3] < needed[3] ? 13 : 0),
+         "a list of passages is refused or taken wrongly");
 }
 
 static void stored_cases(void) {
@@ -72,6 +74,7 @@ static void all_calls(enum where where, struct bytes table, struct bytes choices
     CallNumbers planned = guarded_schedule(where, table, lent);
     CallNumbers translated = guarded_translate(where, table, lent);
     RunNumbers ran = guarded_run(where, table, choices, lent);
+    guarded_passages(where, table, lent / FIELDS);
     if (verdict.number != 0) {
         same(planned.number == verdict.number && translated.number == verdict.number &&
                  ran.number == verdict.number,
@@ -183,13 +186,14 @@ int main(int count, char **words) {
     cut_programs();
     many_choices();
     unsigned long before = 0, all = 0;
-    for (int i = 0; i < 5; i++)
+    for (int i = 0; i < CALLS; i++)
         before += made[i];
     rounds(strtoul(words[2], NULL, 10));
-    for (int i = 0; i < 5; i++)
+    for (int i = 0; i < CALLS; i++)
         all += made[i];
     printf("boundary: %zu stored cases; %lu calls with them, %lu with random bytes; "
-           "check %lu, schedule %lu, translate %lu, part %lu, run %lu\n",
-           case_count, before, all - before, made[0], made[1], made[2], made[3], made[4]);
+           "check %lu, schedule %lu, translate %lu, part %lu, run %lu, passages %lu\n",
+           case_count, before, all - before, made[0], made[1], made[2], made[3], made[4],
+           made[5]);
     return 0;
 }

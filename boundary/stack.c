@@ -18,19 +18,23 @@
 #include "stored.h"
 
 /* The stack that is measured, and the stack of the second thread. */
-enum { WIDE = 160 * 1024, PATTERN = 0xA5, THREAD = 80 * 1024 };
+enum { WIDE = 200 * 1024, PATTERN = 0xA5, THREAD = 100 * 1024 };
+
+/* The calls measured: those of the stored cases, then these. */
+enum { PASSAGES = RUN + 1, START, STEP, MEASURED };
 
 /* The bytes that docs/LINKING.md names for each call. */
-static const size_t named[5] = {40000, 40000, 40000, 256, 68000};
+static const size_t named[MEASURED] = {40000, 40000, 40000, 256, 68000, 86000, 400, 600};
 
 static uint8_t *wide;
-static size_t deepest[5];
+static size_t deepest[MEASURED];
+static NodeRegisters node;
 static VerdictNumbers verdict;
 static CallNumbers called;
 static PartNumbers placed;
 static RunNumbers ran;
 
-static void call(enum request request, const struct stored *stored) {
+static void call(int request, const struct stored *stored) {
     const uint8_t *table = stored->table.at;
     size_t length = stored->table.length;
     switch (request) {
@@ -51,11 +55,20 @@ static void call(enum request request, const struct stored *stored) {
                                 stored->choices.length, observations,
                                 MAX_OBSERVATIONS);
         break;
+    case PASSAGES:
+        called = timed_network_passages(table, length, passages, MAX_PASSAGES);
+        break;
+    case START:
+        node = timed_network_start(table, length);
+        break;
+    case STEP:
+        timed_network_step(&node, table, length, 4, 4);
+        break;
     }
 }
 
 /* Fills the stack below the stack pointer, calls, and looks how far it went. */
-static size_t depth(enum request request, const struct stored *stored) {
+static size_t depth(int request, const struct stored *stored) {
     uint8_t *here;
     __asm__ volatile("mov %%rsp, %0" : "=r"(here));
     volatile uint8_t *at;
@@ -67,10 +80,10 @@ static size_t depth(enum request request, const struct stored *stored) {
     return (size_t)(here - at);
 }
 
-static void each_case(size_t (*measure)(enum request, const struct stored *)) {
+static void each_case(size_t (*measure)(int, const struct stored *)) {
     for (size_t i = 0; i < case_count; i++)
-        for (int request = 0; request < 5; request++) {
-            size_t found = measure((enum request)request, &cases[i]);
+        for (int request = 0; request < MEASURED; request++) {
+            size_t found = measure(request, &cases[i]);
             if (found > deepest[request])
                 deepest[request] = found;
         }
@@ -82,7 +95,7 @@ static void *measured(void *nothing) {
     return nothing;
 }
 
-static size_t only_call(enum request request, const struct stored *stored) {
+static size_t only_call(int request, const struct stored *stored) {
     call(request, stored);
     return 0;
 }
@@ -104,7 +117,8 @@ static void in_thread(void *(*body)(void *), uint8_t *stack, size_t size) {
 }
 
 int main(int count, char **words) {
-    static const char *const names[] = {"check", "schedule", "translate", "part", "run"};
+    static const char *const names[] = {"check", "schedule", "translate", "part",
+                                        "run",   "passages", "start",     "step"};
     if (count != 2) {
         fputs("usage: stack ROOT\n", stderr);
         return 2;
@@ -117,7 +131,7 @@ int main(int count, char **words) {
     in_thread(measured, wide, WIDE);
     in_thread(narrow, NULL, THREAD);
     int status = 0;
-    for (int i = 0; i < 5; i++) {
+    for (int i = 0; i < MEASURED; i++) {
         printf("stack: %s %zu bytes, at most %zu\n", names[i], deepest[i], named[i]);
         if (deepest[i] > named[i])
             status = 1;

@@ -1,5 +1,5 @@
 /*
- * Wrong versions of the five calls, to see that the trial finds them. The
+ * Wrong versions of the calls, to see that the trial finds them. The
  * linker puts these in front of the library's own (--wrap). The variable
  * WRONG names the fault; with 0 or none there is no fault.
  */
@@ -13,6 +13,7 @@ CallNumbers __real_timed_network_translate(const uint8_t *, size_t, uint8_t *, s
 PartNumbers __real_timed_network_part(const uint8_t *, size_t, uint8_t);
 RunNumbers __real_timed_network_run(const uint8_t *, size_t, const uint8_t *,
                                     size_t, uint8_t *, size_t);
+CallNumbers __real_timed_network_passages(const uint8_t *, size_t, Passage *, size_t);
 
 VerdictNumbers __wrap_timed_network_check(const uint8_t *, size_t);
 CallNumbers __wrap_timed_network_schedule(const uint8_t *, size_t, uint32_t *, size_t);
@@ -20,6 +21,7 @@ CallNumbers __wrap_timed_network_translate(const uint8_t *, size_t, uint8_t *, s
 PartNumbers __wrap_timed_network_part(const uint8_t *, size_t, uint8_t);
 RunNumbers __wrap_timed_network_run(const uint8_t *, size_t, const uint8_t *,
                                     size_t, uint8_t *, size_t);
+CallNumbers __wrap_timed_network_passages(const uint8_t *, size_t, Passage *, size_t);
 
 static int wrong(int fault) {
     static int chosen = -1;
@@ -99,5 +101,15 @@ RunNumbers __wrap_timed_network_run(const uint8_t *table, size_t length,
         observations[32 * answer.size] = 7; /* writes one observation more */
     if (wrong(17) && answer.end == 3)
         answer.used += 1; /* counts a choice that is not allowed */
+    return answer;
+}
+
+CallNumbers __wrap_timed_network_passages(const uint8_t *table, size_t length,
+                                          Passage *list, size_t list_length) {
+    CallNumbers answer = __real_timed_network_passages(table, length, list, list_length);
+    if (wrong(18) && answer.number == 0 && answer.size < list_length)
+        list[answer.size].end = 0; /* writes past the result */
+    if (wrong(19) && answer.number == 0)
+        list[0].message ^= 1; /* another message */
     return answer;
 }
