@@ -6,11 +6,10 @@
 //! it after a refusal. A [`Yardstick`] holds the buffers that its calls use
 //! again and again; no call allocates once they have grown.
 //!
-//! [`table`] is the table decoded once, [`read`] decodes it with checks 1 to
-//! 6. [`opening`] finds the edge taken, [`schedule`] opens and closes
-//! passages in one sweep, [`meetings`] notes on the way which windows meet.
-//! [`translate`] writes programs, [`part`] finds one node's part, [`run`]
-//! carries out choices.
+//! The module `table` is the table decoded once, `read` decodes it with checks
+//! 1 to 6. `opening` finds the edge taken, `schedule` opens and closes passages
+//! in one sweep, `meetings` notes on the way which windows meet. `translate`
+//! writes programs, `part` finds one node's part, `run` carries out choices.
 #![forbid(unsafe_code)]
 #![warn(missing_docs)]
 
