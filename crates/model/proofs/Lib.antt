@@ -89,3 +89,7 @@ pub mod MeaningLaw
 pub mod ProgramSize
 pub mod ObservationSize
 pub mod WholeFew
+pub mod Acceptance
+pub mod ObservationBack
+pub mod ObservationsBack
+pub mod Ends

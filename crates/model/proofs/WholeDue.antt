@@ -1,11 +1,11 @@
 -- Due and not allowed by the run is due and not due by the schedule; so why a choice is not allowed. Assumes nothing.
-use mathlib.Core.Path.{_≡_, refl, sym, ap, _∙_}
+use mathlib.Core.Path.{_≡_, refl, sym, ap, subst, _∙_}
 use mathlib.Core.Bool.{Bool, true, false, cond}
 use mathlib.Core.List.{List, [], _∷_}
 use mathlib.Core.Option.{none, some}
 use Prim.Native.Nat.{ℕ, suc, _+_, _≤_, _<_}
 use native.Mathlib.Omega.{arith}
-use borrow.Author.Tests.{eqb-true, eqb-false, ltb-true, ltb-false}
+use borrow.Author.Tests.{eqb-true, eqb-false, eq-eqb, ne-eqb, ltb-true, ltb-false, lt-ltb, le-ltb}
 use lib.Dec.{ltb, eqb}
 use lib.ListN.{length}
 use Rattle.model.specs.declared.Action.the-variants.{Send}
@@ -13,8 +13,8 @@ use Rattle.model.specs.Table.{Component, Read, size, componentOf, arcOf}
 use Rattle.model.specs.Window.{Entry, Pick, listens}
 use Rattle.model.specs.Schedule.{Visit, own}
 use Rattle.model.specs.Machine.{Node}
-use Rattle.model.specs.Run.{settingTo, Run, nodeOf, Stand, sleeping, sending, listening, finishing, adding, working, taking, elsewhere, nowhere, standOf, listeners, forbidden, on, over, ticked, finishes, due, someDue, lateNodes, afterTick, choose1}
-use Rattle.model.specs.Demand3.{DueIn, NotDueIn}
+use Rattle.model.specs.Run.{settingTo, Run, nodeOf, Stand, sleeping, sending, listening, finishing, adding, working, taking, elsewhere, nowhere, standOf, windowEnd, listeners, forbidden, on, over, ticked, finishes, due, someDue, lateNodes, afterTick, choose1}
+use Rattle.model.specs.Demand3.{DueIn, NotDueIn, EarlyIn, Barred, absent, early, pending}
 use Rattle.model.proofs.Bools.{clash}
 use Rattle.model.proofs.NodeChoosing.{Asleep, asleep-sleeping}
 use Rattle.model.proofs.NodeWorking.{Working}
@@ -25,7 +25,7 @@ use Rattle.model.proofs.NodeSchedule.{asleep-due-in, asleep-not-due-in,
 use Rattle.model.proofs.NodeRefused.{NotAllowed, earlySleep, earlyListen, nothingKept, unheard, not-allowed}
 use Rattle.model.proofs.WholeTied.{Given, Held, coming, waiting, busy, leaving, resting, Tie, shownBy, coded, component-in, opened-first}
 use Rattle.model.proofs.WholeNode.{nth-ahead, none-ahead}
-use Rattle.model.proofs.WholeTick.{Live, due-some}
+use Rattle.model.proofs.WholeTick.{Live, due-some, due-none}
 use Rattle.model.proofs.WholeListener.{receives-only, listeners-are}
 
 -- no stand is both on the way and at work
@@ -162,3 +162,69 @@ module _ {t : Read} {H : ℕ} {S : List Visit} (G : Given t H S) {s : Run} (k : 
           tickDue (eqb-true b 255 p) (d .0) i (due-in (d .0) i (d .2))
       go false p true q f = let i : b < size (t .table) = omega (arith, ltb-true b (length (s .nodes)) q, k .tied .full) in notDue i (not-due-in b i f)
       go false p false q f = noNode (omega (arith, ltb-false b (length (s .nodes)) q, k .tied .full)) (eqb-false b 255 p)
+
+  -- ## The other way
+
+  -- a sleep or listen that is not due by the schedule is not allowed by the run
+  early-not : (c : ℕ) → c < size (t .table) → (x : Stand) → standOf (nodeOf s c) ≡ x → EarlyIn (own c S) (s .tick) (nodeOf s c) x
+      → finishes (settingTo t H S) s c x ≡ forbidden
+  early-not c h x q e = go x q e
+    where
+      by-due : (y : Stand) → standOf (nodeOf s c) ≡ y → due (settingTo t H S) (s .tick) (nodeOf s c) y ≡ true → DueIn (own c S) (s .tick) (nodeOf s c) y
+      by-due y q d = subst (DueIn (own c S) (s .tick) (nodeOf s c)) q (due-in c h (ap (due (settingTo t H S) (s .tick) (nodeOf s c)) q ∙ d))
+
+      -- a choice allowed where a test holds, and the test fails
+      unless : (y : Bool) (u : Run) → (y ≡ true → ⊥) → cond y (on u) forbidden ≡ forbidden
+      unless true u n = absurd (n refl)
+      unless false u n = refl
+
+      go : (y : Stand) → standOf (nodeOf s c) ≡ y → EarlyIn (own c S) (s .tick) (nodeOf s c) y → finishes (settingTo t H S) s c y ≡ forbidden
+      go sleeping q e = unless (eqb (s .tick) (nodeOf s c .t)) _ (λ d. e (by-due sleeping q d))
+      go (sending a) q e = absurd e
+      go (listening qs) q e = unless (eqb (s .tick) (windowEnd (nodeOf s c))) _ (λ d. e (by-due (listening qs) q d))
+      go finishing q e = absurd e
+      go (adding v z) q e = absurd e
+      go working q e = absurd e
+      go taking q e = absurd e
+      go elsewhere q e = absurd e
+      go nowhere q e = absurd e
+
+  -- due by the schedule is due by the run
+  in-due : (c : ℕ) → c < size (t .table) → DueIn (own c S) (s .tick) (nodeOf s c) (standOf (nodeOf s c)) → due (settingTo t H S) (s .tick) (nodeOf s c) (standOf (nodeOf s c)) ≡ true
+  in-due c h d = go (standOf (nodeOf s c)) refl d
+    where
+      not-due : (y : Stand) → standOf (nodeOf s c) ≡ y → finishes (settingTo t H S) s c y ≡ forbidden → NotDueIn (own c S) (s .tick) (nodeOf s c) y
+      not-due y q f = subst (NotDueIn (own c S) (s .tick) (nodeOf s c)) q (not-due-in c h (ap (finishes (settingTo t H S) s c) q ∙ f))
+
+      -- a test that cannot fail
+      holds : (y : Bool) (u : Run) → (cond y (on u) forbidden ≡ forbidden → ⊥) → y ≡ true
+      holds true u n = refl
+      holds false u n = absurd (n refl)
+
+      go : (y : Stand) → standOf (nodeOf s c) ≡ y → DueIn (own c S) (s .tick) (nodeOf s c) y → due (settingTo t H S) (s .tick) (nodeOf s c) y ≡ true
+      go sleeping q d = holds (eqb (s .tick) (nodeOf s c .t)) _ (λ f. not-due sleeping q f d)
+      go (sending a) q d = absurd d
+      go (listening qs) q d = holds (eqb (s .tick) (windowEnd (nodeOf s c))) _ (λ f. not-due (listening qs) q f d)
+      go finishing q d = absurd d
+      go (adding v z) q d = absurd d
+      go working q d = absurd d
+      go taking q d = absurd d
+      go elsewhere q d = absurd d
+      go nowhere q d = absurd d
+
+  -- one node due is somebody due
+  one-due : (c : ℕ) → c < size (t .table) → due (settingTo t H S) (s .tick) (nodeOf s c) (standOf (nodeOf s c)) ≡ true → someDue (settingTo t H S) (s .tick) 0 (s .nodes) ≡ true
+  one-due c h d = go (someDue (settingTo t H S) (s .tick) 0 (s .nodes)) refl
+    where
+      go : (x : Bool) → someDue (settingTo t H S) (s .tick) 0 (s .nodes) ≡ x → x ≡ true
+      go true e = refl
+      go false e = clash (sym (due-none (settingTo t H S) (s .tick) 0 (s .nodes) e c (omega (arith, k .tied .full))) ∙ d)
+
+  -- what is barred by the schedule is not allowed
+  pub barred-not : (b : ℕ) → Barred (t .table) S s b → choose1 (settingTo t H S) s b ≡ forbidden
+  unfolding choose1
+  barred-not b (absent h n) = rw (ne-eqb b 255 n, le-ltb b (length (s .nodes)) (omega (arith, k .tied .full)))
+  barred-not b (early h e) =
+      rw (ne-eqb b 255 (omega (arith, G .limits .mostComponents)), lt-ltb b (length (s .nodes)) (omega (arith, k .tied .full)))
+      (early-not b h (standOf (nodeOf s b)) refl e)
+  barred-not b (pending i c h d) = rw (eq-eqb b 255 i, one-due c h (in-due c h d))

@@ -16,11 +16,11 @@ use Rattle.model.specs.Schedule.{Visit, own}
 use Rattle.model.specs.Checks.{planOf}
 use Rattle.model.specs.Network.{Place, Work, Observation, observation, takenOr, observationsOn, passagesOn, start}
 use Rattle.model.specs.Machine.{Node}
-use Rattle.model.specs.Run.{Setting, settingOf, Run, Outcome, forbidden, on, over, Stand, sleeping, sending, listening, finishing, adding, working, taking, elsewhere, nowhere, standOf, nodeOf, windowEnd, ownTick, moved, ticked, sent, listeners, finishes, someDue, lateNodes, afterTick, choose1, continue, runFrom, run}
+use Rattle.model.specs.Run.{Setting, settingTo, settingOf, Run, Outcome, forbidden, on, over, Stand, sleeping, sending, listening, finishing, adding, working, taking, elsewhere, nowhere, standOf, nodeOf, windowEnd, ownTick, moved, ticked, sent, listeners, finishes, someDue, lateNodes, afterTick, choose1, continue, runFrom, run}
 use Rattle.model.specs.Demand3.{PassAs, Begins, observationsOf, Demand3}
 use Rattle.model.proofs.Words.{all-join}
 use Rattle.model.proofs.WholeLimits.{read-limits}
-use Rattle.model.proofs.WholeTied.{given}
+use Rattle.model.proofs.WholeTied.{Given, given}
 use Rattle.model.proofs.WholeStart.{tied-start}
 use Rattle.model.proofs.WholeCount.{only-few}
 use Rattle.model.proofs.WholePromise.{promised}
@@ -174,3 +174,8 @@ few bytes t S r e cs =
     let full = tied-start (given t S (read-limits bytes t r) e) .full in
     by-number (λ (o : Observation). o .component) (λ (v : Visit). v .component) S
     (shows-on (settingOf t S) cs (record { full = full; shown = empty }) .shown) (node-few t S cs (promised bytes t S r e cs))
+
+-- each observation of a run is of one of its nodes
+pub of-nodes : {t : Read} {H : ℕ} {S : List Visit} → Given t H S → (cs : List ℕ) → All (λ o. o .component < size (t .table)) (run (settingTo t H S) cs .state .observations)
+unfolding run
+of-nodes {t} {H} {S} G cs = shows-on (settingTo t H S) cs (record { full = tied-start G .full; shown = empty }) .shown

@@ -10,15 +10,15 @@ use Rattle.model.specs.Limits.{InLimits}
 use Rattle.model.specs.Schedule.{Visit}
 use Rattle.model.specs.Checks.{planOf}
 use Rattle.model.specs.Run.{settingTo, Run, Result, runFrom, run, startRun}
-use Rattle.model.specs.Demand3.{states, LateAt, Ended, horizon, usedUp, late, notAllowed, Refused, noNode, notDue, due, Demand3, Promise}
+use Rattle.model.specs.Demand3.{states, stateAfter, LateAt, Ended, horizon, usedUp, late, notAllowed, Refused, noNode, notDue, due, Barred, Demand3, Promise}
 use Rattle.model.proofs.WholeLimits.{read-limits}
 use Rattle.model.proofs.WholeTied.{Given, given}
 use Rattle.model.proofs.WholeStart.{tied-start}
 use Rattle.model.proofs.WholeTick.{Live}
-use Rattle.model.proofs.WholeDue.{WhyNot, why-not}
+use Rattle.model.proofs.WholeDue.{WhyNot, why-not, barred-not}
 use Rattle.model.proofs.WholeDue.{noNode as no-node, notDue as not-due, tickDue as some-due}
 use Rattle.model.proofs.WholePath.{PathOf}
-use Rattle.model.proofs.WholeRun.{Goes, goes, goes-used, goes-few, goes-ticks, goes-path, goes-listener, goes-below, goes-late-ends, goes-late-is, goes-node, Ends, atHorizon, atLast, tooLate, goes-ends}
+use Rattle.model.proofs.WholeRun.{Goes, goes, carried-out, goes-used, goes-few, goes-ticks, goes-path, goes-listener, goes-below, goes-late-ends, goes-late-is, goes-node, Ends, atHorizon, atLast, tooLate, goes-ends}
 use Rattle.model.proofs.WholeRun.{notAllowed as not-allowed}
 
 module _ {t : Read} {H : ℕ} {S : List Visit} (G : Given t H S) (cs : List ℕ) where
@@ -67,6 +67,11 @@ module _ {t : Read} {H : ℕ} {S : List Visit} (G : Given t H S) (cs : List ℕ)
       go (tooLate x) = absurd (omega arith)
       go (not-allowed x y z w) = said (getD cs (R .state .used) 0) w (why-not G w (getD cs (R .state .used) 0) z)
 
+  -- no choice carried out was barred
+  never-barred : (k : ℕ) → k < R .state .used → Barred (t .table) S (stateAfter t H S cs k) (getD cs k 0) → ⊥
+  unfolding run
+  never-barred k h b = let c = carried-out G cs start-live s₀ k (omega arith) in c .1 (barred-not G (c .0) (getD cs k 0) b)
+
   -- a late end
   last-late : R .end ≡ 2 → (0 < R .state .used) × (R .node < size (t .table)) × LateAt t H S cs (pred (R .state .used)) (R .node)
   last-late e =
@@ -100,6 +105,7 @@ module _ {t : Read} {H : ℕ} {S : List Visit} (G : Given t H S) (cs : List ℕ)
         ended = how-ended;
         notBefore = λ k i. goes-below G whole s₀ k i;
         refused = why-refused;
+        allowed = never-barred;
       }
 
 -- for every table in the limits that is accepted, and every list of choices

@@ -42,6 +42,33 @@ module _ {t : Read} {H : ℕ} {S : List Visit} (G : Given t H S) where
       go (over u x y) e (arrives f p i) ih = (1, arrived k f p i)
       go (over u x y) e (breaks c f p) ih = (1, broken c k f p)
 
+  -- a choice carried out: the state before it, and that it was allowed there
+  pub carried-out : (cs : List ℕ) {s : Run} → Live G s → (d : Run) (k : ℕ) → s .used + k < runFrom (settingTo t H S) cs s .state .used
+      → Live G (getD (states (settingTo t H S) cs s) k d)
+      × (choose1 (settingTo t H S) (getD (states (settingTo t H S) cs s) k d) (getD cs k 0) ≡ forbidden → ⊥)
+  unfolding runFrom states
+  carried-out [] l d k h = absurd (omega arith)
+  carried-out (b ∷ bs) {s} l d k h = go (choose1 (settingTo t H S) s b) refl (choice-leads G l b) k h (λ u w i j. carried-out bs w d i j)
+    where
+      -- choice k, in the state before it
+      Carried : Outcome → ℕ → Type 0
+      Carried o i =
+          Live G (getD (s ∷ furtherStates o (λ u. states (settingTo t H S) bs u)) i d)
+          × (choose1 (settingTo t H S) (getD (s ∷ furtherStates o (λ u. states (settingTo t H S) bs u)) i d) (getD (b ∷ bs) i 0) ≡ forbidden → ⊥)
+
+      go : (o : Outcome) → choose1 (settingTo t H S) s b ≡ o → Leads G s b o → (i : ℕ) → s .used + i < continue s o (λ u. runFrom (settingTo t H S) bs u) .state .used
+          → ((u : Run) → Live G u → (j : ℕ) → u .used + j < runFrom (settingTo t H S) bs u .state .used
+          → Live G (getD (states (settingTo t H S) bs u) j d)
+          × (choose1 (settingTo t H S) (getD (states (settingTo t H S) bs u) j d) (getD bs j 0) ≡ forbidden → ⊥))
+          → Carried o i
+      go forbidden e no i j ih = absurd (omega arith)
+      go (on u) e (onward w m f p) zero j ih = (l, λ x. (let z : _≡_ {A = ℕ} 0 1 = cc in omega arith))
+      go (on u) e (onward w m f p) (suc i) j ih = ih w m i (omega (arith, f))
+      go (over u x y) e (arrives f p q) zero j ih = (l, λ x. (let z : _≡_ {A = ℕ} 0 1 = cc in omega arith))
+      go (over u x y) e (arrives f p q) (suc i) j ih = absurd (omega arith)
+      go (over u x y) e (breaks c f p) zero j ih = (l, λ x. (let z : _≡_ {A = ℕ} 0 1 = cc in omega arith))
+      go (over u x y) e (breaks c f p) (suc i) j ih = absurd (omega arith)
+
   -- ## What follows
 
   -- how many choices were carried out

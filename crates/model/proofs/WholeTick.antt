@@ -25,7 +25,7 @@ nodeAt rs i = getD rs i noNode
 
 module _ (g : Setting) (now : ℕ) where
   -- nobody is due
-  due-none : (c : ℕ) (rs : List Node) → someDue g now c rs ≡ false → (i : ℕ) → i < length rs → due g now (nodeAt rs i) (standOf (nodeAt rs i)) ≡ false
+  pub due-none : (c : ℕ) (rs : List Node) → someDue g now c rs ≡ false → (i : ℕ) → i < length rs → due g now (nodeAt rs i) (standOf (nodeAt rs i)) ≡ false
   unfolding someDue
   due-none c [] e i h = absurd (omega arith)
   due-none c (r ∷ rs) e i h = go (due-none (suc c) rs) (due g now r (standOf r)) refl e i h

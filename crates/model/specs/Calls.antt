@@ -2,9 +2,11 @@
 use mathlib.Core.Path.{_≡_}
 use mathlib.Core.Bool.{Bool, true, false, cond}
 use mathlib.Core.List.{List, _++_}
-use Prim.Native.Nat.{ℕ, _*_}
+use Prim.Native.Nat.{ℕ, zero, suc, _*_}
 use lib.Dec.{leb, ltb}
 use lib.ListN.{length, drop}
+use Rattle.model.specs.declared.End.{End}
+use Rattle.model.specs.declared.End.the-variants.{Horizon, UsedUp, Late, NotAllowed}
 use Rattle.model.specs.declared.Verdict.{Verdict}
 use Rattle.model.specs.declared.Verdict.the-variants.{Accepted, Refused}
 use Rattle.model.specs.Lists.{Answer, accepted, refused, _after_, each}
@@ -32,6 +34,27 @@ numberOf (Refused n c) = n
 abbrev pub concernedOf : Verdict → ℕ
 concernedOf Accepted = 255
 concernedOf (Refused n c) = c
+
+-- "The run ends with 0 horizon .., 1 choices used up, 2 late (lowest node), 3 choice not allowed ..; and the node (255 unless late)": the number
+-- and the node of each case.
+abbrev pub endNumber : End → ℕ
+endNumber Horizon = 0
+endNumber UsedUp = 1
+endNumber (Late node) = 2
+endNumber NotAllowed = 3
+
+abbrev pub endNode : End → ℕ
+endNode Horizon = 255
+endNode UsedUp = 255
+endNode (Late node) = node
+endNode NotAllowed = 255
+
+-- the case that has this number and this node (the law `end-numbers` in proofs/Ends.antt: for the numbers of every run)
+abbrev pub endOf : ℕ → ℕ → End
+endOf zero node = Horizon
+endOf (suc zero) node = UsedUp
+endOf (suc (suc zero)) node = Late node
+endOf (suc (suc (suc n))) node = NotAllowed
 
 -- ## Calls that write
 
@@ -87,18 +110,18 @@ translateCall table lent = translateWith lent (programIn table)
 
 -- ## The run
 
--- the verdict; the end, the node, the tick and the choices used; the number of observations; and the lent bytes afterwards
+-- the verdict; the end, the tick and the choices used; the number of observations; and the lent bytes afterwards
 pub record RunCall : Type 0 where
   pub verdict : Verdict
-  pub end : ℕ
-  pub node : ℕ
+  pub end : End
   pub tick : ℕ
   pub used : ℕ
   pub size : ℕ
   pub lent : List ℕ
 
+-- no run: its end counts for nothing, and is the one with the numbers 0 and 255
 abbrev pub notRun : ℕ → ℕ → List ℕ → RunCall
-notRun n c lent = record { verdict = Refused n c; end = 0; node = 255; tick = 0; used = 0; size = 0; lent = lent }
+notRun n c lent = record { verdict = Refused n c; end = Horizon; tick = 0; used = 0; size = 0; lent = lent }
 
 -- the observations' bytes are laid over the front of what was lent
 abbrev pub ran : Result → List ℕ → RunCall
@@ -106,8 +129,7 @@ ran r lent =
     let bytes = each observationBytes (r .state .observations) in
     record {
       verdict = Accepted;
-      end = r .end;
-      node = r .node;
+      end = endOf (r .end) (r .node);
       tick = r .state .tick;
       used = r .state .used;
       size = length (r .state .observations);

@@ -8,6 +8,8 @@ use lib.ListN.{replicate}
 use lib.IntN.{pos}
 use Rattle.model.specs.declared.Action.the-variants.{Internal, Send, Receive}
 use Rattle.model.specs.declared.Update.{Update}
+use Rattle.model.specs.declared.End.{End}
+use Rattle.model.specs.declared.End.the-variants.{Horizon, UsedUp, Late, NotAllowed}
 use Rattle.model.specs.declared.Verdict.{Verdict}
 use Rattle.model.specs.declared.Verdict.the-variants.{Accepted, Refused}
 use Rattle.model.specs.Lists.{All, empty, more, Answer, accepted, refused, each}
@@ -107,13 +109,12 @@ observed component edge location now clock value =
 abbrev pub lent : List ℕ
 lent = replicate 260 0xaa
 
--- end, node, tick, choices used and number of observations; the lent bytes afterwards are the observations' bytes and so many that are kept
-abbrev pub answered : ℕ → ℕ → ℕ → ℕ → ℕ → List ℕ → ℕ → RunCall
-answered end node now used size shown kept =
+-- end (with its node), tick, choices used and number of observations; the lent bytes afterwards are the observations' bytes and so many that are kept
+abbrev pub answered : End → ℕ → ℕ → ℕ → List ℕ → ℕ → RunCall
+answered end now used size shown kept =
     record {
       verdict = Accepted;
       end = end;
-      node = node;
       tick = now;
       used = used;
       size = size;
@@ -122,7 +123,7 @@ answered end node now used size shown kept =
 
 -- a refusal: "Lent buffers keep their bytes"
 abbrev pub refusedWith : ℕ → ℕ → List ℕ → RunCall
-refusedWith n c bs = record { verdict = Refused n c; end = 0; node = 255; tick = 0; used = 0; size = 0; lent = bs }
+refusedWith n c bs = record { verdict = Refused n c; end = Horizon; tick = 0; used = 0; size = 0; lent = bs }
 
 -- hub's and probe's first sleep
 abbrev pub hubSlept : List ℕ
@@ -214,33 +215,33 @@ rows =
     -- an absent component
     ∷ walks (stepIn 2 0 ∷ []) none
     -- "No choices: end 1, tick 0."
-    ∷ runs workedBytes [] lent (answered 1 255 0 0 0 [] 260)
+    ∷ runs workedBytes [] lent (answered UsedUp 0 0 0 [] 260)
     -- a byte too few for the eight passages: 13
     ∷ runs workedBytes [] (replicate 255 0xaa) (refusedWith 13 255 (replicate 255 0xaa))
     -- just enough
-    ∷ runs workedBytes [] (replicate 256 0xaa) (answered 1 255 0 0 0 [] 256)
+    ∷ runs workedBytes [] (replicate 256 0xaa) (answered UsedUp 0 0 0 [] 256)
     -- a table that is refused is not run
     ∷ runs (tableBytes (worked 0)) (255 ∷ []) lent (refusedWith 3 255 lent)
     -- byte 254
-    ∷ runs workedBytes (254 ∷ []) lent (answered 3 255 0 0 0 [] 260)
+    ∷ runs workedBytes (254 ∷ []) lent (answered NotAllowed 0 0 0 [] 260)
     -- an absent node
-    ∷ runs workedBytes (2 ∷ []) lent (answered 3 255 0 0 0 [] 260)
+    ∷ runs workedBytes (2 ∷ []) lent (answered NotAllowed 0 0 0 [] 260)
     -- ticks only: hub yet to reach its sleep at 2
-    ∷ runs workedBytes (255 ∷ 255 ∷ 255 ∷ 255 ∷ 255 ∷ []) lent (answered 2 1 3 3 0 [] 260)
+    ∷ runs workedBytes (255 ∷ 255 ∷ 255 ∷ 255 ∷ 255 ∷ []) lent (answered (Late 1) 3 3 0 [] 260)
     -- tick while a sleep is due
-    ∷ runs workedBytes (1 ∷ 1 ∷ 1 ∷ 1 ∷ 1 ∷ 255 ∷ 255 ∷ 255 ∷ []) lent (answered 3 255 2 7 0 [] 260)
+    ∷ runs workedBytes (1 ∷ 1 ∷ 1 ∷ 1 ∷ 1 ∷ 255 ∷ 255 ∷ 255 ∷ []) lent (answered NotAllowed 2 7 0 [] 260)
     -- listen before its end
-    ∷ runs workedBytes (1 ∷ 1 ∷ 1 ∷ 1 ∷ 1 ∷ 255 ∷ 255 ∷ 1 ∷ 1 ∷ []) lent (answered 3 255 2 8 1 hubSlept 228)
+    ∷ runs workedBytes (1 ∷ 1 ∷ 1 ∷ 1 ∷ 1 ∷ 255 ∷ 255 ∷ 1 ∷ 1 ∷ []) lent (answered NotAllowed 2 8 1 hubSlept 228)
     -- send at its end 5
-    ∷ runs workedBytes (toTheSend ++ (255 ∷ 255 ∷ 0 ∷ [])) lent (answered 1 255 5 18 2 bothSlept 196)
+    ∷ runs workedBytes (toTheSend ++ (255 ∷ 255 ∷ 0 ∷ [])) lent (answered UsedUp 5 18 2 bothSlept 196)
     -- no send by its end 5: late at 6
-    ∷ runs workedBytes (toTheSend ++ (255 ∷ 255 ∷ 255 ∷ 255 ∷ [])) lent (answered 2 0 6 18 2 bothSlept 196)
+    ∷ runs workedBytes (toTheSend ++ (255 ∷ 255 ∷ 255 ∷ 255 ∷ [])) lent (answered (Late 0) 6 18 2 bothSlept 196)
     -- send at 3, listener's statement is finished too
-    ∷ runs workedBytes (toTheSend ++ (0 ∷ 1 ∷ 1 ∷ 1 ∷ [])) lent (answered 1 255 3 19 2 bothSlept 196)
+    ∷ runs workedBytes (toTheSend ++ (0 ∷ 1 ∷ 1 ∷ 1 ∷ [])) lent (answered UsedUp 3 19 2 bothSlept 196)
     -- hub ahead, probe not: late at 9
-    ∷ runs workedBytes (toTheSend ++ (0 ∷ replicate 8 1 ++ replicate 6 255)) lent (answered 2 0 9 30 2 bothSlept 196)
+    ∷ runs workedBytes (toTheSend ++ (0 ∷ replicate 8 1 ++ replicate 6 255)) lent (answered (Late 0) 9 30 2 bothSlept 196)
     -- to the horizon, all eight observations; later choices are ignored
-    ∷ runs workedBytes (toTheHorizon ++ (0 ∷ 255 ∷ 254 ∷ [])) lent (answered 0 255 20 110 8 allSlept 4)
+    ∷ runs workedBytes (toTheHorizon ++ (0 ∷ 255 ∷ 254 ∷ [])) lent (answered Horizon 20 110 8 allSlept 4)
     ∷ []
 
 pub cases : All Holds rows

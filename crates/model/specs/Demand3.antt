@@ -125,6 +125,25 @@ NotDueIn vs t r taking = length vs ≤ r .sleeps
 NotDueIn vs t r elsewhere = ⊥
 NotDueIn vs t r nowhere = ⊥
 
+-- it stands at a sleep or a listen that is not due
+abbrev pub EarlyIn : List Visit → ℕ → Node → Stand → Type 0
+EarlyIn vs t r sleeping = (readyIs vs (r .sleeps) t → ⊥)
+EarlyIn vs t r (sending k) = ⊥
+EarlyIn vs t r (listening qs) = (endIs vs (pred (r .sleeps)) t → ⊥)
+EarlyIn vs t r finishing = ⊥
+EarlyIn vs t r (adding v z) = ⊥
+EarlyIn vs t r working = ⊥
+EarlyIn vs t r taking = ⊥
+EarlyIn vs t r elsewhere = ⊥
+EarlyIn vs t r nowhere = ⊥
+
+-- Choices that are never carried out in state s: "any other byte; an absent node; .. sleep unless the tick is t; a listen unless its window ends
+-- now; .. a tick while a sleep or listen is due", in the words of the schedule.
+pub data Barred (T : Table) (S : List Visit) (s : Run) (b : ℕ) : Type 0 where
+  absent : size T ≤ b → (b ≡ 255 → ⊥) → Barred T S s b
+  early : b < size T → EarlyIn (own b S) (s .tick) (nodeOf s b) (standOf (nodeOf s b)) → Barred T S s b
+  pending : b ≡ 255 → (c : ℕ) → c < size T → DueIn (own c S) (s .tick) (nodeOf s c) (standOf (nodeOf s c)) → Barred T S s b
+
 -- a node past its sleep and yet to send: exactly one node stands at a listen that names its channel, has taken nothing, and began earlier
 abbrev pub HasListener : Run → ℕ → Stand → Type 0
 HasListener s c sleeping = Unit {0}
@@ -201,6 +220,10 @@ module _ (T : Table) (S : List Visit) (cs : List ℕ) (result : Result) (stateAf
   abbrev pub LateIs : Type 0
   LateIs = result .end ≡ 2 → (0 < result .state .used) × (result .node < size T) × TakesLate (pred (result .state .used)) (result .node)
 
+  -- the other way: no choice that is barred was ever carried out
+  abbrev pub Allowed : Type 0
+  Allowed = (k : ℕ) → k < result .state .used → Barred T S (stateAfter k) (getD cs k 0) → ⊥
+
 abbrev pub NodeOf : Result → Type 0
 NodeOf result = (result .end ≡ 2 → ⊥) → result .node ≡ 255
 
@@ -274,6 +297,7 @@ module _ (t : Read) (H : ℕ) (S : List Visit) (cs : List ℕ) where
     pub ended : Ended
     pub notBefore : NotBefore H result stateAfter
     pub refused : WhyRefused t H S cs result
+    pub allowed : Allowed (t .table) S cs result stateAfter
 
 -- for every accepted table and every list of choices
 abbrev pub Promise : Type 0

@@ -14,6 +14,8 @@ pub mod Machine
 pub mod Run
 pub mod Demand3
 pub mod Calls
+pub mod Acceptance
+pub mod Observations
 pub mod Meetings
 pub mod Build
 pub mod Cases

@@ -62,3 +62,12 @@ pub enum Verdict {
     Accepted,
     Refused(u8, u8),
 }
+
+// How a run ends: at the horizon, with the choices used up, with a node that is late (the lowest), or with
+// a choice that is not allowed.
+pub enum End {
+    Horizon,
+    UsedUp,
+    Late(u8),
+    NotAllowed,
+}

@@ -1,0 +1,44 @@
+-- Document 01, "The run": an observation's 32 bytes read back, so that what is said of a run's observations is said of the bytes it wrote.
+use mathlib.Core.Path.{_≡_}
+use mathlib.Core.List.{List}
+use Prim.Native.Nat.{ℕ, _+_, _*_}
+use lib.ListN.{drop}
+use Rattle.model.specs.declared.Verdict.the-variants.{Accepted}
+use Rattle.model.specs.Lists.{accepted}
+use Rattle.model.specs.Table.{Table, Read, componentOf}
+use Rattle.model.specs.Reader.{byte, word, complement, readTable}
+use Rattle.model.specs.Places.{listAt}
+use Rattle.model.specs.Schedule.{Visit}
+use Rattle.model.specs.Checks.{planOf}
+use Rattle.model.specs.Network.{Observation}
+use Rattle.model.specs.Run.{settingOf, run}
+use Rattle.model.specs.Calls.{RunCall, runCall}
+
+-- the number in the first four bytes, big-endian
+abbrev pub wide : List ℕ → ℕ
+wide bs = word bs 0 * 65536 + word bs 2
+
+-- "component, edge, location, 0, tick (4 bytes), four clocks grown by n (4 each), four variables (2 each); absent ones 0": as many of the four
+-- as the component has
+unfoldable pub readObservation : Table → List ℕ → Observation
+unfolding listAt
+readObservation T bs =
+    record {
+      component = byte bs 0;
+      edge = byte bs 1;
+      location = byte bs 2;
+      tick = wide (drop 4 bs);
+      clocks = listAt wide 4 (componentOf T (byte bs 0) .clocks) (drop 8 bs);
+      values = listAt (λ b. complement (word b 0)) 2 (componentOf T (byte bs 0) .variables) (drop 24 bs);
+    }
+
+-- so many observations, one after the other
+abbrev pub readObservations : Table → ℕ → List ℕ → List Observation
+readObservations T n bs = listAt (readObservation T) 32 n bs
+
+-- What the call `run` has written, read back, are the observations of the run: those of which demand 3 speaks.
+abbrev pub ObservationsRead : List ℕ → List ℕ → List ℕ → Type 0
+ObservationsRead table choices lent =
+    (t : Read) (S : List Visit) → readTable table ≡ accepted t → planOf t ≡ accepted S → runCall table choices lent .verdict ≡ Accepted
+    → readObservations (t .table) (runCall table choices lent .size) (runCall table choices lent .lent)
+    ≡ run (settingOf t S) choices .state .observations
