@@ -221,6 +221,10 @@ module _ (T : Table) (S : List Visit) (cs : List ℕ) (result : Result) (stateAf
   abbrev pub LateIs : Type 0
   LateIs = result .end ≡ 2 → (0 < result .state .used) × (result .node < size T) × TakesLate (pred (result .state .used)) (result .node)
 
+  -- the other way: no choice that is barred was ever carried out
+  abbrev pub Allowed : Type 0
+  Allowed = (k : ℕ) → k < result .state .used → Barred T S (stateAfter k) (getD cs k 0) → ⊥
+
 abbrev pub NodeOf : Result → Type 0
 NodeOf result = (result .end ≡ 2 → ⊥) → result .node ≡ 255
 
@@ -232,10 +236,6 @@ TicksOf cs result = result .state .tick ≡ ticksIn (take (result .state .used) 
 
 abbrev pub NotBefore : ℕ → Result → (ℕ → Run) → Type 0
 NotBefore H result stateAfter = (k : ℕ) → k < result .state .used → stateAfter k .tick < H
-
--- no choice that the schedule bars was carried out
-abbrev pub Allowed : Table → List Visit → List ℕ → Result → (ℕ → Run) → Type 0
-Allowed T S cs result stateAfter = (k : ℕ) → k < result .state .used → Barred T S (stateAfter k) (getD cs k 0) → ⊥
 
 module _ (t : Read) (H : ℕ) (S : List Visit) (cs : List ℕ) (result : Result) where
   -- how the run ended, and that it had not ended before

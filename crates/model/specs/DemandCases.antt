@@ -18,7 +18,7 @@ use Rattle.model.specs.Program.{programBytes, partOf}
 use Rattle.model.specs.Network.{State, Label, tick, together, start, onward, follow, passagesOn, Work, worksOn, Observation, observationsOn}
 use Rattle.model.specs.Machine.{Node, exec}
 use Rattle.model.specs.Run.{settingTo, Run, Result, choose1, startRun, run}
-use Rattle.model.specs.Demand3.{ticksIn, states, Valid, Reach, Scheduled, Kept, Worked, Observed, Complete, Listened, LateEnds, LateIs, NodeOf, UsedOf, TicksOf, NotBefore, EndedBy, horizon, usedUp, WhyRefused, Demand3}
+use Rattle.model.specs.Demand3.{ticksIn, states, Valid, Reach, Scheduled, Kept, Worked, Observed, Complete, Listened, LateEnds, LateIs, Allowed, NodeOf, UsedOf, TicksOf, NotBefore, EndedBy, horizon, usedUp, WhyRefused, Demand3}
 use Rattle.model.specs.Progress.{dueOf}
 use Rattle.model.specs.Cases.{toTheSend}
 use Rattle.model.specs.Cases.{worked as workedTable}
@@ -43,6 +43,7 @@ pub data Sentence : Type 0 where
   ended : Sentence
   notBefore : Sentence
   refused : Sentence
+  allowed : Sentence
 
 -- table, horizon, schedule and choices; a path and its last state; the record, and the state after each number of choices
 pub record Told : Type 0 where
@@ -72,6 +73,7 @@ Says ticks x = TicksOf (x .choices) (x .result)
 Says ended x = EndedBy (x .read) (x .horizon) (x .schedule) (x .choices) (x .result)
 Says notBefore x = NotBefore (x .horizon) (x .result) (x .after)
 Says refused x = WhyRefused (x .read) (x .horizon) (x .schedule) (x .choices) (x .result)
+Says allowed x = Allowed (x .read .table) (x .schedule) (x .choices) (x .result) (x .after)
 
 -- a path and the run's own record and states
 abbrev pub told : Read → ℕ → List Visit → List ℕ → List Label → State → Told
@@ -105,6 +107,7 @@ said d ticks = d .ticks
 said d ended = d .ended
 said d notBefore = d .notBefore
 said d refused = d .refused
+said d allowed = d .allowed
 
 -- ## Records to be told
 

@@ -19,10 +19,11 @@ use Rattle.model.specs.Network.{Place, State, Label, tick, stepIn, toget
 use Rattle.model.specs.Machine.{exec}
 use Rattle.model.specs.Run.{noNode, nodeOf, standOf, sending, Outcome, forbidden, on, over, choose1, run}
 use Rattle.model.specs.Demand3.{PassAs, ticksIn, DueIn, HasListener, states, horizon, usedUp, late, notAllowed, notDue, due}
-use Rattle.model.specs.Demand3.{noNode as absent}
+use Rattle.model.specs.Demand3.{early, pending}
+use Rattle.model.specs.Demand3.{noNode as absent, absent as noSuchNode}
 use Rattle.model.specs.Cases.{hub, addOne, changed, toTheSend}
 use Rattle.model.specs.Cases.{worked as workedTable}
-use Rattle.model.specs.DemandCases.{valid, reach, scheduled, kept, worked, observed, complete, listener, lateEnds, lateIs, node, used, ticks, ended, notBefore, refused, Told, Says, ofRun, through, toHorizon, runOf, ending, counting, showing, finishing, hubAt, since, right, ofHub, ofProbe, Not, not-less, not-most, neither}
+use Rattle.model.specs.DemandCases.{valid, reach, scheduled, kept, worked, observed, complete, listener, lateEnds, lateIs, node, used, ticks, ended, notBefore, refused, allowed, Told, Says, ofRun, through, toHorizon, runOf, ending, counting, showing, finishing, hubAt, since, right, ofHub, ofProbe, Not, not-less, not-most, neither}
 
 -- ## Tables and runs
 
@@ -92,6 +93,10 @@ hubAtSleep = replicate 5 1 ++ (255 ∷ 255 ∷ [])
 
 abbrev pub hubListens : List ℕ
 hubListens = replicate 5 0 ++ replicate 5 1 ++ (255 ∷ 255 ∷ 1 ∷ [])
+
+-- after these choices one more, which is not allowed, and a record that counts it: with that tick and so many choices used
+abbrev pub carrying : List ℕ → ℕ → ℕ → ℕ → Told
+carrying cs b now count = counting (ending (ofRun (workedTable 20) (cs ++ (b ∷ [])) []) 1 255) now count
 
 -- with a second hub
 abbrev pub twoHubs : Told → Told
@@ -200,6 +205,11 @@ Wrongs =
     × Not refused (refusing (replicate 4 0) 0)
     × Not refused (refusing hubAtSleep 1)
     × Not refused (counting (refusing toTheSend 1) 6 15)
+    -- carried out, and barred: an absent node, a tick while a sleep is due, a sleep and a listen before they are
+    × Not allowed (carrying [] 2 0 1)
+    × Not allowed (carrying hubAtSleep 255 3 8)
+    × Not allowed (carrying hubBeforeSleep 1 0 6)
+    × Not allowed (carrying hubListens 1 2 14)
 
 -- ## Why not
 
@@ -294,6 +304,10 @@ wrongs-refuted = (
   λ h. elim (h refl) [ absent x y ↦ not-most 2 0 refl x | notDue x y ↦ not-most 4 0 refl y | due x c y z ↦ eqb-false 0 255 refl x ],
   λ h. elim (h refl) [ absent x y ↦ not-most 2 1 refl x | notDue x y ↦ y refl | due x c y z ↦ eqb-false 1 255 refl x ],
   λ h. elim (h refl) [ absent x y ↦ not-most 2 1 refl x | notDue x y ↦ y refl | due x c y z ↦ eqb-false 1 255 refl x ],
+  λ h. h 0 (ltb-true 0 1 refl) (noSuchNode (leb-true 2 2 refl) (eqb-false 2 255 refl)),
+  λ h. h 7 (ltb-true 7 8 refl) (pending refl 1 (ltb-true 1 2 refl) refl),
+  λ h. h 5 (ltb-true 5 6 refl) (early (ltb-true 1 2 refl) (eqb-false 2 0 refl)),
+  λ h. h 13 (ltb-true 13 14 refl) (early (ltb-true 1 2 refl) (eqb-false 6 2 refl)),
 )
   where
     -- the listener is hub, and began at 3

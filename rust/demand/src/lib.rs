@@ -19,7 +19,7 @@
 //! compares what was written with what lies on that path.
 //!
 //! What is wrong is told with the name of the sentence that it breaks: the
-//! fields of the record `Demand3` in the definitions, `valid` to `refused`;
+//! fields of the record `Demand3` in the definitions, `valid` to `allowed`;
 //! `order` where observations do not stand in finishing order.
 #![forbid(unsafe_code)]
 #![warn(missing_docs)]
@@ -259,6 +259,9 @@ fn broken(found: Numbers, said: Numbers, choices: usize) -> Option<&'static str>
     }
     if end == HORIZON && said.3 > used {
         return Some("notBefore");
+    }
+    if end == NOT_ALLOWED && said.3 > used {
+        return Some("allowed");
     }
     if said.1 != node {
         return Some("node");

@@ -84,6 +84,8 @@ fn wrong_numbers() {
     let right = with(&[0, 1, 1, 1]);
     let written = [of_hub(0), of_probe(0, 0, 3, 3)].concat();
     let hub_at_sleep = vec![1, 1, 1, 1, 1, 255, 255, 1];
+    let tick_at_sleep = vec![1, 1, 1, 1, 1, 255, 255, 255];
+    let early_listen = [&TO_THE_SEND[..13], &[1]].concat();
     for (name, choices, numbers) in [
         // A run that goes on after a node is late; one that ends otherwise.
         ("lateEnds", vec![255; 5], [1, 255, 5, 5]),
@@ -111,6 +113,12 @@ fn wrong_numbers() {
         ("refused", vec![0], [3, 255, 0, 0]),
         ("refused", vec![0; 5], [3, 255, 0, 4]),
         ("refused", hub_at_sleep, [3, 255, 2, 7]),
+        // Carried out, and barred: an absent node, a tick while a sleep is due, a
+        // sleep and a listen before they are.
+        ("allowed", vec![2], [1, 255, 0, 1]),
+        ("allowed", tick_at_sleep, [1, 255, 3, 8]),
+        ("allowed", vec![1; 6], [1, 255, 0, 6]),
+        ("allowed", early_listen, [1, 255, 2, 14]),
     ] {
         assert_breaks(name, problem(&worked(), &choices, numbers, &written));
     }
