@@ -1,14 +1,19 @@
 // The library for other languages: every exported call and nothing else. Each is a thin function over the call of the same
 // name in a crate below, with the answer written out as numbers.
 ghost use mathlib.Core.Path.{_≡_};
+ghost use mathlib.Core.Logic.{_↔_};
 ghost use Prim.Native.Nat.{_≤_};
 ghost use Rattle.model.specs.Program.{partOf};
-ghost use Rattle.model.specs.Calls.{checkCall, scheduleCall, translateCall, runCall, numberOf, concernedOf, Demand3Of};
+ghost use Rattle.model.specs.Calls.{checkCall, scheduleCall, translateCall, runCall, numberOf, concernedOf, endNumber, endNode, Demand3Of};
+ghost use Rattle.model.specs.declared.Verdict.the-variants.{Accepted};
+ghost use Rattle.model.specs.Acceptance.{Accepts};
+ghost use Rattle.model.specs.Observations.{ObservationsRead};
 ghost use Rattle.node.specs.After.{startOf};
 ghost use Rattle.lent_node.specs.Step.{heldOf, steppedOf, messageOf};
 ghost use Rattle.passages.specs.Passages.{passagesCall};
 ghost use Rattle.timed_network.specs.Numbers.{NumbersOf};
 use calls::Called;
+use model::End;
 use model::Verdict;
 use node::Node;
 use passages::Passage;
@@ -47,6 +52,32 @@ pub struct RunNumbers {
     pub size: u32,
 }
 
+// A run's end as two numbers: document 01's number of the end, and the node, 255 unless it is late.
+struct EndNumbers {
+    number: u8,
+    node: u8,
+}
+
+fn end_numbers(end: End) -> EndNumbers
+    ensures { λ r. ⌜ (r .number ≡ endNumber end) × (r .node ≡ endNode end) ⌝ }
+{
+    match end {
+        End::Horizon => EndNumbers {
+            number: 0,
+            node: 255,
+        },
+        End::UsedUp => EndNumbers {
+            number: 1,
+            node: 255,
+        },
+        End::Late(node) => EndNumbers { number: 2, node },
+        End::NotAllowed => EndNumbers {
+            number: 3,
+            node: 255,
+        },
+    }
+}
+
 // A call's answer as numbers.
 fn numbers_of(c: Called) -> CallNumbers
     requires { ⌜ c .size ≤ 65535 ⌝ }
@@ -71,7 +102,7 @@ fn numbers_of(c: Called) -> CallNumbers
 // Whether the table is accepted.
 #[no_mangle]
 pub extern "C" fn timed_network_check(table: &[u8]) -> VerdictNumbers
-    ensures { λ r. ⌜ (r .number ≡ numberOf (checkCall (now (table .entry)))) × (r .component ≡ concernedOf (checkCall (now (table .entry)))) ⌝ }
+    ensures { λ r. ⌜ (r .number ≡ numberOf (checkCall (now (table .entry)))) × (r .component ≡ concernedOf (checkCall (now (table .entry)))) × ((checkCall (now (table .entry)) ≡ Accepted) ↔ Accepts (now (table .entry))) ⌝ }
 {
     let v = calls::check(table);
     match v {
@@ -120,16 +151,18 @@ pub extern "C" fn timed_network_run(
     choices: &[u8],
     observations: &mut [u8],
 ) -> RunNumbers
-    ensures { λ r. ⌜ NumbersOf (runCall (now (table .entry)) (now (choices .entry)) (now (observations .entry))) r (now (observations .exit)) × Demand3Of (now (table .entry)) (now (choices .entry)) ⌝ }
+    ensures { λ r. ⌜ NumbersOf (runCall (now (table .entry)) (now (choices .entry)) (now (observations .entry))) r (now (observations .exit)) × Demand3Of (now (table .entry)) (now (choices .entry)) × ObservationsRead (now (table .entry)) (now (choices .entry)) (now (observations .entry)) ⌝ }
 {
     let r = calls::run(table, choices, observations);
+    let end = r.end;
+    let e = end_numbers(end);
     let v = r.verdict;
     match v {
         Verdict::Accepted => RunNumbers {
             number: 0,
             component: 255,
-            end: r.end,
-            node: r.node,
+            end: e.number,
+            node: e.node,
             tick: r.tick,
             used: r.used,
             size: r.size as u32,
@@ -137,8 +170,8 @@ pub extern "C" fn timed_network_run(
         Verdict::Refused(number, component) => RunNumbers {
             number,
             component,
-            end: r.end,
-            node: r.node,
+            end: e.number,
+            node: e.node,
             tick: r.tick,
             used: r.used,
             size: r.size as u32,

@@ -8,6 +8,7 @@ mod observation;
 use calls::Ran;
 use libc::STDERR_FILENO;
 use libc::STDOUT_FILENO;
+use model::End;
 use model::Verdict;
 use report::byte_field;
 use report::field;
@@ -36,19 +37,20 @@ fn print_not_allowed(choices: &[u8], used: usize) {
     }
 }
 
-fn print_end(end: u8, node: u8, choices: &[u8], used: usize) {
+fn print_end(end: End, choices: &[u8], used: usize) {
     match end {
-        0 => say(STDOUT_FILENO, b"horizon reached"),
-        1 => say(STDOUT_FILENO, b"choices used up"),
-        2 => byte_field(STDOUT_FILENO, b"late: node ", node),
-        _ => print_not_allowed(choices, used),
+        End::Horizon => say(STDOUT_FILENO, b"horizon reached"),
+        End::UsedUp => say(STDOUT_FILENO, b"choices used up"),
+        End::Late(node) => byte_field(STDOUT_FILENO, b"late: node ", node),
+        End::NotAllowed => print_not_allowed(choices, used),
     }
     say(STDOUT_FILENO, b"\n");
 }
 
 fn print_run(r: Ran, choices: &[u8], observations: &[u8]) {
     let used = r.used as usize;
-    print_end(r.end, r.node, choices, used);
+    let end = r.end;
+    print_end(end, choices, used);
     field(STDOUT_FILENO, b"tick ", r.tick as usize);
     field(STDOUT_FILENO, b", choices used ", used);
     field(STDOUT_FILENO, b", observations ", r.size);

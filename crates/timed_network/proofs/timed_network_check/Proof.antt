@@ -21,11 +21,11 @@ enum-known-v c = search needs
 
 -- src/lib.rt:129:1
 returns : tie.Need-returns
-returns c = let e = sym (c .enum-told .given .1) ∙ c .before .before .check .ensures in (ap numberOf e, ap concernedOf e)
+returns c = let e = sym (c .enum-told .given .1) ∙ c .before .before .check .ensures .0 in (ap numberOf e, ap concernedOf e, c .before .before .check .ensures .1)
 
 -- src/lib.rt:129:1
 returns-2 : tie.Need-returns-2
-returns-2 c = let e = sym (c .before .v .given .1) ∙ c .before .before .before .check .ensures in (ap numberOf e, ap concernedOf e)
+returns-2 c = let e = sym (c .before .v .given .1) ∙ c .before .before .before .check .ensures .0 in (ap numberOf e, ap concernedOf e, c .before .before .before .check .ensures .1)
 
 pub timed-network-check-spec : {M : Type 1} → statement M
 timed-network-check-spec =
