@@ -114,7 +114,7 @@ fn location(rest: &mut &[u8], clocks: u8) -> Part<Location> {
         clock,
         bound,
         from: 0,
-        decoded: false,
+        visited: Visited::Never,
     })
 }
 
