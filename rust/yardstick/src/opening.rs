@@ -11,22 +11,49 @@ pub(crate) struct Taken {
     pub(crate) end: i32,
 }
 
+/// Clocks and variables at the entry of a location.
+type Values<'a> = (&'a Clocks, &'a Variables);
+
 /// "The candidate with the least ready is taken, on a tie the lowest number."
-/// An edge that is ready at once is not outdone by a later one.
+/// When a location is entered first the bounds are read from the table's
+/// bytes, later they are decoded.
 #[inline]
 pub(crate) fn taken(
-    component: &Component,
+    component: &mut Component,
     location: u8,
-    clocks: &Clocks,
-    variables: &Variables,
+    bytes: &[u8],
+    values: Values,
 ) -> Option<Taken> {
+    let place = &mut component.locations[usize::from(location) % LOCATIONS];
+    match place.visited {
+        Visited::Never => {
+            place.visited = Visited::Once;
+            return taken_first(component, location, bytes, values);
+        }
+        Visited::Once => decode(component, location, bytes),
+        Visited::Again => {}
+    }
+    let (clocks, variables) = values;
     let signed = signed(clocks);
-    let mut best: Option<Taken> = None;
-    let mut least = i32::MAX;
-    for number in Bits(component.location(location).from) {
+    best(component.location(location).from, |number| {
         let edge = &component.edges[number % EDGES];
         let (ready, end) = window(edge, &signed);
-        if ready < end && ready < least && data_bounds_hold(edge, variables) {
+        let holds = ready < end && data_bounds_hold(edge, variables);
+        holds.then_some((ready, end))
+    })
+}
+
+/// The candidate with the least ready among edges, given the windows of the
+/// candidates. One that is ready at once is not outdone by a later one.
+#[inline]
+fn best(edges: u32, candidate: impl Fn(usize) -> Option<(i32, i32)>) -> Option<Taken> {
+    let mut best: Option<Taken> = None;
+    let mut least = i32::MAX;
+    for number in Bits(edges) {
+        let Some((ready, end)) = candidate(number) else {
+            continue;
+        };
+        if ready < least {
             least = ready;
             best = Some(Taken {
                 edge: number as u8,
@@ -39,6 +66,35 @@ pub(crate) fn taken(
         }
     }
     best
+}
+
+/// The edge taken from a location that is entered first.
+#[cold]
+fn taken_first(
+    component: &Component,
+    location: u8,
+    bytes: &[u8],
+    (clocks, variables): Values,
+) -> Option<Taken> {
+    let location = component.location(location);
+    let left = |clock: u8, bound: u16| i32::from(bound) - clocks[usize::from(clock) % CLOCKS];
+    let last = left(location.clock, location.bound);
+    best(location.from, |number| {
+        let edge = &component.edges[number % EDGES];
+        let (mut ready, mut end) = (0, last);
+        for &[clock, a, b, c, d] in edge.clock_bounds(bytes) {
+            ready = ready.max(left(clock, two(a, b)));
+            if two(c, d) != NO_HIGH {
+                end = end.min(left(clock, two(c, d)));
+            }
+        }
+        let holds = |&[variable, a, b, c, d]: &[u8; BOUND]| {
+            let value = variables[usize::from(variable) % VARIABLES];
+            two(a, b) as i16 <= value && value <= two(c, d) as i16
+        };
+        let candidate = ready < end && edge.data_bounds(bytes).iter().all(holds);
+        candidate.then_some((ready, end))
+    })
 }
 
 /// The first and the last tick at which invariant and clock bounds hold,
@@ -79,9 +135,9 @@ const NO_BOUNDS: Bounds = [0, -FAR, 0, -FAR, 0, -FAR, 0, -FAR];
 
 /// Decodes the bounds of all edges from a location.
 #[cold]
-pub(crate) fn decode(component: &mut Component, location: u8, bytes: &[u8]) {
+fn decode(component: &mut Component, location: u8, bytes: &[u8]) {
     let location = &mut component.locations[usize::from(location) % LOCATIONS];
-    location.decoded = true;
+    location.visited = Visited::Again;
     for number in Bits(location.from) {
         let edge = &mut component.edges[number % EDGES];
         edge.bounds = NO_BOUNDS;

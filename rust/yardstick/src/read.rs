@@ -114,7 +114,7 @@ fn location(rest: &mut &[u8], clocks: u8) -> Part<Location> {
         clock,
         bound,
         from: 0,
-        decoded: false,
+        visited: Visited::Never,
     })
 }
 
@@ -150,84 +150,57 @@ fn read_edge(
     edge.clock_bounds = clock_bounds;
     edge.data_bounds = data_bounds;
     edge.items = items;
-    try_parts(rest, limits, edge)
+    edge.highs = read_bounds(rest, limits, clock_bounds, data_bounds)?;
+    edge.channels = read_items(rest, limits, kind, items)?;
+    Ok(())
 }
 
-/// Tries the bounds and items of an edge: those that fit, front to back, then
-/// whether all of them did.
+/// Tries the clock bounds, then the data bounds; how many have a high.
 #[inline]
-fn try_parts(rest: &mut &[u8], limits: &Limits, edge: &mut Edge) -> Part<()> {
-    let bounds = [edge.clock_bounds, edge.data_bounds];
-    let [clocks, data] = bounds.map(|count| BOUND * usize::from(count));
-    let length = clocks + data + usize::from(edge.items) * item_length(edge.kind);
-    let (parts, behind) = rest.split_at(length.min(rest.len()));
-    *rest = behind;
-    let (clocks, others) = parts.split_at(clocks.min(parts.len()));
-    let (data, items) = others.split_at(data.min(others.len()));
-    edge.highs = try_clock_bounds(clocks, limits)?;
-    try_data_bounds(data, limits)?;
-    edge.channels = try_items(edge.kind, items, limits)?;
-    demand(parts.len() == length, FIT)
-}
-
-/// The bytes of an item.
-#[inline]
-fn item_length(kind: Kind) -> usize {
-    match kind {
-        Kind::Internal => UPDATE,
-        Kind::Send => 1,
-        Kind::Receive => PAIR,
-    }
-}
-
-/// "Clock bound, 5 bytes: clock, low (0 to 60,000), high (0 to 60,000, or
-/// 65,535 for none)." Tries those that fit: how many of them have a high.
-#[inline]
-fn try_clock_bounds(bounds: &[u8], limits: &Limits) -> Part<u8> {
-    let mut in_range = true;
+fn read_bounds(rest: &mut &[u8], limits: &Limits, clock_bounds: u8, data_bounds: u8) -> Part<u8> {
     let mut highs = 0;
-    for &[clock, a, b, c, d] in bounds.as_chunks::<BOUND>().0 {
-        let (low, high) = (two(a, b), two(c, d));
-        let has_high = high != NO_HIGH;
-        in_range &= (clock < limits.clocks) & (low <= MAX_TICKS);
-        in_range &= (high <= MAX_TICKS) | !has_high;
-        highs += u8::from(has_high);
+    for _ in 0..clock_bounds {
+        highs += u8::from(clock_bound(rest, limits)?);
     }
-    demand(in_range, RANGE)?;
+    for _ in 0..data_bounds {
+        let &[variable, ..] = take::<BOUND>(rest)?;
+        demand(variable < limits.variables, RANGE)?;
+    }
     Ok(highs)
 }
 
-/// "Data bound, 5 bytes: variable, low, high". Tries those that fit.
+/// "Clock bound, 5 bytes: clock, low (0 to 60,000), high (0 to 60,000, or
+/// 65,535 for none)." Whether it has a high.
 #[inline]
-fn try_data_bounds(bounds: &[u8], limits: &Limits) -> Part<()> {
-    let mut in_range = true;
-    for &[variable, ..] in bounds.as_chunks::<BOUND>().0 {
-        in_range &= variable < limits.variables;
-    }
-    demand(in_range, RANGE)
+fn clock_bound(rest: &mut &[u8], limits: &Limits) -> Part<bool> {
+    let &[clock, a, b, c, d] = take::<BOUND>(rest)?;
+    let (low, high) = (two(a, b), two(c, d));
+    let has_high = high != NO_HIGH;
+    let in_range = (clock < limits.clocks) & (low <= MAX_TICKS) & ((high <= MAX_TICKS) | !has_high);
+    demand(in_range, RANGE)?;
+    Ok(has_high)
 }
 
-/// Tries the items that fit: the channel of a send or the channels of a
+/// Tries the items of an edge: the channel of a send or the channels of a
 /// receive, as bits.
 #[inline]
-fn try_items(kind: Kind, items: &[u8], limits: &Limits) -> Part<u16> {
+fn read_items(rest: &mut &[u8], limits: &Limits, kind: Kind, items: u8) -> Part<u16> {
     let mut channels = 0;
     match kind {
         Kind::Internal => {
-            let mut in_range = true;
-            for &[variable, operation, _, _] in items.as_chunks::<UPDATE>().0 {
-                in_range &= (variable < limits.variables) & (operation <= 1);
+            for _ in 0..items {
+                let &[variable, operation, _, _] = take::<UPDATE>(rest)?;
+                demand((variable < limits.variables) & (operation <= 1), RANGE)?;
             }
-            demand(in_range, RANGE)?;
         }
         Kind::Send => {
-            for &channel in items {
-                demand(channel < limits.channels, RANGE)?;
-                channels = 1 << channel;
-            }
+            let &[channel] = take(rest)?;
+            demand(channel < limits.channels, RANGE)?;
+            channels = 1 << channel;
         }
         Kind::Receive => {
-            for &[channel, location] in items.as_chunks::<PAIR>().0 {
+            for _ in 0..items {
+                let &[channel, location] = take::<PAIR>(rest)?;
                 let in_range = (channel < limits.channels) & (location < limits.locations);
                 demand(in_range, RANGE)?;
                 let bit = 1 << channel;

@@ -2,7 +2,7 @@
 //! on the way.
 
 use crate::meetings::{Meetings, Window};
-use crate::opening::{decode, taken, updated, Taken};
+use crate::opening::{taken, updated, Taken};
 use crate::table::*;
 use crate::{Refusal, FIELDS, NO_MESSAGE};
 
@@ -142,11 +142,9 @@ impl Sweep<'_> {
             return Err(Refusal::of(7, number));
         }
         let component = &mut self.table.components[number % COMPONENTS];
-        if !component.location(location).decoded {
-            decode(component, location, self.bytes);
-        }
         let lane = &mut self.lanes[number % COMPONENTS];
-        let taken = taken(component, location, &lane.clocks, &lane.variables);
+        let values = (&lane.clocks, &lane.variables);
+        let taken = taken(component, location, self.bytes, values);
         let taken = taken.ok_or(Refusal::of(8, number))?;
         let edge = component.edge(taken.edge);
         if edge.kind == Kind::Internal && edge.items > 0 {

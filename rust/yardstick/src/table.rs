@@ -1,7 +1,7 @@
 //! A table decoded once, in arrays of fixed size.
 //!
 //! What the schedule asks for again and again is decoded: the edges from a
-//! location are bits of a word, and when the location is first entered the
+//! location are bits of a word, and when the location is entered again the
 //! bounds of each of them are brought together for each clock and each
 //! variable. What is needed once (the bounds one by one, updates, pairs) is
 //! left in the table's bytes, and each edge knows where.
@@ -48,6 +48,18 @@ pub(crate) enum Kind {
     Receive,
 }
 
+/// How often a location was entered.
+#[derive(Clone, Copy, Default, PartialEq, Eq)]
+pub(crate) enum Visited {
+    /// Never.
+    #[default]
+    Never,
+    /// Once: the bounds of its edges were read from the table's bytes.
+    Once,
+    /// Again: they are decoded.
+    Again,
+}
+
 /// A location: its invariant and the edges from it.
 #[derive(Clone, Copy, Default)]
 pub(crate) struct Location {
@@ -55,8 +67,8 @@ pub(crate) struct Location {
     pub(crate) bound: u16,
     /// The edges from it, as bits.
     pub(crate) from: u32,
-    /// Whether the bounds of these edges are decoded.
-    pub(crate) decoded: bool,
+    /// Whether it was entered before, and the bounds of these edges decoded.
+    pub(crate) visited: Visited,
 }
 
 /// The bounds of an edge on its clocks: for each clock the greatest low, then
@@ -69,7 +81,7 @@ pub(crate) type Bounds = [i32; 2 * CLOCKS];
 #[repr(align(64))]
 pub(crate) struct Edge {
     /// The bounds on its clocks, that of the invariant included; decoded when
-    /// its source is first entered, like the next two.
+    /// its source is entered again, like the next two.
     pub(crate) bounds: Bounds,
     /// The greatest low of each variable.
     pub(crate) data_low: Variables,
