@@ -254,6 +254,39 @@ CallNumbers timed_network_passages(const uint8_t *table, size_t length,
                                    Passage *list, size_t list_length);
 
 /*
+ * The answer of timed_network_meetings.
+ *
+ * number, component:  the call's own answer: 0 and 255, or 13 and 255 where the
+ *                     list is too short.
+ * refusal, concerned: the verdict on the table, as timed_network_check gives it
+ *                     (number and component), also where the list is too short.
+ * size:               how many passages are listed.
+ */
+typedef struct MeetingsNumbers {
+    uint8_t number;
+    uint8_t component;
+    uint8_t refusal;
+    uint8_t concerned;
+    uint32_t size;
+} MeetingsNumbers;
+
+/*
+ * Which windows met: for a table that 10, 11 or 12 refuses, the passage at
+ * fault, then the passages that it meets, each as the seven numbers of
+ * timed_network_schedule. For any other table nothing is listed.
+ *
+ * table, length: as for timed_network_check.
+ * list:          the first of `list_length` numbers that can be written.
+ * list_length:   how many numbers there are. 7 x 1,025 are always enough. It
+ *                may be 0; then the pointer is not used.
+ *
+ * The numbers past those listed stay as they were; after 13 the whole list
+ * does. The list must not overlap the table.
+ */
+MeetingsNumbers timed_network_meetings(const uint8_t *table, size_t length,
+                                       uint32_t *list, size_t list_length);
+
+/*
  * One node, whose registers the caller lends. A node's part is the part of the
  * program bytes that belongs to it, as document 01 says under "The program".
  * The registers may have any values, but a bool is true or false.

@@ -68,7 +68,24 @@ meetings-few bs = go (readTable bs)
     go (refused n c) = omega arith
     go (accepted t) = made t (schedule limit (t .table) (t .horizon)) refl
 
--- so a call that is lent as much is accepted, whatever the verdict on the table
+-- so no call lists more
+pub size-few : (bs lent : List ℕ) → meetingsCall bs lent .size ≤ 1025
+unfolding meetingsCall
+size-few bs lent = go (leb (length (each sevenOf (meetingsIn bs))) (length lent))
+  where
+    listed : Call
+    listed =
+        record {
+          verdict = Accepted;
+          size = length (meetingsIn bs);
+          lent = each sevenOf (meetingsIn bs) ++ drop (length (each sevenOf (meetingsIn bs))) lent;
+        }
+
+    go : (t : Bool) → cond t listed (refusing 13 255 lent) .size ≤ 1025
+    go true = meetings-few bs
+    go false = omega arith
+
+-- and a call that is lent as much is accepted, whatever the verdict on the table
 pub meetings-accepted : (bs lent : List ℕ) → 1025 * 7 ≤ length lent → meetingsCall bs lent .verdict ≡ Accepted
 unfolding meetingsCall
 meetings-accepted bs lent h =

@@ -8,11 +8,13 @@ ghost use Rattle.model.specs.Calls.{checkCall, scheduleCall, translateCall, run
 ghost use Rattle.model.specs.declared.Verdict.the-variants.{Accepted};
 ghost use Rattle.model.specs.Acceptance.{Accepts};
 ghost use Rattle.model.specs.Observations.{ObservationsRead};
+ghost use Rattle.model.specs.Meetings.{meetingsCall};
 ghost use Rattle.node.specs.After.{startOf};
 ghost use Rattle.lent_node.specs.Step.{heldOf, steppedOf, messageOf};
 ghost use Rattle.passages.specs.Passages.{passagesCall};
 ghost use Rattle.timed_network.specs.Numbers.{NumbersOf};
 use calls::Called;
+use meetings::Listed;
 use model::End;
 use model::Verdict;
 use node::Node;
@@ -75,6 +77,47 @@ fn end_numbers(end: End) -> EndNumbers
             number: 3,
             node: 255,
         },
+    }
+}
+
+// The answer of the call for meetings: its own as two numbers, the verdict of checks 1 to 12 on the table likewise, and how many passages
+// are listed.
+#[repr(C)]
+pub struct MeetingsNumbers {
+    pub number: u8,
+    pub component: u8,
+    pub refusal: u8,
+    pub concerned: u8,
+    pub size: u32,
+}
+
+// A verdict as two numbers.
+fn verdict_numbers(v: Verdict) -> VerdictNumbers
+    ensures { λ r. ⌜ (r .number ≡ numberOf v) × (r .component ≡ concernedOf v) ⌝ }
+{
+    match v {
+        Verdict::Accepted => VerdictNumbers {
+            number: 0,
+            component: 255,
+        },
+        Verdict::Refused(number, component) => VerdictNumbers { number, component },
+    }
+}
+
+// What was listed, as numbers.
+fn meetings_numbers(m: Listed) -> MeetingsNumbers
+    requires { ⌜ m .size ≤ 65535 ⌝ }
+    ensures { λ r. ⌜ (r .number ≡ numberOf (m .verdict)) × (r .component ≡ concernedOf (m .verdict)) × (r .refusal ≡ numberOf (m .table)) × (r .concerned ≡ concernedOf (m .table)) × (r .size ≡ m .size) ⌝ }
+{
+    let own = verdict_numbers(m.verdict);
+    let judged = verdict_numbers(m.table);
+    let size = m.size as u32;
+    MeetingsNumbers {
+        number: own.number,
+        component: own.component,
+        refusal: judged.number,
+        concerned: judged.component,
+        size,
     }
 }
 
@@ -186,6 +229,15 @@ pub extern "C" fn timed_network_passages(table: &[u8], list: &mut [Passage]) -> 
 {
     let c = passages::schedule_into(table, list);
     numbers_of(c)
+}
+
+// The verdict on the table, and which windows met where 10, 11 or 12 refuses it.
+#[no_mangle]
+pub extern "C" fn timed_network_meetings(table: &[u8], list: &mut [u32]) -> MeetingsNumbers
+    ensures { λ r. ⌜ (r .number ≡ numberOf (meetingsCall (now (table .entry)) (now (list .entry)) .verdict)) × (r .component ≡ concernedOf (meetingsCall (now (table .entry)) (now (list .entry)) .verdict)) × (r .refusal ≡ numberOf (meetingsCall (now (table .entry)) (now (list .entry)) .table)) × (r .concerned ≡ concernedOf (meetingsCall (now (table .entry)) (now (list .entry)) .table)) × (r .size ≡ meetingsCall (now (table .entry)) (now (list .entry)) .size) × (now (list .exit) ≡ meetingsCall (now (table .entry)) (now (list .entry)) .lent) ⌝ }
+{
+    let m = meetings::meetings(table, list);
+    meetings_numbers(m)
 }
 
 // The registers at the start of the node's part.

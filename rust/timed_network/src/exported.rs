@@ -22,6 +22,18 @@ pub(crate) struct CallNumbers {
     pub(crate) size: u32,
 }
 
+/// The answer of `meetings`: the call's own two numbers, the two of the
+/// verdict on the table, and how many passages are listed.
+#[repr(C)]
+#[derive(Clone, Copy, Debug, PartialEq, Eq)]
+pub(crate) struct MeetingsNumbers {
+    pub(crate) number: u8,
+    pub(crate) component: u8,
+    pub(crate) refusal: u8,
+    pub(crate) concerned: u8,
+    pub(crate) size: u32,
+}
+
 /// Where a part stands: its first byte and its length, both 0 for none.
 #[repr(C)]
 #[derive(Clone, Copy, Debug, PartialEq, Eq)]
@@ -93,6 +105,12 @@ extern "C" {
         observations: *mut u8,
         observations_length: usize,
     ) -> RunNumbers;
+    fn timed_network_meetings(
+        table: *const u8,
+        length: usize,
+        list: *mut u32,
+        list_length: usize,
+    ) -> MeetingsNumbers;
     fn timed_network_passages(
         table: *const u8,
         length: usize,
@@ -116,6 +134,12 @@ pub(crate) fn schedule(table: &[u8], list: &mut [u32]) -> CallNumbers {
     // not overlap the table. The call reads inside the one, writes inside the
     // other and keeps no pointer; with length 0 it does not use the pointer.
     unsafe { timed_network_schedule(table.as_ptr(), table.len(), list.as_mut_ptr(), list.len()) }
+}
+
+/// Lists the windows that met.
+pub(crate) fn meetings(table: &[u8], list: &mut [u32]) -> MeetingsNumbers {
+    // As for the schedule.
+    unsafe { timed_network_meetings(table.as_ptr(), table.len(), list.as_mut_ptr(), list.len()) }
 }
 
 /// Writes the program bytes of a table.

@@ -3,7 +3,8 @@
 //! [`check`] answers checks 1 to 12 of document 01, [`schedule`] writes the
 //! schedule of an accepted table into a lent list of numbers,
 //! [`schedule_into`] into a lent list of passages, and [`passages`] gives it as
-//! a list of its own. [`translate`] writes the program of an accepted table,
+//! a list of its own. [`meetings`] tells which windows met where 10, 11 or 12
+//! refuses a table. [`translate`] writes the program of an accepted table,
 //! [`program`] gives it as bytes of its own, [`part`] finds one node's part in
 //! it, [`run`] carries out choices. [`node`] has one node whose registers the
 //! caller lends. The declarations of the library stand in two private modules;
@@ -109,6 +110,40 @@ pub fn check(table: &[u8]) -> Verdict {
 pub fn schedule(table: &[u8], list: &mut [u32]) -> Call {
     let answer = exported::schedule(table, list);
     Call {
+        verdict: Verdict::of(answer.number, answer.component),
+        size: answer.size as usize,
+    }
+}
+
+/// The answer of [`meetings`].
+#[derive(Clone, Copy, Debug, PartialEq, Eq)]
+pub struct Meetings {
+    /// Checks 1 to 12 of the table, whatever is lent.
+    pub table: Verdict,
+    /// The call's own answer: accepted, or 13 where the list is too short.
+    pub verdict: Verdict,
+    /// How many passages are listed.
+    pub size: usize,
+}
+
+/// Lists which windows met: for a table that 10, 11 or 12 refuses the passage
+/// at fault, then those that it meets, [`FIELDS`] numbers a passage, at the
+/// front of the list; for any other table nothing. What stands past it stays;
+/// after 13 the whole list does. A list for [`MAX_PASSAGES`] and one more is
+/// never too short.
+///
+/// ```
+/// use timed_network::{meetings, Verdict};
+///
+/// let answer = meetings(&[], &mut []);
+/// let (number, component) = (1, 255);
+/// assert_eq!(answer.table, Verdict::Refused { number, component });
+/// assert_eq!((answer.verdict, answer.size), (Verdict::Accepted, 0));
+/// ```
+pub fn meetings(table: &[u8], list: &mut [u32]) -> Meetings {
+    let answer = exported::meetings(table, list);
+    Meetings {
+        table: Verdict::of(answer.refusal, answer.concerned),
         verdict: Verdict::of(answer.number, answer.component),
         size: answer.size as usize,
     }
