@@ -190,9 +190,7 @@ fn a_take_with_nothing_kept_changes_nothing() {
 }
 
 /// A listen on two channels: 3 leads to location 4, 5 to location 6.
-const LISTEN: [u8; 20] = [
-    0, 20, 1, 0, 0, 0, 0, 0, 5, 2, 0, 0, 6, 3, 0, 4, 6, 5, 0, 6,
-];
+const LISTEN: [u8; 20] = [0, 20, 1, 0, 0, 0, 0, 0, 5, 2, 0, 0, 6, 3, 0, 4, 6, 5, 0, 6];
 
 #[test]
 fn a_message_is_taken_and_its_location_entered() {
