@@ -1,5 +1,5 @@
-// A node's registers lent by `&mut`: a thin function over the step by value (document 01, 'The run': "one node's registers after the
-// statement").
+// One node whose registers the caller keeps: its start and one step, by value (document 01, 'The run': "one node's registers after
+// the statement").
 ghost use mathlib.Core.Path.{_≡_};
 ghost use Rattle.model.specs.Machine.{startNode};
 ghost use Rattle.node.specs.declared.Counts.{Counts};
@@ -63,18 +63,8 @@ pub fn stepped(p: &[u8], clocks: u8, variables: u8, r: Node) -> Node
 }
 
 // The registers at the start of the node's part.
-#[no_mangle]
-pub extern "C" fn timed_network_start(p: &[u8]) -> Node
+pub fn start(p: &[u8]) -> Node
     ensures { λ r. ⌜ ((held : Counts) → Held held → nodeOf (now (p .entry)) held r ≡ startNode (now (p .entry)) (held .clocks) (held .variables)) × Within 0 r ⌝ }
 {
     stand::start_node(p)
-}
-
-// One step on registers that are lent.
-#[no_mangle]
-pub extern "C" fn timed_network_step(r: &mut Node, p: &[u8], clocks: u8, variables: u8)
-    ensures { λ _. ⌜ Stepped (now (p .entry)) (heldOf clocks variables) (now (r .entry)) (now (r .exit)) ⌝ }
-{
-    let next = stepped(p, clocks, variables, *r);
-    *r = next;
 }

@@ -17,7 +17,7 @@ use Rattle.model.proofs.Walk.{all-at}
 use Rattle.model.proofs.Located.{are-bytes}
 use Rattle.table.proofs.Answered.{verdict-refused, verdict-accepted}
 use Rattle.schedule.proofs.Fields.{fields-length, laid-fits}
-use Rattle.timed_network.proofs.Answering.{call-refused}
+use Rattle.calls.proofs.Answering.{call-refused}
 use Rattle.passages.specs.declared.Passage.{Passage}
 use Rattle.passages.specs.declared.Planned.{Planned}
 use Rattle.passages.specs.Passages.{PassagesCall, passageOf, keeping, passagesWith, passagesCall}
@@ -94,7 +94,7 @@ module _ (bs : List ℕ) (b : Bytes bs) (zeros : List ℕ) (long : length zeros 
       go (accepted S) e = ap (λ (x : Call). x .verdict) (numbers-laid e)
       go (refused n c) e = ap (λ (x : Call). x .verdict) (call-refused bs zeros e)
 
-  module _ (v : Verdict) (size : ℕ) (numbers : List ℕ) (says : (v ≡ scheduleCall bs zeros .verdict) × (size ≡ scheduleCall bs zeros .size) × (numbers ≡ scheduleCall bs zeros .lent)) where
+  module _ (v : Verdict) (size : ℕ) (numbers : List ℕ) (says : (v ≡ scheduleCall bs zeros .verdict) × (size ≡ scheduleCall bs zeros .size) × (numbers ≡ scheduleCall bs zeros .lent) × (size ≤ 1024) × (size * 7 ≤ length zeros)) where
     -- refused
     pub plans-refused : (places n c : ℕ) (p : Planned) → v ≡ Refused n c → (p .number ≡ n) × (p .component ≡ c) × (p .count ≡ 0) → Plans bs places p
     plans-refused places n c p e h =

@@ -3,12 +3,9 @@
 ghost use mathlib.Core.Path.{_≡_};
 ghost use Prim.Native.Nat.{ℕ, _+_, _*_, _≤_, _<_};
 ghost use lib.ListN.{length};
-ghost use Rattle.model.specs.Calls.{numberOf, concernedOf};
-ghost use Rattle.passages.specs.Passages.{passagesCall};
 ghost use Rattle.passages.specs.Copied.{copied};
 ghost use Rattle.passages.specs.Planned.{passageAt, Small, SmallRows, Laid, Plans};
 use model::Verdict;
-use timed_network::CallNumbers;
 
 // A passage: its seven fields, 255 for no message.
 #[repr(C)]
@@ -105,7 +102,7 @@ pub fn plan(table: &[u8], places: usize) -> Planned
     ensures { λ r. ⌜ Plans (now (table .entry)) places r ⌝ }
 {
     let mut numbers = [0u32; 7168];
-    let c = timed_network::schedule(table, &mut numbers);
+    let c = calls::schedule(table, &mut numbers);
     let v = c.verdict;
     let n = c.size;
     match v {
@@ -132,19 +129,6 @@ pub fn count_of(p: Planned) -> usize
     p.count
 }
 
-// The answer.
-pub fn answer_of(p: Planned) -> CallNumbers
-    requires { ⌜ p .count ≤ 1024 ⌝ }
-    ensures { λ r. ⌜ (r .number ≡ p .number) × (r .component ≡ p .component) × (r .size ≡ p .count) ⌝ }
-{
-    let count = p.count;
-    CallNumbers {
-        number: p.number,
-        component: p.component,
-        size: count as u32,
-    }
-}
-
 // The first n items are stored in the lent list.
 pub fn fill(list: &mut [Passage], items: [Passage; 1024], n: usize)
     requires { ⌜ (n ≤ length (now list)) × (n ≤ 1024) ⌝ }
@@ -155,16 +139,4 @@ pub fn fill(list: &mut [Passage], items: [Passage; 1024], n: usize)
         list[i] = items[i];
         i += 1;
     }
-}
-
-// The schedule of a table, laid over the front of the lent list.
-#[no_mangle]
-pub extern "C" fn timed_network_passages(table: &[u8], list: &mut [Passage]) -> CallNumbers
-    ensures { λ r. ⌜ (r .number ≡ numberOf (passagesCall (now (table .entry)) (now (list .entry)) .verdict)) × (r .component ≡ concernedOf (passagesCall (now (table .entry)) (now (list .entry)) .verdict)) × (r .size ≡ passagesCall (now (table .entry)) (now (list .entry)) .size) × (now (list .exit) ≡ passagesCall (now (table .entry)) (now (list .entry)) .lent) ⌝ }
-{
-    let p = plan(table, list.len());
-    let n = count_of(p);
-    let items = items_of(p);
-    fill(list, items, n);
-    answer_of(p)
 }

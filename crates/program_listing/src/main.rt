@@ -119,7 +119,7 @@ fn print_part(part: &[u8]) {
 fn print_nodes(program: &[u8], nodes: u8) {
     for node in 0..nodes {
         byte_field(STDOUT_FILENO, b"node ", node);
-        print_part(timed_network::part(program, node));
+        print_part(calls::part(program, node));
     }
 }
 

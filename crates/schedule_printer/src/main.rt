@@ -56,7 +56,7 @@ fn main() {
     let mut input = [0u8; 8193];
     let n = io::read_full(0, &mut input);
     let mut list = [0u32; 7168];
-    let r = timed_network::schedule(&input[..n], &mut list);
+    let r = calls::schedule(&input[..n], &mut list);
     let v = r.verdict;
     match v {
         Verdict::Accepted => print_schedule(&list, r.size),

@@ -1,17 +1,20 @@
-// The exported calls. Each contract equates the answer, and each lent number afterwards, with the call's
-// definition in model's specs/Calls.antt, for all inputs.
+// The library for other languages: every exported call and nothing else. Each is a thin function over the call of the same
+// name in a crate below, with the answer written out as numbers.
 ghost use mathlib.Core.Path.{_≡_};
-ghost use mathlib.Core.List.{List};
-ghost use Prim.Native.Nat.{ℕ, _*_, _≤_};
-ghost use Rattle.model.specs.declared.Verdict.the-variants.{Refused};
-ghost use Rattle.model.specs.Reader.{byte};
-ghost use Rattle.model.specs.Places.{Valid};
-ghost use Rattle.model.specs.Program.{partOf, within};
-ghost use Rattle.model.specs.Calls.{notRun, checkCall, scheduleCall, translateCall, runCall, numberOf, concernedOf, Demand3Of};
-ghost use Rattle.table.specs.Directory.{startsOf};
-ghost use Rattle.run.specs.Ends.{Planned};
-ghost use Rattle.timed_network.specs.Ran.{Answers, NumbersOf};
+ghost use Prim.Native.Nat.{_≤_};
+ghost use Rattle.model.specs.Program.{partOf};
+ghost use Rattle.model.specs.Machine.{startNode};
+ghost use Rattle.model.specs.Calls.{checkCall, scheduleCall, translateCall, runCall, numberOf, concernedOf, Demand3Of};
+ghost use Rattle.node.specs.declared.Counts.{Counts};
+ghost use Rattle.node.specs.Views.{nodeOf, Held, Within};
+ghost use Rattle.lent_node.specs.Step.{heldOf, Stepped};
+ghost use Rattle.passages.specs.Passages.{passagesCall};
+ghost use Rattle.timed_network.specs.Numbers.{NumbersOf};
+use calls::Called;
 use model::Verdict;
+use node::Node;
+use passages::Passage;
+use passages::Planned;
 
 // A verdict as two numbers: 0 for accepted, else the number of the refusal; and the component concerned, 255 for none.
 #[repr(C)]
@@ -47,32 +50,6 @@ pub struct RunNumbers {
     pub size: u32,
 }
 
-// The answer of a run: document 01's number of the end, the node (255 unless late), the tick, the choices used and the observations
-// written; after a refusal 0, 255, 0, 0 and 0.
-pub struct Ran {
-    pub verdict: Verdict,
-    pub end: u8,
-    pub node: u8,
-    pub tick: u32,
-    pub used: u32,
-    pub size: usize,
-}
-
-// The answer of a call that writes.
-pub struct Called {
-    pub verdict: Verdict,
-    pub size: usize,
-}
-
-fn refused(number: u8, component: u8) -> Called
-    ensures { λ r. ⌜ (r .verdict ≡ Refused number component) × (r .size ≡ 0) ⌝ }
-{
-    Called {
-        verdict: Verdict::Refused(number, component),
-        size: 0,
-    }
-}
-
 // A call's answer as numbers.
 fn numbers_of(c: Called) -> CallNumbers
     requires { ⌜ c .size ≤ 65535 ⌝ }
@@ -94,193 +71,25 @@ fn numbers_of(c: Called) -> CallNumbers
     }
 }
 
-// Checks 7 to 12 of a table that was read.
-fn plan_verdict(table: &[u8], starts: [u16; 8]) -> Verdict
-    requires { ⌜ Valid (now table) × (starts ≡ startsOf (now table) (byte (now table) 3)) ⌝ }
-    ensures { λ r. ⌜ r ≡ checkCall (now (table .entry)) ⌝ }
+// What is to be answered, as numbers.
+fn answer_of(p: Planned) -> CallNumbers
+    requires { ⌜ p .count ≤ 1024 ⌝ }
+    ensures { λ r. ⌜ (r .number ≡ p .number) × (r .component ≡ p .component) × (r .size ≡ p .count) ⌝ }
 {
-    let mut rows = [0u32; 9216];
-    let r = schedule::plan_rows(table, starts, &mut rows);
-    r.verdict
+    let count = p.count;
+    CallNumbers {
+        number: p.number,
+        component: p.component,
+        size: count as u32,
+    }
 }
 
 // Whether the table is accepted.
-pub fn check(table: &[u8]) -> Verdict
-    ensures { λ r. ⌜ r ≡ checkCall (now (table .entry)) ⌝ }
-{
-    let r = table::read(table);
-    let v = r.verdict;
-    match v {
-        Verdict::Refused(number, component) => Verdict::Refused(number, component),
-        Verdict::Accepted => {
-            let starts = r.starts;
-            plan_verdict(table, starts)
-        }
-    }
-}
-
-// The schedule of a table that was read.
-fn plan_into(table: &[u8], starts: [u16; 8], list: &mut [u32]) -> Called
-    requires { ⌜ Valid (now table) × (starts ≡ startsOf (now table) (byte (now table) 3)) ⌝ }
-    ensures { λ r. ⌜ (r .verdict ≡ scheduleCall (now (table .entry)) (now (list .entry)) .verdict) × (r .size ≡ scheduleCall (now (table .entry)) (now (list .entry)) .size) × (now (list .exit) ≡ scheduleCall (now (table .entry)) (now (list .entry)) .lent) ⌝ }
-{
-    let mut rows = [0u32; 9216];
-    let r = schedule::plan_rows(table, starts, &mut rows);
-    let v = r.verdict;
-    let n = r.count;
-    match v {
-        Verdict::Refused(number, component) => refused(number, component),
-        Verdict::Accepted => {
-            if list.len() < n * 7 {
-                return refused(13, 255);
-            }
-            schedule::put_fields(&rows, n, list);
-            Called {
-                verdict: Verdict::Accepted,
-                size: n,
-            }
-        }
-    }
-}
-
-// The schedule: seven numbers a passage, laid over the front of the list.
-pub fn schedule(table: &[u8], list: &mut [u32]) -> Called
-    ensures { λ r. ⌜ (r .verdict ≡ scheduleCall (now (table .entry)) (now (list .entry)) .verdict) × (r .size ≡ scheduleCall (now (table .entry)) (now (list .entry)) .size) × (now (list .exit) ≡ scheduleCall (now (table .entry)) (now (list .entry)) .lent) ⌝ }
-{
-    let r = table::read(table);
-    let v = r.verdict;
-    match v {
-        Verdict::Refused(number, component) => refused(number, component),
-        Verdict::Accepted => {
-            let starts = r.starts;
-            plan_into(table, starts, list)
-        }
-    }
-}
-
-// The program of a table that was read.
-fn translate_into(table: &[u8], starts: [u16; 8], program: &mut [u8]) -> Called
-    requires { ⌜ Valid (now table) × (starts ≡ startsOf (now table) (byte (now table) 3)) ⌝ }
-    ensures { λ r. ⌜ (r .verdict ≡ translateCall (now (table .entry)) (now (program .entry)) .verdict) × (r .size ≡ translateCall (now (table .entry)) (now (program .entry)) .size) × (now (program .exit) ≡ translateCall (now (table .entry)) (now (program .entry)) .lent) × (r .size ≤ 24576) ⌝ }
-{
-    let v = plan_verdict(table, starts);
-    match v {
-        Verdict::Refused(number, component) => refused(number, component),
-        Verdict::Accepted => {
-            let long = translator::program_length(table, starts);
-            if program.len() < long {
-                return refused(13, 255);
-            }
-            translator::write_program(table, starts, program);
-            Called {
-                verdict: Verdict::Accepted,
-                size: long,
-            }
-        }
-    }
-}
-
-// The programs of the nodes: bytes laid over the front of those lent.
-pub fn translate(table: &[u8], program: &mut [u8]) -> Called
-    ensures { λ r. ⌜ (r .verdict ≡ translateCall (now (table .entry)) (now (program .entry)) .verdict) × (r .size ≡ translateCall (now (table .entry)) (now (program .entry)) .size) × (now (program .exit) ≡ translateCall (now (table .entry)) (now (program .entry)) .lent) × (r .size ≤ 24576) ⌝ }
-{
-    let r = table::read(table);
-    let v = r.verdict;
-    match v {
-        Verdict::Refused(number, component) => refused(number, component),
-        Verdict::Accepted => {
-            let starts = r.starts;
-            translate_into(table, starts, program)
-        }
-    }
-}
-
-// The part of the program bytes that belongs to one node, for any bytes.
-pub fn part<'a>(program: &'a [u8], node: u8) -> &'a [u8]
-    ensures { λ r. ⌜ now r ≡ within (partOf (now (program .entry)) node) (now (program .entry)) ⌝ }
-{
-    program::part(program, node)
-}
-
-fn not_run(number: u8, component: u8) -> Ran
-    ensures { λ r. ⌜ ((lent : List ℕ) → Answers (notRun number component lent) r lent) ⌝ }
-{
-    Ran {
-        verdict: Verdict::Refused(number, component),
-        end: 0,
-        node: 255,
-        tick: 0,
-        used: 0,
-        size: 0,
-    }
-}
-
-// Runs the programs of a table whose schedule stands in the rows: 13 before 14.
-fn run_planned(
-    table: &[u8],
-    starts: [u16; 8],
-    rows: &[u32],
-    n: usize,
-    choices: &[u8],
-    observations: &mut [u8],
-) -> Ran
-    requires { ⌜ Valid (now table) × (starts ≡ startsOf (now table) (byte (now table) 3)) × Planned (now table) (now rows) n ⌝ }
-    ensures { λ r. ⌜ Answers (runCall (now (table .entry)) (now (choices .entry)) (now (observations .entry))) r (now (observations .exit)) ⌝ }
-{
-    if observations.len() < n * 32 {
-        return not_run(13, 255);
-    }
-    if 1000000 < choices.len() {
-        return not_run(14, 255);
-    }
-    let e = run::run_table(table, starts, rows, n, choices, observations);
-    Ran {
-        verdict: Verdict::Accepted,
-        end: e.end,
-        node: e.node,
-        tick: e.tick as u32,
-        used: e.used as u32,
-        size: e.written,
-    }
-}
-
-// The same of a table that was read.
-fn run_read(table: &[u8], starts: [u16; 8], choices: &[u8], observations: &mut [u8]) -> Ran
-    requires { ⌜ Valid (now table) × (starts ≡ startsOf (now table) (byte (now table) 3)) ⌝ }
-    ensures { λ r. ⌜ Answers (runCall (now (table .entry)) (now (choices .entry)) (now (observations .entry))) r (now (observations .exit)) ⌝ }
-{
-    let mut rows = [0u32; 9216];
-    let r = schedule::plan_rows(table, starts, &mut rows);
-    let v = r.verdict;
-    let n = r.count;
-    match v {
-        Verdict::Refused(number, component) => not_run(number, component),
-        Verdict::Accepted => run_planned(table, starts, &rows, n, choices, observations),
-    }
-}
-
-// Runs an accepted table's programs under a list of choices; 32 bytes an observation. Every number and every lent byte is the definition's,
-// and demand 3 holds of the run.
-pub fn run(table: &[u8], choices: &[u8], observations: &mut [u8]) -> Ran
-    ensures { λ r. ⌜ Answers (runCall (now (table .entry)) (now (choices .entry)) (now (observations .entry))) r (now (observations .exit)) × Demand3Of (now (table .entry)) (now (choices .entry)) ⌝ }
-{
-    let r = table::read(table);
-    let v = r.verdict;
-    match v {
-        Verdict::Refused(number, component) => not_run(number, component),
-        Verdict::Accepted => {
-            let starts = r.starts;
-            run_read(table, starts, choices, observations)
-        }
-    }
-}
-
-// The calls for C.
 #[no_mangle]
 pub extern "C" fn timed_network_check(table: &[u8]) -> VerdictNumbers
     ensures { λ r. ⌜ (r .number ≡ numberOf (checkCall (now (table .entry)))) × (r .component ≡ concernedOf (checkCall (now (table .entry)))) ⌝ }
 {
-    let v = check(table);
+    let v = calls::check(table);
     match v {
         Verdict::Accepted => VerdictNumbers {
             number: 0,
@@ -290,22 +99,25 @@ pub extern "C" fn timed_network_check(table: &[u8]) -> VerdictNumbers
     }
 }
 
+// The schedule: seven numbers a passage, laid over the front of the lent list.
 #[no_mangle]
 pub extern "C" fn timed_network_schedule(table: &[u8], list: &mut [u32]) -> CallNumbers
     ensures { λ r. ⌜ (r .number ≡ numberOf (scheduleCall (now (table .entry)) (now (list .entry)) .verdict)) × (r .component ≡ concernedOf (scheduleCall (now (table .entry)) (now (list .entry)) .verdict)) × (r .size ≡ scheduleCall (now (table .entry)) (now (list .entry)) .size) × (now (list .exit) ≡ scheduleCall (now (table .entry)) (now (list .entry)) .lent) ⌝ }
 {
-    let c = schedule(table, list);
+    let c = calls::schedule(table, list);
     numbers_of(c)
 }
 
+// The programs of the nodes: bytes laid over the front of those lent.
 #[no_mangle]
 pub extern "C" fn timed_network_translate(table: &[u8], program: &mut [u8]) -> CallNumbers
     ensures { λ r. ⌜ (r .number ≡ numberOf (translateCall (now (table .entry)) (now (program .entry)) .verdict)) × (r .component ≡ concernedOf (translateCall (now (table .entry)) (now (program .entry)) .verdict)) × (r .size ≡ translateCall (now (table .entry)) (now (program .entry)) .size) × (now (program .exit) ≡ translateCall (now (table .entry)) (now (program .entry)) .lent) ⌝ }
 {
-    let c = translate(table, program);
+    let c = calls::translate(table, program);
     numbers_of(c)
 }
 
+// Where the part of one node stands in the program bytes, for any bytes.
 #[no_mangle]
 pub extern "C" fn timed_network_part(program: &[u8], node: u8) -> PartNumbers
     ensures { λ r. ⌜ (r .start ≡ partOf (now (program .entry)) node .start) × (r .length ≡ partOf (now (program .entry)) node .long) ⌝ }
@@ -317,6 +129,7 @@ pub extern "C" fn timed_network_part(program: &[u8], node: u8) -> PartNumbers
     }
 }
 
+// Runs an accepted table's programs under a list of choices; 32 bytes an observation.
 #[no_mangle]
 pub extern "C" fn timed_network_run(
     table: &[u8],
@@ -325,7 +138,7 @@ pub extern "C" fn timed_network_run(
 ) -> RunNumbers
     ensures { λ r. ⌜ NumbersOf (runCall (now (table .entry)) (now (choices .entry)) (now (observations .entry))) r (now (observations .exit)) × Demand3Of (now (table .entry)) (now (choices .entry)) ⌝ }
 {
-    let r = run(table, choices, observations);
+    let r = calls::run(table, choices, observations);
     let v = r.verdict;
     match v {
         Verdict::Accepted => RunNumbers {
@@ -347,4 +160,33 @@ pub extern "C" fn timed_network_run(
             size: r.size as u32,
         },
     }
+}
+
+// The schedule as passages of 16 bytes, laid over the front of the lent list.
+#[no_mangle]
+pub extern "C" fn timed_network_passages(table: &[u8], list: &mut [Passage]) -> CallNumbers
+    ensures { λ r. ⌜ (r .number ≡ numberOf (passagesCall (now (table .entry)) (now (list .entry)) .verdict)) × (r .component ≡ concernedOf (passagesCall (now (table .entry)) (now (list .entry)) .verdict)) × (r .size ≡ passagesCall (now (table .entry)) (now (list .entry)) .size) × (now (list .exit) ≡ passagesCall (now (table .entry)) (now (list .entry)) .lent) ⌝ }
+{
+    let p = passages::plan(table, list.len());
+    let n = passages::count_of(p);
+    let items = passages::items_of(p);
+    passages::fill(list, items, n);
+    answer_of(p)
+}
+
+// The registers at the start of the node's part.
+#[no_mangle]
+pub extern "C" fn timed_network_start(p: &[u8]) -> Node
+    ensures { λ r. ⌜ ((held : Counts) → Held held → nodeOf (now (p .entry)) held r ≡ startNode (now (p .entry)) (held .clocks) (held .variables)) × Within 0 r ⌝ }
+{
+    lent_node::start(p)
+}
+
+// One step on registers that are lent.
+#[no_mangle]
+pub extern "C" fn timed_network_step(r: &mut Node, p: &[u8], clocks: u8, variables: u8)
+    ensures { λ _. ⌜ Stepped (now (p .entry)) (heldOf clocks variables) (now (r .entry)) (now (r .exit)) ⌝ }
+{
+    let next = lent_node::stepped(p, clocks, variables, *r);
+    *r = next;
 }

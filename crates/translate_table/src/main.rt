@@ -21,7 +21,7 @@ fn main() {
     let n = io::read_full(0, &mut input);
     // No program is longer.
     let mut program = [0u8; 24576];
-    let r = timed_network::translate(&input[..n], &mut program);
+    let r = calls::translate(&input[..n], &mut program);
     let v = r.verdict;
     match v {
         Verdict::Accepted => write_program(&program, r.size),

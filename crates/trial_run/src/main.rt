@@ -5,13 +5,13 @@
 // wrong with the arguments or the files goes to standard error, and standard output is empty then.
 mod observation;
 
+use calls::Ran;
 use libc::STDERR_FILENO;
 use libc::STDOUT_FILENO;
 use model::Verdict;
 use report::byte_field;
 use report::field;
 use report::say;
-use timed_network::Ran;
 
 // The file that an argument names, open for reading; below 0 if there is none, and standard error says why.
 fn open_argument(i: usize) -> i32 {
@@ -72,7 +72,7 @@ fn run_files(table_file: i32, choice_file: i32, choices: &mut [u8]) {
     let m = io::read_full(choice_file, choices);
     // 32 bytes for each of 1,024 passages.
     let mut observations = [0u8; 32768];
-    let r = timed_network::run(&table[..n], &choices[..m], &mut observations);
+    let r = calls::run(&table[..n], &choices[..m], &mut observations);
     print_answer(r, &choices[..m], &observations);
 }
 

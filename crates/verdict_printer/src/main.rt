@@ -139,7 +139,7 @@ fn main() {
     // One byte more than a table may have, so that a longer input is seen.
     let mut input = [0u8; 8193];
     let n = io::read_full(0, &mut input);
-    let v = timed_network::check(&input[..n]);
+    let v = calls::check(&input[..n]);
     match v {
         Verdict::Accepted => say(b"accepted\n"),
         Verdict::Refused(number, component) => {

@@ -10,7 +10,7 @@ use Rattle.passages.proofs.plan.Reads as reads
 use Rattle.passages.proofs.plan.Lts as lts
 use Rattle.passages.proofs.laid_out.Reads as laid-out-reads
 use Rattle.passages.proofs.refused.Reads as refused-reads
-use Rattle.timed_network.proofs.schedule.Reads as schedule-reads
+use Rattle.calls.proofs.schedule.Reads as schedule-reads
 
 -- the numbers before the call
 abbrev zeros : List ℕ

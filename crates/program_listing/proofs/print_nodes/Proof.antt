@@ -6,7 +6,7 @@ use Rattle.program_listing.proofs.print_nodes.Reads as reads
 use Rattle.program_listing.proofs.print_nodes.Lts as lts
 use Rattle.program_listing.proofs.print_part.Reads as print-part-reads
 use Rattle.report.proofs.byte_field.Reads as byte-field-reads
-use Rattle.timed_network.proofs.part.Reads as part-reads
+use Rattle.calls.proofs.part.Reads as part-reads
 
 abbrev Inv-loop : tie.InvT-loop
 Inv-loop program nodes node₀ t4 node = 0 ≤ node

@@ -5,7 +5,7 @@ use Rattle.timed_network.proofs.timed_network_check.Statement.{statemen
 use Rattle.timed_network.proofs.timed_network_check.Tie as tie
 use Rattle.timed_network.proofs.timed_network_check.Reads as reads
 use Rattle.timed_network.proofs.timed_network_check.Lts as lts
-use Rattle.timed_network.proofs.check.Reads as check-reads
+use Rattle.calls.proofs.check.Reads as check-reads
 
 -- src/lib.rt:133:9
 check-requires : tie.Need-check-requires

@@ -1,15 +1,14 @@
 use mathlib.Core.Path.{_≡_, sym, ap, subst, _∙_}
 use Prim.Native.Nat.{_≤_}
 use native.Mathlib.Omega.{arith}
-use Rattle.model.specs.Calls.{numberOf, concernedOf, scheduleCall}
-use Rattle.timed_network.proofs.Answering.{call-small}
+use Rattle.model.specs.Calls.{numberOf, concernedOf}
 use borrow.Author.Needs.{needs}
 use Rattle.timed_network.proofs.timed_network_schedule.Statement.{statement}
 use Rattle.timed_network.proofs.timed_network_schedule.Tie as tie
 use Rattle.timed_network.proofs.timed_network_schedule.Reads as reads
 use Rattle.timed_network.proofs.timed_network_schedule.Lts as lts
 use Rattle.timed_network.proofs.numbers_of.Reads as numbers-of-reads
-use Rattle.timed_network.proofs.schedule.Reads as schedule-reads
+use Rattle.calls.proofs.schedule.Reads as schedule-reads
 
 -- src/lib.rt:147:9
 schedule-requires : tie.Need-schedule-requires
@@ -17,7 +16,7 @@ schedule-requires c κs = search needs
 
 -- src/lib.rt:148:5
 numbers-of-requires : tie.Need-numbers-of-requires
-numbers-of-requires c κs = let a = c .before .before .before .before .before .before .args in omega (arith, call-small (a .table .now) (a .list .now), c .before .before .schedule .ensures .1)
+numbers-of-requires c κs = omega (arith, c .before .before .schedule .ensures .3)
 
 -- src/lib.rt:143:1
 same-length : tie.Need-same-length

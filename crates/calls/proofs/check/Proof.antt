@@ -2,12 +2,12 @@ use mathlib.Core.Path.{sym, ap, _∙_}
 use Rattle.model.specs.Calls.{verdictOf, checkCall}
 use Rattle.table.proofs.Answered.{was-valid, its-starts, was-refused}
 use borrow.Author.Needs.{needs}
-use Rattle.timed_network.proofs.check.Statement.{statement}
-use Rattle.timed_network.proofs.check.Tie as tie
-use Rattle.timed_network.proofs.check.Reads as reads
-use Rattle.timed_network.proofs.check.Lts as lts
+use Rattle.calls.proofs.check.Statement.{statement}
+use Rattle.calls.proofs.check.Tie as tie
+use Rattle.calls.proofs.check.Reads as reads
+use Rattle.calls.proofs.check.Lts as lts
 use Rattle.table.proofs.read.Reads as read-reads
-use Rattle.timed_network.proofs.plan_verdict.Reads as plan-verdict-reads
+use Rattle.calls.proofs.plan_verdict.Reads as plan-verdict-reads
 
 -- src/lib.rt:78:9
 read-requires : tie.Need-read-requires

@@ -1,9 +1,9 @@
-use Rattle.timed_network.proofs.Answering.{verdict-is}
+use Rattle.calls.proofs.Answering.{verdict-is}
 use borrow.Author.Needs.{needs}
-use Rattle.timed_network.proofs.plan_verdict.Statement.{statement}
-use Rattle.timed_network.proofs.plan_verdict.Tie as tie
-use Rattle.timed_network.proofs.plan_verdict.Reads as reads
-use Rattle.timed_network.proofs.plan_verdict.Lts as lts
+use Rattle.calls.proofs.plan_verdict.Statement.{statement}
+use Rattle.calls.proofs.plan_verdict.Tie as tie
+use Rattle.calls.proofs.plan_verdict.Reads as reads
+use Rattle.calls.proofs.plan_verdict.Lts as lts
 use Rattle.schedule.proofs.plan_rows.Reads as plan-rows-reads
 
 -- src/lib.rt:70:48

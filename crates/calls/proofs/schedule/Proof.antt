@@ -1,15 +1,16 @@
 use mathlib.Core.Path.{sym, ap, _∙_}
+use native.Mathlib.Omega.{arith}
 use Rattle.model.specs.Calls.{Call}
 use Rattle.table.proofs.Answered.{was-valid, its-starts, was-refused}
-use Rattle.timed_network.proofs.Answering.{call-refused}
+use Rattle.calls.proofs.Answering.{call-refused}
 use borrow.Author.Needs.{needs}
-use Rattle.timed_network.proofs.schedule.Statement.{statement}
-use Rattle.timed_network.proofs.schedule.Tie as tie
-use Rattle.timed_network.proofs.schedule.Reads as reads
-use Rattle.timed_network.proofs.schedule.Lts as lts
+use Rattle.calls.proofs.schedule.Statement.{statement}
+use Rattle.calls.proofs.schedule.Tie as tie
+use Rattle.calls.proofs.schedule.Reads as reads
+use Rattle.calls.proofs.schedule.Lts as lts
 use Rattle.table.proofs.read.Reads as read-reads
-use Rattle.timed_network.proofs.plan_into.Reads as plan-into-reads
-use Rattle.timed_network.proofs.refused.Reads as refused-reads
+use Rattle.calls.proofs.plan_into.Reads as plan-into-reads
+use Rattle.calls.proofs.refused.Reads as refused-reads
 
 -- src/lib.rt:117:9
 read-requires : tie.Need-read-requires
@@ -38,7 +39,7 @@ returns : tie.Need-returns
 returns c =
     let a = c .before .before .before .before .before .before .before .args in
     let k = call-refused (a .table .now) (a .list .now) (was-refused (a .table .now) (c .before .before .before .before .read .result) (c .before .before .before .before .read .ensures) (c .before .before .v .given .1)) in
-    (c .refused .ensures .0 ∙ sym (ap (λ (x : Call). x .verdict) k), c .refused .ensures .1 ∙ sym (ap (λ (x : Call). x .size) k), sym (ap (λ (x : Call). x .lent) k))
+    (c .refused .ensures .0 ∙ sym (ap (λ (x : Call). x .verdict) k), c .refused .ensures .1 ∙ sym (ap (λ (x : Call). x .size) k), sym (ap (λ (x : Call). x .lent) k), omega (arith, c .refused .ensures .1), omega (arith, c .refused .ensures .1))
 
 -- src/lib.rt:114:1
 same-length : tie.Need-same-length

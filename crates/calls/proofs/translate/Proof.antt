@@ -1,12 +1,12 @@
--- `timed_network::translate` meets its contract. Assumes nothing.
+-- `calls::translate` meets its contract. Assumes nothing.
 use mathlib.Core.Path.{sym, ap, _∙_}
 use native.Mathlib.Omega.{arith}
 use Rattle.model.specs.Calls.{Call}
 use Rattle.table.proofs.Answered.{was-valid, its-starts, was-refused}
-use Rattle.timed_network.proofs.Translating.{translate-refused}
+use Rattle.calls.proofs.Translating.{translate-refused}
 use borrow.Author.Needs.{needs}
-use Rattle.timed_network.proofs.translate.Statement.{statement}
-use Rattle.timed_network.proofs.translate.Tie as tie
+use Rattle.calls.proofs.translate.Statement.{statement}
+use Rattle.calls.proofs.translate.Tie as tie
 
 read-requires : tie.Need-read-requires
 read-requires c κs = search needs

@@ -1,4 +1,4 @@
--- `lent_node::timed_network_step` meets its contract: a walk of its MIR, by hand. The borrow of the registers is opened, they are copied out and passed to `stepped` beside the part's slice, what that returned is stored back, and the borrow is closed there.
+-- `timed_network::timed_network_step` meets its contract: a walk of its MIR, by hand. The borrow of the registers is opened, they are copied out and passed to `stepped` beside the part's slice, what that returned is stored back, and the borrow is closed there.
 -- All that the proof knows of `stepped` is that it meets its contract. It says nothing of the registers' fields. The slice goes to `stepped` with its lifetime's token, and the token comes back.
 -- Assumes nothing.
 use mathlib.Core.Path.{_≡_, refl}
@@ -44,15 +44,15 @@ use denote.Exit.{yes}
 use Rattle.node.specs.declared.Node.{Node}
 use Rattle.node.proofs.Node as T
 use Rattle.node.proofs.Node.Laws as T′
 use Rattle.lent_node.specs.Step.{heldOf, Stepped}
 use Rattle.lent_node.proofs.stepped as stepped
 use Rattle.lent_node.proofs.stepped.Symbol as stepped-def
 use Rattle.lent_node.proofs.stepped.Symbol.{name as #lent-node·stepped}
 use Rattle.lent_node.proofs.stepped.Met as stepped-thm
-use Rattle.lent_node.proofs.timed_network_step.Key.{name as #lent-node·timed-network-step}
-use Rattle.lent_node.proofs.timed_network_step as step
-use Rattle.lent_node.proofs.timed_network_step.Statement as stated
-use Rattle.lent_node.proofs.timed_network_step.Code as code
+use Rattle.timed_network.proofs.timed_network_step.Key.{name as #timed-network·timed-network-step}
+use Rattle.timed_network.proofs.timed_network_step as step
+use Rattle.timed_network.proofs.timed_network_step.Statement as stated
+use Rattle.timed_network.proofs.timed_network_step.Code as code
 
 abbrev Arg : Type 0
 Arg = RefT Node × (RefT (List ℕ) × (ℕ × (ℕ × Unit {0})))
@@ -163,6 +163,6 @@ pub timed-network-step-spec : {M : Type 1} → stated.statement M
 unfolding code.routine tablesOf
 timed-network-step-spec 𝓤 H 𝓜 𝓖 𝓡 =
     entered 𝓤 H (tripleOf 𝓤 H (𝓖 .A) step.signature (step.spec 𝓤 H (𝓖 .A) (𝓜 .mem) (𝓡 .run)))
-    (tables 𝓤 H 𝓜 𝓡 code.env .C) (tables 𝓤 H 𝓜 𝓡 code.env .Λ) #lent-node·timed-network-step code.function (code.unfolded 𝓤 H 𝓜 𝓡)
+    (tables 𝓤 H 𝓜 𝓡 code.env .C) (tables 𝓤 H 𝓜 𝓡 code.env .Λ) #timed-network·timed-network-step code.function (code.unfolded 𝓤 H 𝓜 𝓡)
     (step-meets 𝓤 H (𝓖 .A) (givenOf 𝓤 H 𝓜 𝓖) (𝓜 .mem) (𝓡 .run) (tablesOf 𝓤 H 𝓜 (tables 𝓤 H 𝓜 𝓡 code.env))
     (cited 𝓤 H (Stepping 𝓤 H (𝓖 .A) (𝓜 .mem) (𝓡 .run)) 𝓜 𝓡 code.env #lent-node·stepped stepped-def.routine code.calls-lent-node·stepped (stepped-thm.met 𝓤 H 𝓜 𝓖 𝓡)))

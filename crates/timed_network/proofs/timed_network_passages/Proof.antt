@@ -1,4 +1,4 @@
--- `passages::timed_network_passages` meets its contract: a walk of its MIR, by hand, of five calls. The core, the count, the items and the answer are covered. The table goes to the core and is kept, as it is shared; the list goes to `fill` at its own lifetime, share and name.
+-- `timed_network::timed_network_passages` meets its contract: a walk of its MIR, by hand, of five calls. The core, the count, the items and the answer are covered. The table goes to the core and is kept, as it is shared; the list goes to `fill` at its own lifetime, share and name.
 -- Assumes nothing.
 use mathlib.Core.Path.{_≡_, refl, sym, ap, ap₂, subst, _∙_}
 use Prim.Native.Nat.{ℕ, _<_, _≤_, _^_}
@@ -41,42 +41,42 @@ use denote.Triple.Table.{entered, cited}
 use denote.Triple.Walked.{says, Stays, gave-slice, stay-none-slice, walkOf, goes-gave-slice, goes-none-slice, Walks, ends-at, walked, walk-meets}
 use denote.Exit.{yes}
 use Rattle.model.specs.Calls.{numberOf, concernedOf}
 use Rattle.passages.specs.Passages.{passagesCall}
 use Rattle.passages.specs.Copied.{copied}
 use Rattle.passages.specs.Planned.{Plans}
 use Rattle.passages.specs.declared.Passage.{Passage}
 use Rattle.passages.specs.declared.Planned.{Planned}
 use Rattle.timed_network.specs.declared.CallNumbers.{CallNumbers}
 use Rattle.passages.proofs.Passage as T
 use Rattle.passages.proofs.Passage.Laws as T′
 use Rattle.passages.proofs.Planned as S
 use Rattle.passages.proofs.Planned.Laws as S′
 use Rattle.timed_network.proofs.CallNumbers as N
 use Rattle.timed_network.proofs.CallNumbers.Laws as N′
 use Rattle.passages.proofs.plan as plan
 use Rattle.passages.proofs.plan.Symbol as plan-def
 use Rattle.passages.proofs.plan.Symbol.{name as #passages·plan}
 use Rattle.passages.proofs.plan.Met as plan-thm
 use Rattle.passages.proofs.count_of as count-of
 use Rattle.passages.proofs.count_of.Symbol as count-of-def
 use Rattle.passages.proofs.count_of.Symbol.{name as #passages·count-of}
 use Rattle.passages.proofs.count_of.Met as count-of-thm
 use Rattle.passages.proofs.items_of as items-of
 use Rattle.passages.proofs.items_of.Symbol as items-of-def
 use Rattle.passages.proofs.items_of.Symbol.{name as #passages·items-of}
 use Rattle.passages.proofs.items_of.Met as items-of-thm
 use Rattle.passages.proofs.fill as fill
 use Rattle.passages.proofs.fill.Symbol as fill-def
 use Rattle.passages.proofs.fill.Symbol.{name as #passages·fill}
 use Rattle.passages.proofs.fill.Met as fill-thm
-use Rattle.passages.proofs.answer_of as answer-of
-use Rattle.passages.proofs.answer_of.Symbol as answer-of-def
-use Rattle.passages.proofs.answer_of.Symbol.{name as #passages·answer-of}
-use Rattle.passages.proofs.answer_of.Met as answer-of-thm
-use Rattle.passages.proofs.timed_network_passages.Key.{name as #passages·timed-network-passages}
-use Rattle.passages.proofs.timed_network_passages as into
-use Rattle.passages.proofs.timed_network_passages.Statement as stated
-use Rattle.passages.proofs.timed_network_passages.Code as code
+use Rattle.timed_network.proofs.answer_of as answer-of
+use Rattle.timed_network.proofs.answer_of.Symbol as answer-of-def
+use Rattle.timed_network.proofs.answer_of.Symbol.{name as #timed-network·answer-of}
+use Rattle.timed_network.proofs.answer_of.Met as answer-of-thm
+use Rattle.timed_network.proofs.timed_network_passages.Key.{name as #timed-network·timed-network-passages}
+use Rattle.timed_network.proofs.timed_network_passages as into
+use Rattle.timed_network.proofs.timed_network_passages.Statement as stated
+use Rattle.timed_network.proofs.timed_network_passages.Code as code
 
 abbrev stayed : Stays (into.ended .signature .params) (into.ended .kept)
 stayed = (stay-none-slice (0 ∷ []) tt (plain (λ _. u8)) yes, (gave-slice (1 ∷ []) tt (plain (λ _. T.the-row)), tt))
@@ -210,7 +210,7 @@ module _ {M : Type 1} (𝓤 : URA M) (H : Heap 𝓤) (A : Atoms 𝓤) (W : Given
       qed W ((‵ (flft κ q) ⊛ ‵ ftrue) ∷ ‵ (MutSlice (named 0) κ T.the-row .own x (sv ∷ [])) ∷ []) ∵ says ! within $ frame ! $
       nothing ! $ owned ! usize (Is usize) (uint-makes 𝓤 H A W w64) n _ (refl, gn) $ fjoin ! $ owned ! Items (Is Items) (array-makes 𝓤 H A W T.the-row (LL.makes T.the-type T′.the-plain 𝓤 H A) 1024) xs (d ∷ []) gi $ fjoin ! $ move ! (1 ∷ 0 ∷ []) $ fjoin ! $ done !
 
-  module _ (C : Calls 𝓤 H) (Λ : Loops 𝓤 H) (fm : FmC 𝓤 H (W .laws) C) (known-plan : Triple 𝓤 (C #passages·plan) (Plan 𝓤 H A mem run)) (known-count : Triple 𝓤 (C #passages·count-of) (CountOf 𝓤 H A mem run)) (known-items : Triple 𝓤 (C #passages·items-of) (ItemsOf 𝓤 H A mem run)) (known-fill : Triple 𝓤 (C #passages·fill) (Fill 𝓤 H A mem run)) (known-answer : Triple 𝓤 (C #passages·answer-of) (AnswerOf 𝓤 H A mem run)) where
+  module _ (C : Calls 𝓤 H) (Λ : Loops 𝓤 H) (fm : FmC 𝓤 H (W .laws) C) (known-plan : Triple 𝓤 (C #passages·plan) (Plan 𝓤 H A mem run)) (known-count : Triple 𝓤 (C #passages·count-of) (CountOf 𝓤 H A mem run)) (known-items : Triple 𝓤 (C #passages·items-of) (ItemsOf 𝓤 H A mem run)) (known-fill : Triple 𝓤 (C #passages·fill) (Fill 𝓤 H A mem run)) (known-answer : Triple 𝓤 (C #timed-network·answer-of) (AnswerOf 𝓤 H A mem run)) where
     walk : ent 𝓤 (onEntry 𝓤 H A into.signature κs (qt, (q, tt)) a vals) (WpFn 𝓤 H C Λ code.function (tv ∷ sv ∷ []) Post)
     walk =
         qed W ((‵ (flft κt qt) ⊛ ‵ (flft κ q) ⊛ ‵ ftrue) ∷ ‵ (owns (ShrSlice (named 0) κt u8 ∷ MutSlice (named 1) κ T.the-row ∷ []) a vals) ∷ []) ∵ enter ! C Λ code.function (tv ∷ sv ∷ []) _ $
@@ -274,12 +274,12 @@ module _ {M : Type 1} (𝓤 : URA M) (H : Heap 𝓤) (A : Atoms 𝓤) (W : Given
 
 module _ {M : Type 1} (𝓤 : URA M) (H : Heap 𝓤) (A : Atoms 𝓤) (W : Given 𝓤 H A) (mem : Memory → SProp 𝓤) (run : Routine → Fun 𝓤) where
   into-walks : (C : Calls 𝓤 H) (Λ : Loops 𝓤 H) → FmC 𝓤 H (W .laws) C → Triple 𝓤 (C #passages·plan) (Plan 𝓤 H A mem run) → Triple 𝓤 (C #passages·count-of) (CountOf 𝓤 H A mem run) → Triple 𝓤 (C #passages·items-of) (ItemsOf 𝓤 H A mem run) → Triple 𝓤 (C #passages·fill) (Fill 𝓤 H A mem run)
-      → Triple 𝓤 (C #passages·answer-of) (AnswerOf 𝓤 H A mem run) → Walks 𝓤 H A into.ended stayed (WpFn 𝓤 H C Λ code.function) (into.clauses 𝓤 H A mem run)
+      → Triple 𝓤 (C #timed-network·answer-of) (AnswerOf 𝓤 H A mem run) → Walks 𝓤 H A into.ended stayed (WpFn 𝓤 H C Λ code.function) (into.clauses 𝓤 H A mem run)
   into-walks C Λ fm kp kn ki kf ka = walked 𝓤 H A into.ended stayed (into.clauses 𝓤 H A mem run) (WpFn 𝓤 H C Λ code.function) (λ κs. (slice-vals, (slice-vals, tt))) (λ κs. (shr-slice-tells (named 0) (κs .0) u8, (mut-slice-tells (named 1) (κs .1 .0) T.the-row, tt)))
       (λ κs qs bounds a g are. via 𝓤 _ (fst∗ 𝓤 _ (emp 𝓤)) (walk 𝓤 H A W mem run (κs .0) (κs .1 .0) (qs .0) (qs .1 .0) (a .0) (a .1 .0 .ptr .0) (a .1 .0 .ptr .1) (a .1 .0 .name) (a .1 .0 .now) (are .0 .0 .1) (are .1 .0 .0 .1) C Λ fm kp kn ki kf ka))
 
 into-meets : {M : Type 1} (𝓤 : URA M) (H : Heap 𝓤) (A : Atoms 𝓤) (W : Given 𝓤 H A) (mem : Memory → SProp 𝓤) (run : Routine → Fun 𝓤) (𝓣 : Tables 𝓤 H)
-    → Triple 𝓤 (𝓣 .C #passages·plan) (Plan 𝓤 H A mem run) → Triple 𝓤 (𝓣 .C #passages·count-of) (CountOf 𝓤 H A mem run) → Triple 𝓤 (𝓣 .C #passages·items-of) (ItemsOf 𝓤 H A mem run) → Triple 𝓤 (𝓣 .C #passages·fill) (Fill 𝓤 H A mem run) → Triple 𝓤 (𝓣 .C #passages·answer-of) (AnswerOf 𝓤 H A mem run)
+    → Triple 𝓤 (𝓣 .C #passages·plan) (Plan 𝓤 H A mem run) → Triple 𝓤 (𝓣 .C #passages·count-of) (CountOf 𝓤 H A mem run) → Triple 𝓤 (𝓣 .C #passages·items-of) (ItemsOf 𝓤 H A mem run) → Triple 𝓤 (𝓣 .C #passages·fill) (Fill 𝓤 H A mem run) → Triple 𝓤 (𝓣 .C #timed-network·answer-of) (AnswerOf 𝓤 H A mem run)
     → Meets 𝓤 H A into.signature (WpFn 𝓤 H (𝓣 .C) (𝓣 .Λ) code.function) (into.spec 𝓤 H A mem run)
 into-meets 𝓤 H A W mem run 𝓣 kp kn ki kf ka =
     walk-meets 𝓤 H A into.ended stayed W (goes-none-slice 𝓤 H A W 2 (0 ∷ []) tt (plain (λ _. u8)) yes, (goes-gave-slice 𝓤 H A W 2 1 tt (plain (λ _. T.the-row)), tt))
@@ -289,10 +289,10 @@ pub timed-network-passages-spec : {M : Type 1} → stated.statement M
 unfolding code.routine tablesOf
 timed-network-passages-spec 𝓤 H 𝓜 𝓖 𝓡 =
     entered 𝓤 H (tripleOf 𝓤 H (𝓖 .A) into.signature (into.spec 𝓤 H (𝓖 .A) (𝓜 .mem) (𝓡 .run)))
-    (tables 𝓤 H 𝓜 𝓡 code.env .C) (tables 𝓤 H 𝓜 𝓡 code.env .Λ) #passages·timed-network-passages code.function (code.unfolded 𝓤 H 𝓜 𝓡)
+    (tables 𝓤 H 𝓜 𝓡 code.env .C) (tables 𝓤 H 𝓜 𝓡 code.env .Λ) #timed-network·timed-network-passages code.function (code.unfolded 𝓤 H 𝓜 𝓡)
     (into-meets 𝓤 H (𝓖 .A) (givenOf 𝓤 H 𝓜 𝓖) (𝓜 .mem) (𝓡 .run) (tablesOf 𝓤 H 𝓜 (tables 𝓤 H 𝓜 𝓡 code.env))
     (cited 𝓤 H (Plan 𝓤 H (𝓖 .A) (𝓜 .mem) (𝓡 .run)) 𝓜 𝓡 code.env #passages·plan plan-def.routine code.calls-passages·plan (plan-thm.met 𝓤 H 𝓜 𝓖 𝓡))
     (cited 𝓤 H (CountOf 𝓤 H (𝓖 .A) (𝓜 .mem) (𝓡 .run)) 𝓜 𝓡 code.env #passages·count-of count-of-def.routine code.calls-passages·count-of (count-of-thm.met 𝓤 H 𝓜 𝓖 𝓡))
     (cited 𝓤 H (ItemsOf 𝓤 H (𝓖 .A) (𝓜 .mem) (𝓡 .run)) 𝓜 𝓡 code.env #passages·items-of items-of-def.routine code.calls-passages·items-of (items-of-thm.met 𝓤 H 𝓜 𝓖 𝓡))
     (cited 𝓤 H (Fill 𝓤 H (𝓖 .A) (𝓜 .mem) (𝓡 .run)) 𝓜 𝓡 code.env #passages·fill fill-def.routine code.calls-passages·fill (fill-thm.met 𝓤 H 𝓜 𝓖 𝓡))
-    (cited 𝓤 H (AnswerOf 𝓤 H (𝓖 .A) (𝓜 .mem) (𝓡 .run)) 𝓜 𝓡 code.env #passages·answer-of answer-of-def.routine code.calls-passages·answer-of (answer-of-thm.met 𝓤 H 𝓜 𝓖 𝓡)))
+    (cited 𝓤 H (AnswerOf 𝓤 H (𝓖 .A) (𝓜 .mem) (𝓡 .run)) 𝓜 𝓡 code.env #timed-network·answer-of answer-of-def.routine code.calls-timed-network·answer-of (answer-of-thm.met 𝓤 H 𝓜 𝓖 𝓡)))

@@ -1,9 +1,9 @@
--- `timed_network::run` meets its contract. Assumes nothing.
+-- `calls::run` meets its contract. Assumes nothing.
 use Rattle.table.proofs.Answered.{was-valid, its-starts, was-refused}
-use Rattle.timed_network.proofs.RunCalls.{run-refused, demanded}
+use Rattle.calls.proofs.RunCalls.{run-refused, demanded}
 use borrow.Author.Needs.{needs}
-use Rattle.timed_network.proofs.run.Statement.{statement}
-use Rattle.timed_network.proofs.run.Tie as tie
+use Rattle.calls.proofs.run.Statement.{statement}
+use Rattle.calls.proofs.run.Tie as tie
 
 read-requires : tie.Need-read-requires
 read-requires c κs = search needs

@@ -1,11 +1,11 @@
--- `timed_network::translate_into` meets its contract. Assumes nothing.
+-- `calls::translate_into` meets its contract. Assumes nothing.
 use mathlib.Core.Path.{sym, ap, _∙_}
 use native.Mathlib.Omega.{arith}
 use Rattle.model.specs.Calls.{Call}
-use Rattle.timed_network.proofs.Translating.{check-refused, too-short, written}
+use Rattle.calls.proofs.Translating.{check-refused, too-short, written}
 use borrow.Author.Needs.{needs}
-use Rattle.timed_network.proofs.translate_into.Statement.{statement}
-use Rattle.timed_network.proofs.translate_into.Tie as tie
+use Rattle.calls.proofs.translate_into.Statement.{statement}
+use Rattle.calls.proofs.translate_into.Tie as tie
 
 plan-verdict-requires : tie.Need-plan-verdict-requires
 plan-verdict-requires c κs = search needs

@@ -1,10 +1,10 @@
--- `timed_network::run_planned` meets its contract. Assumes nothing.
+-- `calls::run_planned` meets its contract. Assumes nothing.
 use mathlib.Core.Path.{refl}
 use native.Mathlib.Omega.{arith}
-use Rattle.timed_network.proofs.RunCalls.{too-short, too-many, is-done, used-most, tick-most, seen-most, bytes-done}
+use Rattle.calls.proofs.RunCalls.{too-short, too-many, is-done, used-most, tick-most, seen-most, bytes-done}
 use borrow.Author.Needs.{needs}
-use Rattle.timed_network.proofs.run_planned.Statement.{statement}
-use Rattle.timed_network.proofs.run_planned.Tie as tie
+use Rattle.calls.proofs.run_planned.Statement.{statement}
+use Rattle.calls.proofs.run_planned.Tie as tie
 
 mul-if1 : tie.Need-mul-if1
 mul-if1 c = search needs

@@ -1,22 +1,16 @@
 -- The calls' definitions, from what the reader and the schedule answer. Assumes nothing.
-use mathlib.Core.Path.{_≡_, refl, sym, ap, subst, _∙_}
-use mathlib.Core.Bool.{Bool, true, false, cond}
+use mathlib.Core.Path.{_≡_, sym, ap, _∙_}
 use mathlib.Core.List.{List, _++_}
 use Prim.Native.Nat.{ℕ, _+_, _*_, _≤_, _<_}
-use native.Mathlib.Omega.{arith}
-use lib.Dec.{leb}
 use lib.ListN.{length, drop}
 use Rattle.model.specs.declared.Verdict.the-variants.{Accepted, Refused}
 use Rattle.model.specs.Lists.{Answer, accepted, refused, _after_, each}
 use Rattle.model.specs.Table.{Read}
-use Rattle.model.specs.Reader.{readTable}
 use Rattle.model.specs.Places.{Valid}
 use Rattle.model.specs.Schedule.{Visit, schedule, sevenOf}
-use Rattle.model.specs.Checks.{limit, plan, planOf, checked}
+use Rattle.model.specs.Checks.{plan, planOf}
 use Rattle.model.specs.Calls.{verdictOf, refusing, laid, planIn, checkCall, scheduleWith, scheduleCall}
 use Rattle.model.proofs.Located.{valid-read}
-use Rattle.model.proofs.Heard.{checked-is}
-use Rattle.model.proofs.Scheduled.{schedule-is}
 use Rattle.table.proofs.Answered.{verdict-refused, verdict-accepted}
 use Rattle.rows.specs.Rows.{rowsOf}
 use Rattle.schedule.specs.declared.Scheduled.{Scheduled}
@@ -86,31 +80,3 @@ module _ (bs : List ℕ) (v : Valid bs) (r : Scheduled) (rows : List ℕ) (F : f
         ∙ laid-fits passages (r .count) (each sevenOf (rowsOf rows (r .count))) lent count-is
         (ap (λ (k : ℕ). each sevenOf (rowsOf rows k)) count-is ∙ ap (each sevenOf) (F .rows passages plan-is) ∙ fields-light passages)
         h
-
--- ## The size fits
-
-pub call-small : (bs lent : List ℕ) → scheduleCall bs lent .size ≤ 1024
-unfolding scheduleCall planIn plan
-call-small bs lent = go (readTable bs)
-  where
-    laid-small : (n : ℕ) (result : List ℕ) → n ≤ 1024 → laid n result lent .size ≤ 1024
-    laid-small n result h = pick (leb (length result) (length lent))
-      where
-        pick : (t : Bool) → cond t (record { verdict = Accepted; size = n; lent = result ++ drop (length result) lent }) (refusing 13 255 lent) .size ≤ 1024
-        pick true = h
-        pick false = omega arith
-
-    last : (T : Read) (S : List Visit) → schedule limit (T .table) (T .horizon) ≡ accepted S → (a : Answer (List Visit)) → checked (T .table) (T .horizon) S ≡ a
-        → scheduleWith lent a .size ≤ 1024
-    last T S q (refused n c) w = omega arith
-    last T S q (accepted S′) w =
-        let same = checked-is (T .table) (T .horizon) S S′ .0 w .0 in
-        laid-small (length S′) (each sevenOf S′) (subst (λ (l : List Visit). length l ≤ 1024) same (schedule-is (T .table) (T .horizon) limit q .few))
-
-    planned-small : (T : Read) (a : Answer (List Visit)) → schedule limit (T .table) (T .horizon) ≡ a → scheduleWith lent (a after λ S. checked (T .table) (T .horizon) S) .size ≤ 1024
-    planned-small T (refused n c) q = omega arith
-    planned-small T (accepted S) q = last T S q (checked (T .table) (T .horizon) S) refl
-
-    go : (a : Answer Read) → scheduleWith lent (a after planOf) .size ≤ 1024
-    go (refused n c) = omega arith
-    go (accepted t) = planned-small t (schedule limit (t .table) (t .horizon)) refl

@@ -1,9 +1,9 @@
--- `timed_network::run_read` meets its contract. Assumes nothing.
-use Rattle.timed_network.proofs.Answering.{plan-refused, is-planned}
-use Rattle.timed_network.proofs.RunCalls.{run-refused}
+-- `calls::run_read` meets its contract. Assumes nothing.
+use Rattle.calls.proofs.Answering.{plan-refused, is-planned}
+use Rattle.calls.proofs.RunCalls.{run-refused}
 use borrow.Author.Needs.{needs}
-use Rattle.timed_network.proofs.run_read.Statement.{statement}
-use Rattle.timed_network.proofs.run_read.Tie as tie
+use Rattle.calls.proofs.run_read.Statement.{statement}
+use Rattle.calls.proofs.run_read.Tie as tie
 
 slice-aggregate-plan-rows : tie.Need-slice-aggregate-plan-rows
 slice-aggregate-plan-rows c = search needs

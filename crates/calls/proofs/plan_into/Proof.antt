@@ -1,15 +1,15 @@
 use mathlib.Core.Path.{_≡_, sym, ap, _∙_}
 use native.Mathlib.Omega.{arith}
 use Rattle.model.specs.Calls.{Call, scheduleCall}
-use Rattle.timed_network.proofs.Answering.{plan-refused, call-refused, few, room, too-short, written}
+use Rattle.calls.proofs.Answering.{plan-refused, call-refused, few, room, too-short, written}
 use borrow.Author.Needs.{needs}
-use Rattle.timed_network.proofs.plan_into.Statement.{statement}
-use Rattle.timed_network.proofs.plan_into.Tie as tie
-use Rattle.timed_network.proofs.plan_into.Reads as reads
-use Rattle.timed_network.proofs.plan_into.Lts as lts
+use Rattle.calls.proofs.plan_into.Statement.{statement}
+use Rattle.calls.proofs.plan_into.Tie as tie
+use Rattle.calls.proofs.plan_into.Reads as reads
+use Rattle.calls.proofs.plan_into.Lts as lts
 use Rattle.schedule.proofs.plan_rows.Reads as plan-rows-reads
 use Rattle.schedule.proofs.put_fields.Reads as put-fields-reads
-use Rattle.timed_network.proofs.refused.Reads as refused-reads
+use Rattle.calls.proofs.refused.Reads as refused-reads
 
 -- src/lib.rt:95:48
 slice-aggregate-plan-rows : tie.Need-slice-aggregate-plan-rows
@@ -44,7 +44,7 @@ returns : tie.Need-returns
 returns c =
     let a = c .before .before .before .before .before .before .before .before .before .args in
     let k = too-short (c .before .before .before .before .before .before .before .before .before .args .table .now) (c .before .before .before .before .before .before .before .before .before .pre .0) (c .before .before .before .before .before .plan-rows .result) _ (c .before .before .before .before .before .plan-rows .ensures) (c .before .before .enum-told .given .1) (a .list .now) (c .before .if1 .taken) in
-    (c .refused2 .ensures .0 ∙ sym (ap (λ (x : Call). x .verdict) k), c .refused2 .ensures .1 ∙ sym (ap (λ (x : Call). x .size) k), sym (ap (λ (x : Call). x .lent) k))
+    (c .refused2 .ensures .0 ∙ sym (ap (λ (x : Call). x .verdict) k), c .refused2 .ensures .1 ∙ sym (ap (λ (x : Call). x .size) k), sym (ap (λ (x : Call). x .lent) k), omega (arith, c .refused2 .ensures .1), omega (arith, c .refused2 .ensures .1))
 
 -- src/lib.rt:104:34
 slice-aggregate-put-fields : tie.Need-slice-aggregate-put-fields
@@ -61,7 +61,7 @@ returns-2 : tie.Need-returns-2
 returns-2 c =
     let a = c .before .before .before .before .before .before .before .before .before .args in
     let k = call-refused (a .table .now) (a .list .now) (plan-refused (c .before .before .before .before .before .before .before .before .before .args .table .now) (c .before .before .before .before .before .before .before .before .before .pre .0) (c .before .before .before .before .before .plan-rows .result) _ (c .before .before .before .before .before .plan-rows .ensures) (c .before .before .v .given .1)) in
-    (c .refused .ensures .0 ∙ sym (ap (λ (x : Call). x .verdict) k), c .refused .ensures .1 ∙ sym (ap (λ (x : Call). x .size) k), sym (ap (λ (x : Call). x .lent) k))
+    (c .refused .ensures .0 ∙ sym (ap (λ (x : Call). x .verdict) k), c .refused .ensures .1 ∙ sym (ap (λ (x : Call). x .size) k), sym (ap (λ (x : Call). x .lent) k), omega (arith, c .refused .ensures .1), omega (arith, c .refused .ensures .1))
 
 -- src/lib.rt:90:1
 same-length : tie.Need-same-length
@@ -72,7 +72,7 @@ returns-3 : tie.Need-returns-3
 returns-3 c =
     let a = c .before .before .before .before .before .before .before .before .before .before .before .before .before .args in
     let k = written (c .before .before .before .before .before .before .before .before .before .before .before .before .before .args .table .now) (c .before .before .before .before .before .before .before .before .before .before .before .before .before .pre .0) (c .before .before .before .before .before .before .before .before .before .plan-rows .result) _ (c .before .before .before .before .before .before .before .before .before .plan-rows .ensures) (c .before .before .before .before .before .before .enum-told .given .1) (a .list .now) (omega arith) in
-    (sym (ap (λ (x : Call). x .verdict) k), sym (ap (λ (x : Call). x .size) k), c .before .before .put-fields .ensures ∙ sym (ap (λ (x : Call). x .lent) k))
+    (sym (ap (λ (x : Call). x .verdict) k), sym (ap (λ (x : Call). x .size) k), c .before .before .put-fields .ensures ∙ sym (ap (λ (x : Call). x .lent) k), few (c .before .before .before .before .before .before .before .before .before .before .before .before .before .args .table .now) (c .before .before .before .before .before .before .before .before .before .before .before .before .before .pre .0) (c .before .before .before .before .before .before .before .before .before .plan-rows .result) _ (c .before .before .before .before .before .before .before .before .before .plan-rows .ensures) (c .before .before .before .before .before .before .enum-told .given .1), omega arith)
 
 pub plan-into-spec : {M : Type 1} → statement M
 plan-into-spec =
