@@ -1,3 +1,5 @@
 pub mod Appended
 pub mod Numerals
 pub mod Lines
+pub mod Told
+pub mod ScheduleCalled
