@@ -1,65 +1,48 @@
 // Reads a table from standard input and prints its schedule, a line a passage, or `refused`, number, component.
+ghost use mathlib.Core.Path.{_≡_};
 ghost use Prim.Native.Nat.{_≤_};
-ghost use lib.ListN.{length};
+ghost use lib.ListN.{length, take};
+ghost use Rattle.io.specs.Counts.{Counts};
+ghost use Rattle.text.specs.ScheduleText.{printedSchedule};
+use libc::STDERR_FILENO;
 use libc::STDOUT_FILENO;
 use model::Verdict;
 
-fn print_number(n: u32, after: u8) {
-    io::print_decimal(STDOUT_FILENO, n as u64);
-    io::write_all(STDOUT_FILENO, &[after]);
-}
-
-// The message, - for none.
-fn print_message(m: u32) {
-    if m == 255 {
-        io::write_all(STDOUT_FILENO, b"-\n");
-    } else {
-        print_number(m, b'\n');
-    }
-}
-
-// The seven fields of the passage at the front of the list.
-fn print_passage(list: &[u32])
-    requires { ⌜ 7 ≤ length (now list) ⌝ }
+// All that is printed of a table, at the front of out; answers how many bytes.
+fn put_printed(table: &[u8], out: &mut [u8]) -> usize
+    requires { ⌜ 78874 ≤ length (now out) ⌝ }
+    ensures { λ r. ⌜ Counts r (now (out .exit)) ⌝ }
+    ensures { λ r. ⌜ take r (now (out .exit)) ≡ printedSchedule (now (table .entry)) ⌝ }
 {
-    print_number(list[0], b' ');
-    print_number(list[1], b' ');
-    print_number(list[2], b' ');
-    print_number(list[3], b' ');
-    print_number(list[4], b' ');
-    print_number(list[5], b' ');
-    print_message(list[6]);
-}
-
-fn print_schedule(list: &[u32], n: usize) {
-    io::write_all(STDOUT_FILENO, b"c e l entry ready end msg\n");
-    let mut at: usize = 0;
-    let mut left = n;
-    while 0 < left {
-        if list.len() - at < 7 {
-            return;
-        }
-        print_passage(&list[at..]);
-        at += 7;
-        left -= 1;
+    let mut list = [0u32; 7168];
+    let r = calls::schedule(table, &mut list);
+    let v = r.verdict;
+    match v {
+        Verdict::Accepted => text::put_schedule(out, &list, r.size),
+        Verdict::Refused(number, component) => text::put_refusal(out, 0, number, component),
     }
 }
 
-fn print_refusal(number: u8, component: u8) {
-    io::write_all(STDOUT_FILENO, b"refused ");
-    print_number(number as u32, b' ');
-    print_number(component as u32, b'\n');
+// The text is made, then written. What is put in out is all that is written.
+fn print(table: &[u8], out: &mut [u8])
+    requires { ⌜ 78874 ≤ length (now out) ⌝ }
+{
+    let n = put_printed(table, out);
+    if !io::write_all(STDOUT_FILENO, &out[..n]) {
+        report::say(STDERR_FILENO, b"schedule_printer: the output could not be written\n");
+    }
+}
+
+// The array is lent as an array first: no proof has to count its zeros then.
+fn print_in_array(table: &[u8], out: &mut [u8; 78874]) {
+    print(table, out);
 }
 
 fn main() {
     // One byte more than a table may have, so that a longer input is seen.
     let mut input = [0u8; 8193];
     let n = io::read_full(0, &mut input);
-    let mut list = [0u32; 7168];
-    let r = calls::schedule(&input[..n], &mut list);
-    let v = r.verdict;
-    match v {
-        Verdict::Accepted => print_schedule(&list, r.size),
-        Verdict::Refused(number, component) => print_refusal(number, component),
-    }
+    // The first line has 26 bytes, and each of 1,024 passages at most 77.
+    let mut out = [0u8; 78874];
+    print_in_array(&input[..n], &mut out);
 }

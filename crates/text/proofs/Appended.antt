@@ -1,11 +1,11 @@
 -- Words after words. Assumes nothing.
 use mathlib.Core.Path.{_≡_, refl, sym, ap, _∙_}
 use mathlib.Core.List.{List, [], _∷_, _++_, append-assoc, append-nil}
-use Prim.Native.Nat.{ℕ, zero, suc, _+_, _<_}
+use Prim.Native.Nat.{ℕ, zero, suc, _+_, _≤_, _<_}
 use native.Mathlib.Nat.{le-of-suc-le-suc, not-suc-le-zero, add-suc}
 use native.Mathlib.Numerals.{add-one}
 use lib.ListN.{length, getD, set, take}
-use lib.Seq.{take-suc}
+use lib.Seq.{take-suc, length-take-le}
 use Rattle.text.specs.Words.{Added}
 
 -- two runs of words are one
@@ -28,3 +28,7 @@ put-turn before out words at i h k e =
     (take-set out (at + i) (getD words i 0) h ∙ ap (λ (l : List ℕ). l ++ (getD words i 0 ∷ [])) e
     ∙ append-assoc (take at before) (take i words) (getD words i 0 ∷ [])
     ∙ ap (λ (l : List ℕ). take at before ++ l) (sym (take-suc words i 0 k)))
+
+-- what a call that lends the front asks
+pub counts : (n : ℕ) (out : List ℕ) → n ≤ length out → (n ≤ length out) × (n ≡ length (take n out))
+counts n out h = (h, sym (length-take-le n out h))
