@@ -16,7 +16,7 @@ use Rattle.text.specs.Words.{ascii}
 use Rattle.text.specs.ScheduleText.{passageLine, passagesOf, scheduleText, refusalLine, printedAnswer, printedSchedule}
 use Rattle.text.proofs.Told.{told, few-passages, lines-are}
 
-seven-long : (S : List Visit) → length (each sevenOf S) ≡ length S * 7
+pub seven-long : (S : List Visit) → length (each sevenOf S) ≡ length S * 7
 unfolding each
 seven-long [] = refl
 seven-long (v ∷ S) = simp length-append (omega (arith, seven-long S))

@@ -22,7 +22,7 @@ use Rattle.model.proofs.Parts.{after-ok}
 use Rattle.model.proofs.Own.{in-all, all-in}
 use Rattle.model.proofs.RoundTrip.{written-read}
 use Rattle.model.proofs.WholeTied.{Given, schedule-at, given}
-use Rattle.text.specs.Words.{ascii}
+use Rattle.text.specs.Words.{ascii, sevens}
 use Rattle.text.specs.ScheduleText.{placeText, ticksText, messageText, passageLine, messageOf, passageOf, passagesOf}
 
 -- ## Messages are channels
@@ -101,6 +101,6 @@ unfolding passageLine
 line-is v rest e = ap (λ (m : Option ℕ). placeText v ++ ticksText v ++ messageText m ++ ascii "\n") e
 
 pub lines-are : (S : List Visit) (rest : List ℕ) → All (λ (v : Visit). Tells (v .message)) S → each passageLine (passagesOf (each sevenOf S ++ rest) (length S)) ≡ each passageLine S
-unfolding each passagesOf
+unfolding each sevens
 lines-are [] rest empty = refl
 lines-are (v ∷ S) rest (more e a) = ap₂ _++_ (line-is v (each sevenOf S ++ rest) e) (lines-are S rest a)

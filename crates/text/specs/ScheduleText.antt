@@ -1,14 +1,14 @@
 -- Document 01, "Probe and hub": what the schedule printer prints.
 use mathlib.Core.Bool.{cond}
-use mathlib.Core.List.{List, [], _∷_, _++_}
+use mathlib.Core.List.{List, [], _++_}
 use mathlib.Core.Option.{Option, none, some}
-use Prim.Native.Nat.{ℕ, zero, suc}
+use Prim.Native.Nat.{ℕ}
 use lib.Dec.{eqb}
-use lib.ListN.{getD, drop}
+use lib.ListN.{getD}
 use Rattle.model.specs.Lists.{Answer, accepted, refused, each}
 use Rattle.model.specs.Schedule.{Visit}
 use Rattle.model.specs.Calls.{planIn}
-use Rattle.text.specs.Words.{ascii, decimal, field}
+use Rattle.text.specs.Words.{ascii, decimal, field, sevens}
 
 -- "(the seven fields; - for no message)": component, edge, location; entry, ready, end; message
 abbrev pub placeText : Visit → List ℕ
@@ -62,6 +62,5 @@ passageOf list =
     }
 
 -- so many passages from the front on
-unfoldable pub passagesOf : List ℕ → ℕ → List Visit
-passagesOf list zero = []
-passagesOf list (suc n) = passageOf list ∷ passagesOf (drop 7 list) n
+abbrev pub passagesOf : List ℕ → ℕ → List Visit
+passagesOf list n = sevens passageOf list n

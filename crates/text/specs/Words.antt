@@ -7,7 +7,7 @@ use Prim.Native.Char.{code}
 use Prim.Native.String.{String}
 use Prim.Native.String as string
 use lib.Dec.{ltb}
-use lib.ListN.{take}
+use lib.ListN.{take, drop}
 
 -- the bytes of a text
 abbrev pub ascii : String → List ℕ
@@ -31,6 +31,11 @@ decimal n = numeral 20 n
 -- a text and a number
 abbrev pub field : String → ℕ → List ℕ
 field words n = ascii words ++ decimal n
+
+-- so many things from the front of a list on, each told by seven numbers
+unfoldable pub sevens : {A : Type 0} → (List ℕ → A) → List ℕ → ℕ → List A
+sevens tell list zero = []
+sevens tell list (suc n) = tell list ∷ sevens tell (drop 7 list) n
 
 -- Words are added after the first `at` bytes: up to `end` stands now what stood up to `at`, then these words.
 pub record Added (before : List ℕ) (at : ℕ) (words after : List ℕ) (end : ℕ) : Type 0 where

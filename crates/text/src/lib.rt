@@ -1,5 +1,9 @@
 // The texts that the programs print, written into a lent slice: each function adds its words after those that stand there, and
 // answers where they end.
+mod verdict;
+
+pub use verdict::put_meetings;
+pub use verdict::put_refusal_text;
 ghost use mathlib.Core.Path.{_≡_};
 ghost use mathlib.Core.List.{List, _++_};
 ghost use Prim.Native.Nat.{ℕ, _+_, _*_, _≤_};
