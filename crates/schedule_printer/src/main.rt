@@ -29,7 +29,7 @@ fn print(table: &[u8], out: &mut [u8])
 {
     let n = put_printed(table, out);
     if !io::write_all(STDOUT_FILENO, &out[..n]) {
-        report::say(STDERR_FILENO, b"schedule_printer: the output could not be written\n");
+        report::say(STDERR_FILENO, b"The schedule could not be written.\n");
     }
 }
 

@@ -11,13 +11,7 @@ use Rattle.text.proofs.ScheduleCalled.{printed-accepted, printed-refused}
 use borrow.Author.Needs.{needs}
 use Rattle.schedule_printer.proofs.put_printed.Statement.{statement}
 use Rattle.schedule_printer.proofs.put_printed.Tie as tie
-use Rattle.schedule_printer.proofs.put_printed.Reads as reads
-use Rattle.schedule_printer.proofs.put_printed.Lts as lts
-use Rattle.calls.proofs.schedule.Reads as schedule-reads
-use Rattle.text.proofs.put_refusal.Reads as put-refusal-reads
-use Rattle.text.proofs.put_schedule.Reads as put-schedule-reads
 
--- src/main.rt:16:36
 -- the numbers before the call
 abbrev zeros : List ℕ
 zeros = replicate 7168 0
@@ -28,35 +22,27 @@ room = omega (arith, length-replicate {A = ℕ} 7168 0)
 slice-aggregate-schedule : tie.Need-slice-aggregate-schedule
 slice-aggregate-schedule c = search needs
 
--- src/main.rt:16:9
 schedule-requires : tie.Need-schedule-requires
 schedule-requires c κs = search needs
 
--- src/main.rt:19:49
 enum-told : tie.Need-enum-told
 enum-told c = search needs
 
--- src/main.rt:19:54
 slice-aggregate-put-schedule : tie.Need-slice-aggregate-put-schedule
 slice-aggregate-put-schedule c = search needs
 
--- src/main.rt:19:30
 put-schedule-requires : tie.Need-put-schedule-requires
 put-schedule-requires c κs = search needs
 
--- src/main.rt:20:26
 enum-known-v : tie.Need-enum-known-v
 enum-known-v c = search needs
 
--- src/main.rt:20:48
 put-refusal-requires : tie.Need-put-refusal-requires
 put-refusal-requires c κs = search needs
 
--- src/main.rt:11:1
 same-length : tie.Need-same-length
 same-length c = search needs
 
--- src/main.rt:11:1
 returns : tie.Need-returns
 returns c =
     let a = c .before .before .before .before .before .before .before .before .before .before .before .before .args in
@@ -66,11 +52,9 @@ returns c =
     let printed = printed-accepted (a .table .now) zeros bytes room (sym (s .ensures .0) ∙ c .before .before .before .before .before .enum-told .given .1) in
     (counts (p .result) (p .last .0) (omega (arith, p .ensures .1, p .kept .0, s .ensures .3, c .before .before .before .before .before .before .before .before .before .before .before .before .pre)), p .ensures .0 ∙ ap₂ (λ (l : List ℕ) (n : ℕ). scheduleText (passagesOf l n)) (s .ensures .2) (s .ensures .1) ∙ printed)
 
--- src/main.rt:11:1
 same-length-2 : tie.Need-same-length-2
 same-length-2 c = search needs
 
--- src/main.rt:11:1
 returns-2 : tie.Need-returns-2
 returns-2 c =
     let a = c .before .before .before .before .before .before .before .before .before .before .before .before .args in
