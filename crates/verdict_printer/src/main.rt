@@ -1,150 +1,62 @@
 // Reads a table from standard input and prints its verdict in words: the number, the question that was asked, and the
 // component; after 10, 11 or 12 also which windows met.
+ghost use mathlib.Core.Path.{_≡_};
+ghost use mathlib.Core.List.{_++_};
 ghost use Prim.Native.Nat.{_≤_};
-ghost use lib.ListN.{length};
+ghost use lib.ListN.{length, take};
+ghost use Rattle.io.specs.Counts.{Counts};
+ghost use Rattle.model.specs.declared.Verdict.the-variants.{Refused};
+ghost use Rattle.model.specs.Calls.{checkCall};
+ghost use Rattle.text.specs.VerdictText.{verdictText};
+use libc::STDERR_FILENO;
 use libc::STDOUT_FILENO;
 use model::Verdict;
 
-fn say(text: &[u8]) {
-    io::write_all(STDOUT_FILENO, text);
-}
-
-fn print_number(n: u32) {
-    io::print_decimal(STDOUT_FILENO, n as u64);
-}
-
-// The passage at the front of a list, seven numbers: whose window it is.
-fn print_place(w: &[u32])
-    requires { ⌜ 7 ≤ length (now w) ⌝ }
+// A refusal in words, and which windows met after 10, 11 or 12. There is room for the passage at fault and all 1,024.
+fn put_refused(table: &[u8], number: u8, component: u8, out: &mut [u8]) -> usize
+    requires { ⌜ (164370 ≤ length (now out)) × (checkCall (now table) ≡ Refused number component) ⌝ }
+    ensures { λ r. ⌜ Counts r (now (out .exit)) ⌝ }
+    ensures { λ r. ⌜ take r (now (out .exit)) ≡ verdictText (now (table .entry)) ⌝ }
 {
-    say(b"component ");
-    print_number(w[0]);
-    say(b", edge ");
-    print_number(w[1]);
-}
-
-// Its ticks, the first and the last included.
-fn print_ticks(w: &[u32])
-    requires { ⌜ 7 ≤ length (now w) ⌝ }
-{
-    say(b", ticks ");
-    print_number(w[4]);
-    say(b" to ");
-    print_number(w[5]);
-}
-
-// A send's message is its channel.
-fn print_channel(w: &[u32])
-    requires { ⌜ 7 ≤ length (now w) ⌝ }
-{
-    say(b", channel ");
-    print_number(w[6]);
-}
-
-// The window at fault, and what the lines after it are.
-fn print_fault(number: u8, w: &[u32])
-    requires { ⌜ 7 ≤ length (now w) ⌝ }
-{
-    if number == 12 {
-        say(b"The receive window of ");
-        print_place(w);
-        print_ticks(w);
-        say(b", shares a tick with these send windows on its channels:\n");
-        return;
-    }
-    say(b"The send window of ");
-    print_place(w);
-    print_channel(w);
-    print_ticks(w);
-    if number == 10 {
-        say(b", shares a tick with these send windows:\n");
-    } else {
-        say(b".\nReceive windows of other components on its channel that share a tick with it:\n");
-    }
-}
-
-// A send window that was met.
-fn print_send(w: &[u32])
-    requires { ⌜ 7 ≤ length (now w) ⌝ }
-{
-    say(b"  ");
-    print_place(w);
-    say(b", a send window");
-    print_channel(w);
-    print_ticks(w);
-    say(b"\n");
-}
-
-// A receive window that was met, against the send window.
-fn print_listener(sent: &[u32], w: &[u32])
-    requires { ⌜ (7 ≤ length (now sent)) × (7 ≤ length (now w)) ⌝ }
-{
-    say(b"  ");
-    print_place(w);
-    say(b", a receive window");
-    print_ticks(w);
-    if w[4] < sent[4] {
-        say(b": starts earlier,");
-    } else {
-        say(b": starts with the send or later,");
-    }
-    if sent[5] < w[5] {
-        say(b" ends later\n");
-    } else {
-        say(b" ends with the send or earlier\n");
-    }
-}
-
-fn print_met(number: u8, fault: &[u32], w: &[u32])
-    requires { ⌜ (7 ≤ length (now fault)) × (7 ≤ length (now w)) ⌝ }
-{
-    if number == 11 {
-        print_listener(fault, w);
-    } else {
-        print_send(w);
-    }
-}
-
-// n passages: the one at fault, then those that it meets.
-fn print_meetings(number: u8, list: &[u32], n: usize) {
-    if list.len() < 7 {
-        return;
-    }
-    print_fault(number, list);
-    if n < 2 {
-        say(b"  none\n");
-    }
-    let mut at: usize = 7;
-    let mut left = n;
-    while 1 < left {
-        if list.len() - at < 7 {
-            return;
-        }
-        print_met(number, list, &list[at..]);
-        at += 7;
-        left -= 1;
-    }
-}
-
-// Which windows met, after 10, 11 or 12. There is room for the passage at fault and all 1,024.
-fn print_windows(number: u8, table: &[u8]) {
     let mut list = [0u32; 7175];
     let r = meetings::meetings(table, &mut list);
-    if 0 < r.size {
-        print_meetings(number, &list, r.size);
+    let at = text::put_refusal_text(out, 0, number, component);
+    text::put_meetings(out, at, number, &list, r.size)
+}
+
+// All that is printed of a table, at the front of out; answers how many bytes.
+fn put_printed(table: &[u8], out: &mut [u8]) -> usize
+    requires { ⌜ 164370 ≤ length (now out) ⌝ }
+    ensures { λ r. ⌜ Counts r (now (out .exit)) ⌝ }
+    ensures { λ r. ⌜ take r (now (out .exit)) ≡ verdictText (now (table .entry)) ⌝ }
+{
+    let v = calls::check(table);
+    match v {
+        Verdict::Accepted => text::put(out, 0, b"accepted\n"),
+        Verdict::Refused(number, component) => put_refused(table, number, component, out),
     }
+}
+
+// The text is made, then written. What is put in out is all that is written.
+fn print(table: &[u8], out: &mut [u8])
+    requires { ⌜ 164370 ≤ length (now out) ⌝ }
+{
+    let n = put_printed(table, out);
+    if !io::write_all(STDOUT_FILENO, &out[..n]) {
+        report::say(STDERR_FILENO, b"The verdict could not be written.\n");
+    }
+}
+
+// The array is lent as an array first: no proof has to count its zeros then.
+fn print_in_array(table: &[u8], out: &mut [u8; 164370]) {
+    print(table, out);
 }
 
 fn main() {
     // One byte more than a table may have, so that a longer input is seen.
     let mut input = [0u8; 8193];
     let n = io::read_full(0, &mut input);
-    let v = calls::check(&input[..n]);
-    match v {
-        Verdict::Accepted => say(b"accepted\n"),
-        Verdict::Refused(number, component) => {
-            report::refusal(STDOUT_FILENO, number, component);
-            print_windows(number, &input[..n]);
-        }
-    }
+    // The refusal has at most 170 bytes, the window at fault 200, and each of 1,025 lines 160.
+    let mut out = [0u8; 164370];
+    print_in_array(&input[..n], &mut out);
 }

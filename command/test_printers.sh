@@ -1,0 +1,58 @@
+#!/usr/bin/env bash
+# Runs the printers over the whole corpus, as programs: what they print of each table is compared with the stored answer, and of
+# an accepted one with the stored schedule. Then an output that cannot be written. Any failing check fails the whole.
+set -euo pipefail
+
+root="$(cd "$(dirname "$0")/.." && pwd)"
+programs="$root/target/bin"
+corpus="$root/corpus"
+work="$(mktemp -d)"
+trap 'rm -rf -- "$work"' EXIT
+cd "$root"
+rt check schedule_printer verdict_printer translate_table >"$work/built" || { cat "$work/built"; exit 1; }
+cd "$work"
+
+passed=0 failed=0
+
+# One check: what it says, then a test.
+check() {
+    local said=$1
+    shift
+    if "$@"; then
+        passed=$((passed + 1))
+    else
+        failed=$((failed + 1))
+        printf 'FAILED: %s\n' "$said"
+    fi
+}
+
+# The schedule of an accepted table, or the refusal's line, and nothing else.
+while IFS=$'\t' read -r name answer; do
+    "$programs/schedule_printer" <"$corpus/$name.bin" >out 2>err
+    if [[ $answer == accepted ]]; then
+        cp "$corpus/$name.schedule" expected
+    else
+        printf '%s\n' "$answer" >expected
+    fi
+    check "$name: the schedule printed" cmp -s expected out
+    check "$name: nothing on standard error" test ! -s err
+    "$programs/verdict_printer" <"$corpus/$name.bin" >out 2>err
+    check "$name: the verdict printed" test "$(head -n 1 out)" = "$answer"
+    check "$name: nothing on standard error" test ! -s err
+done <"$corpus/answers.tsv"
+
+# Numbers of more than two digits are among them.
+check 'the corpus has ticks of five digits and more' grep -q -E ' [0-9]{5,} ' "$corpus"/*.schedule
+
+# An output that cannot be written is told.
+full() {
+    local program=$1 said=$2
+    "$programs/$program" <"$corpus/probe_and_hub.bin" >/dev/full 2>err || true
+    check "$program: an output that cannot be written is told" grep -q -F -- "$said" err
+}
+full schedule_printer 'The schedule could not be written.'
+full verdict_printer 'The verdict could not be written.'
+full translate_table 'The program could not be written.'
+
+printf '%d passed, %d failed\n' "$passed" "$failed"
+[[ $failed -eq 0 ]]

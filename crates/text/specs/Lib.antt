@@ -1,0 +1,4 @@
+pub mod Words
+pub mod ScheduleText
+pub mod VerdictText
+pub mod PrintedCases

@@ -1,0 +1,137 @@
+-- A verdict in words: the number, the question that was asked, and the component; after 10, 11 or 12 also which windows met.
+use mathlib.Core.Bool.{cond}
+use mathlib.Core.List.{List, [], _∷_, _++_, map}
+use Prim.Native.Nat.{ℕ}
+use lib.Dec.{eqb, ltb}
+use lib.ListN.{getD}
+use Prim.Native.String.{String}
+use Rattle.model.specs.declared.Verdict.{Verdict}
+use Rattle.model.specs.declared.Verdict.the-variants.{Accepted, Refused}
+use Rattle.model.specs.Lists.{orElse, each}
+use Rattle.model.specs.Schedule.{Visit}
+use Rattle.model.specs.Calls.{checkCall}
+use Rattle.model.specs.Meetings.{meetingsIn}
+use Rattle.text.specs.Words.{ascii, decimal, field, sevens}
+use Rattle.text.specs.ScheduleText.{refusalLine}
+
+-- ## The question
+
+abbrev pub noQuestion : List ℕ
+noQuestion = ascii "Does a question have this number?\n"
+
+-- "Checks, in this order": the questions by their numbers
+abbrev pub questions : List (List ℕ)
+questions =
+    noQuestion ∷ ascii "Is the first byte 1?\n"
+    ∷ ascii "Is the stated length the length handed in, from 7 to 8,192?\n"
+    ∷ ascii "Are components, channels and horizon in range?\n"
+    ∷ ascii "Does each part fit its component and end exactly there?\n"
+    ∷ ascii "Is every number in its range and every mask bit a clock?\n"
+    ∷ ascii "Does no receive edge list a channel twice?\n"
+    ∷ ascii "Are there at most 1,024 passages up to the horizon?\n"
+    ∷ ascii "Has the location entered an edge with a window of one tick's length?\n"
+    ∷ ascii "Does each update of the edge taken stay in range?\n"
+    ∷ ascii "Do no two send windows of different components share a tick?\n"
+    ∷ ascii "Does one receive window alone meet the send, start earlier and end later?\n"
+    ∷ ascii "Does no receive window share a tick with two sends on its channels?\n"
+    ∷ ascii "Does the lent buffer hold the result?\n"
+    ∷ ascii "Are there at most 1,000,000 choices?\n"
+    ∷ []
+
+unfoldable pub question : ℕ → List ℕ
+question number = getD questions number noQuestion
+
+-- 255 is no component
+abbrev pub concern : ℕ → List ℕ
+concern component =
+    cond (eqb component 255) (ascii "No single component is concerned.\n") (field "Component " component ++ ascii " is concerned.\n")
+
+unfoldable pub refusalText : ℕ → ℕ → List ℕ
+unfolding refusalLine question decimal
+refusalText number component = refusalLine number component ++ ascii "The answer is no: " ++ question number ++ concern component
+
+-- ## The windows that met
+
+-- a passage's component, edge, window and, for a send, channel
+pub record Met : Type 0 where
+  pub component : ℕ
+  pub edge : ℕ
+  pub ready : ℕ
+  pub end : ℕ
+  pub channel : ℕ
+
+abbrev pub metOf : Visit → Met
+metOf v = record { component = v .component; edge = v .edge; ready = v .ready; end = v .end; channel = orElse (v .message) 255 }
+
+abbrev pub placeWords : Met → List ℕ
+placeWords w = field "component " (w .component) ++ field ", edge " (w .edge)
+
+abbrev pub windowWords : Met → List ℕ
+windowWords w = field ", ticks " (w .ready) ++ field " to " (w .end)
+
+abbrev pub sendWords : Met → List ℕ
+sendWords w = field ", channel " (w .channel) ++ windowWords w
+
+-- the window at fault, and what the lines after it are
+abbrev pub receiveFault : Met → List ℕ
+receiveFault w =
+    ascii "The receive window of " ++ placeWords w ++ windowWords w ++ ascii ", shares a tick with these send windows on its channels:\n"
+
+abbrev pub faultEnd : ℕ → List ℕ
+faultEnd number =
+    cond (eqb number 10) (ascii ", shares a tick with these send windows:\n")
+    (ascii ".\nReceive windows of other components on its channel that share a tick with it:\n")
+
+abbrev pub sendFault : ℕ → Met → List ℕ
+sendFault number w = ascii "The send window of " ++ placeWords w ++ sendWords w ++ faultEnd number
+
+abbrev pub faultText : ℕ → Met → List ℕ
+faultText number w = cond (eqb number 12) (receiveFault w) (sendFault number w)
+
+-- a window that was met
+abbrev pub sendLine : Met → List ℕ
+sendLine w = ascii "  " ++ placeWords w ++ ascii ", a send window" ++ sendWords w ++ ascii "\n"
+
+abbrev pub startWords : Met → Met → List ℕ
+startWords sent w = cond (ltb (w .ready) (sent .ready)) (ascii ": starts earlier,") (ascii ": starts with the send or later,")
+
+abbrev pub endWords : Met → Met → List ℕ
+endWords sent w = cond (ltb (sent .end) (w .end)) (ascii " ends later\n") (ascii " ends with the send or earlier\n")
+
+abbrev pub receiveWords : Met → List ℕ
+receiveWords w = ascii "  " ++ placeWords w ++ ascii ", a receive window" ++ windowWords w
+
+abbrev pub listenerLine : Met → Met → List ℕ
+listenerLine sent w = receiveWords w ++ startWords sent w ++ endWords sent w
+
+unfoldable pub metLine : ℕ → Met → Met → List ℕ
+unfolding decimal
+metLine number fault w = cond (eqb number 11) (listenerLine fault w) (sendLine w)
+
+abbrev pub metLines : ℕ → Met → List Met → List ℕ
+metLines number fault [] = ascii "  none\n"
+metLines number fault (w ∷ ws) = each (metLine number fault) (w ∷ ws)
+
+-- the window at fault, then those that it meets; nothing where none is at fault
+unfoldable pub meetingsText : ℕ → List Met → List ℕ
+unfolding decimal metLine each
+meetingsText number [] = []
+meetingsText number (fault ∷ ws) = faultText number fault ++ metLines number fault ws
+
+-- ## The whole text, for any bytes
+
+abbrev pub verdictWith : Verdict → List Visit → List ℕ
+verdictWith Accepted M = ascii "accepted\n"
+verdictWith (Refused number component) M = refusalText number component ++ meetingsText number (map metOf M)
+
+unfoldable pub verdictText : List ℕ → List ℕ
+unfolding checkCall meetingsIn refusalText meetingsText
+verdictText table = verdictWith (checkCall table) (meetingsIn table)
+
+-- ## From the seven numbers of a passage
+
+abbrev pub metAt : List ℕ → Met
+metAt list = record { component = getD list 0 0; edge = getD list 1 0; ready = getD list 4 0; end = getD list 5 0; channel = getD list 6 0 }
+
+abbrev pub metsOf : List ℕ → ℕ → List Met
+metsOf list n = sevens metAt list n
