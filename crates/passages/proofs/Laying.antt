@@ -14,21 +14,21 @@ use Rattle.model.specs.Checks.{visitAt}
 use Rattle.passages.specs.declared.Passage.{Passage}
 use Rattle.passages.specs.Passages.{passageOf}
 use Rattle.passages.specs.Copied.{blank, copied, copied-is}
-use Rattle.passages.specs.Planned.{passageAt}
+use Rattle.passages.specs.Planned.{fromSeven}
 
 -- ## One passage more
 
 -- the first i items are the first i passages of the numbers
 abbrev pub Alike : List ℕ → ℕ → List Passage → Type 0
-Alike l i items = (j : ℕ) → j < i → getD items j blank ≡ passageAt l j
+Alike l i items = (j : ℕ) → j < i → getD items j blank ≡ fromSeven l j
 
 pub none-alike : (l : List ℕ) (items : List Passage) → Alike l 0 items
 none-alike l items j h = absurd (omega arith)
 
-pub one-more : (l : List ℕ) (i : ℕ) (items : List Passage) (r : Passage) → i < length items → r ≡ passageAt l i → Alike l i items → Alike l (i + 1) (set items i r)
+pub one-more : (l : List ℕ) (i : ℕ) (items : List Passage) (r : Passage) → i < length items → r ≡ fromSeven l i → Alike l i items → Alike l (i + 1) (set items i r)
 one-more l i items r h e a j k = go (eqb j i) refl
   where
-    go : (t : Bool) → eqb j i ≡ t → getD (set items i r) j blank ≡ passageAt l j
+    go : (t : Bool) → eqb j i ≡ t → getD (set items i r) j blank ≡ fromSeven l j
     go true q = let s : j ≡ i = eqb-true j i q in rw s (getD-set-same items i r blank h ∙ e)
     go false q = let s = eqb-false j i q in getD-set-other items i j r blank s ∙ a j (omega (arith, s))
 
@@ -52,7 +52,7 @@ same-passage : {a b c d e f g a′ b′ c′ d′ e′ f′ g′ : ℕ} → a �
 same-passage p q r s t u v = rw (p, q, r, s, t, u, v)
 
 -- passage i of its numbers
-pub nth-seven : (S : List Visit) (rest : List ℕ) (i : ℕ) → i < length S → passageAt (each sevenOf S ++ rest) i ≡ passageOf (visitAt S i)
+pub nth-seven : (S : List Visit) (rest : List ℕ) (i : ℕ) → i < length S → fromSeven (each sevenOf S ++ rest) i ≡ passageOf (visitAt S i)
 unfolding each
 nth-seven [] rest i h = absurd (omega arith)
 nth-seven (v ∷ S) rest zero h = refl
@@ -71,7 +71,7 @@ pub stored : (S : List Visit) (l : List Passage) (xs : List Passage) (numbers re
 stored S l xs numbers rest n e h q a =
     let m : n ≤ length (map passageOf S) = rw (length-map S passageOf) (omega arith) in
     let same : (j : ℕ) → j < n → getD xs j blank ≡ getD (map passageOf S) j blank = λ j k.
-    a j k ∙ ap (λ (u : List ℕ). passageAt u j) q ∙ nth-seven S rest j (omega arith) ∙ sym (nth-passage S j (omega arith)) in
+    a j k ∙ ap (λ (u : List ℕ). fromSeven u j) q ∙ nth-seven S rest j (omega arith) ∙ sym (nth-passage S j (omega arith)) in
     let w : n ≡ length (map passageOf S) = rw (length-map S passageOf) e in
     copied-alike l xs (map passageOf S) n same ∙ copied-is l (map passageOf S) n h m
     ∙ ap₂ (λ (us ws : List Passage). us ++ ws) (ap (λ (k : ℕ). take k (map passageOf S)) w ∙ take-length (map passageOf S)) (ap (λ (k : ℕ). drop k l) e)

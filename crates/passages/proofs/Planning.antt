@@ -22,7 +22,7 @@ use Rattle.passages.specs.declared.Passage.{Passage}
 use Rattle.passages.specs.declared.Planned.{Planned}
 use Rattle.passages.specs.Passages.{PassagesCall, passageOf, keeping, passagesWith, passagesCall}
 use Rattle.passages.specs.Copied.{copied, copied-zero}
-use Rattle.passages.specs.Planned.{passageAt, Small, SmallRows, Laid, Says, Plans}
+use Rattle.passages.specs.Planned.{fromSeven, Small, SmallRows, Laid, Says, Plans}
 use Rattle.passages.proofs.Laying.{nth-seven, stored}
 use Rattle.passages.proofs.Bounds.{SmallVisit, all-small, few-passages}
 
@@ -121,8 +121,8 @@ module _ (bs : List ℕ) (b : Bytes bs) (zeros : List ℕ) (long : length zeros 
           small : (i : ℕ) → i < size → Small numbers i
           small i h =
               let w : SmallVisit (visitAt (found .0) i) = all-at noVisit (all-small bs b (found .0) (found .1)) i (omega (arith, size-is)) in
-              let q : passageAt numbers i ≡ passageOf (visitAt (found .0) i) =
-              ap (λ (l : List ℕ). passageAt l i) numbers-are ∙ nth-seven (found .0) (drop (length (found .0) * 7) zeros) i (omega (arith, size-is)) in
+              let q : fromSeven numbers i ≡ passageOf (visitAt (found .0) i) =
+              ap (λ (l : List ℕ). fromSeven l i) numbers-are ∙ nth-seven (found .0) (drop (length (found .0) * 7) zeros) i (omega (arith, size-is)) in
               record {
                 component = subst (λ (x : Passage). x .component < 256) (sym q) (w .component);
                 edge = subst (λ (x : Passage). x .edge < 256) (sym q) (w .edge);

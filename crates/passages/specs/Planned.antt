@@ -16,8 +16,8 @@ abbrev pub seventh : List ℕ → ℕ → ℕ → ℕ
 seventh l i k = getD l (i * 7 + k) 0
 
 -- passage i of a list of numbers
-abbrev pub passageAt : List ℕ → ℕ → Passage
-passageAt l i =
+abbrev pub fromSeven : List ℕ → ℕ → Passage
+fromSeven l i =
     record {
       component = getD l (i * 7) 0;
       edge = seventh l i 1;
@@ -44,7 +44,7 @@ pub record SmallRows (l : List ℕ) (n : ℕ) : Type 0 where
 pub record Laid (l : List ℕ) (n : ℕ) (p : Planned) : Type 0 where
   pub verdict : p .verdict ≡ Accepted
   pub count : p .count ≡ n
-  pub items : (i : ℕ) → i < n → getD (p .items) i blank ≡ passageAt l i
+  pub items : (i : ℕ) → i < n → getD (p .items) i blank ≡ fromSeven l i
 
 -- the call's answer, and what it leaves of the lent passages
 pub record Says (call : PassagesCall) (p : Planned) (lent : List Passage) : Type 0 where

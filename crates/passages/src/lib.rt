@@ -7,7 +7,7 @@ ghost use lib.ListN.{length, replicate};
 ghost use Rattle.model.specs.declared.Verdict.the-variants.{Refused};
 ghost use Rattle.passages.specs.Passages.{passagesCall};
 ghost use Rattle.passages.specs.Copied.{blank, copied};
-ghost use Rattle.passages.specs.Planned.{passageAt, Small, SmallRows, Laid, Plans};
+ghost use Rattle.passages.specs.Planned.{fromSeven, Small, SmallRows, Laid, Plans};
 use calls::Called;
 use model::Verdict;
 
@@ -33,7 +33,7 @@ pub struct Planned {
 // One passage from its seven numbers.
 fn passage_at(numbers: &[u32], i: usize) -> Passage
     requires { ⌜ (i * 7 + 7 ≤ length (now numbers)) × (i ≤ 1024) × Small (now numbers) i ⌝ }
-    ensures { λ r. ⌜ r ≡ passageAt (now (numbers .entry)) i ⌝ }
+    ensures { λ r. ⌜ r ≡ fromSeven (now (numbers .entry)) i ⌝ }
 {
     let at = i * 7;
     let component = numbers[at];
