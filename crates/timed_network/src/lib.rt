@@ -109,8 +109,10 @@ fn meetings_numbers(m: Listed) -> MeetingsNumbers
     requires { ⌜ m .size ≤ 65535 ⌝ }
     ensures { λ r. ⌜ (r .number ≡ numberOf (m .verdict)) × (r .component ≡ concernedOf (m .verdict)) × (r .refusal ≡ numberOf (m .table)) × (r .concerned ≡ concernedOf (m .table)) × (r .size ≡ m .size) ⌝ }
 {
-    let own = verdict_numbers(m.verdict);
-    let judged = verdict_numbers(m.table);
+    let verdict = m.verdict;
+    let table = m.table;
+    let own = verdict_numbers(verdict);
+    let judged = verdict_numbers(table);
     let size = m.size as u32;
     MeetingsNumbers {
         number: own.number,
