@@ -7,9 +7,9 @@ use Rattle.model.specs.declared.Verdict.the-variants.{Accepted, Refused}
 use Rattle.model.specs.Lists.{Answer, accepted, refused, _after_, each}
 use Rattle.model.specs.Table.{Read}
 use Rattle.model.specs.Places.{Valid}
-use Rattle.model.specs.Schedule.{Visit, schedule, sevenOf}
-use Rattle.model.specs.Checks.{plan, planOf}
-use Rattle.model.specs.Calls.{verdictOf, refusing, laid, planIn, checkCall, scheduleWith, scheduleCall}
+use Rattle.model.specs.Schedule.{Passage, schedule, sevenOf}
+use Rattle.model.specs.Checks.{acceptedSchedule, acceptedScheduleOf}
+use Rattle.model.specs.Calls.{verdictOf, refusing, laid, acceptedScheduleIn, checkCall, scheduleWith, scheduleCall}
 use Rattle.model.proofs.Located.{valid-read}
 use Rattle.table.proofs.Answered.{verdict-refused, verdict-accepted}
 use Rattle.rows.specs.Rows.{rowsOf}
@@ -20,18 +20,18 @@ use Rattle.schedule.proofs.Fields.{fields-light, laid-fits, laid-short}
 
 -- ## What was planned
 
-pub planned : (bs : List ℕ) → Valid bs → planIn bs ≡ filled.planIn bs
-unfolding planIn
-planned bs v = ap (λ (a : Answer Read). a after planOf) (valid-read bs v)
+pub planned : (bs : List ℕ) → Valid bs → acceptedScheduleIn bs ≡ filled.acceptedScheduleIn bs
+unfolding acceptedScheduleIn
+planned bs v = ap (λ (a : Answer Read). a after acceptedScheduleOf) (valid-read bs v)
 
-pub call-refused : (bs lent : List ℕ) {n c : ℕ} → planIn bs ≡ refused n c → scheduleCall bs lent ≡ refusing n c lent
+pub call-refused : (bs lent : List ℕ) {n c : ℕ} → acceptedScheduleIn bs ≡ refused n c → scheduleCall bs lent ≡ refusing n c lent
 unfolding scheduleCall
 call-refused bs lent e = ap (scheduleWith lent) e
 
-module _ (bs : List ℕ) (v : Valid bs) (r : Scheduled) (rows : List ℕ) (F : filled.Filled bs (filled.planIn bs) r rows) where
+module _ (bs : List ℕ) (v : Valid bs) (r : Scheduled) (rows : List ℕ) (F : filled.Filled bs (filled.acceptedScheduleIn bs) r rows) where
   -- refused
-  pub plan-refused : {n c : ℕ} → r .verdict ≡ Refused n c → planIn bs ≡ refused n c
-  plan-refused e = planned bs v ∙ verdict-refused (filled.planIn bs) (sym (F .verdict) ∙ e)
+  pub plan-refused : {n c : ℕ} → r .verdict ≡ Refused n c → acceptedScheduleIn bs ≡ refused n c
+  plan-refused e = planned bs v ∙ verdict-refused (filled.acceptedScheduleIn bs) (sym (F .verdict) ∙ e)
 
   pub verdict-is : r .verdict ≡ checkCall bs
   unfolding checkCall
@@ -39,12 +39,12 @@ module _ (bs : List ℕ) (v : Valid bs) (r : Scheduled) (rows : List ℕ) (F : f
 
   -- accepted
   module _ (e : r .verdict ≡ Accepted) where
-    pub passages : List Visit
-    passages = verdict-accepted (filled.planIn bs) (sym (F .verdict) ∙ e) .0
+    pub passages : List Passage
+    passages = verdict-accepted (filled.acceptedScheduleIn bs) (sym (F .verdict) ∙ e) .0
 
-    plan-is : filled.planIn bs ≡ accepted passages
+    plan-is : filled.acceptedScheduleIn bs ≡ accepted passages
     unfolding passages
-    plan-is = verdict-accepted (filled.planIn bs) (sym (F .verdict) ∙ e) .1
+    plan-is = verdict-accepted (filled.acceptedScheduleIn bs) (sym (F .verdict) ∙ e) .1
 
     pub count-is : r .count ≡ length passages
     count-is = F .count passages plan-is
@@ -60,7 +60,7 @@ module _ (bs : List ℕ) (v : Valid bs) (r : Scheduled) (rows : List ℕ) (F : f
     is-planned =
         record {
           passages = passages;
-          plan = plan-is;
+          acceptedSchedule = plan-is;
           count = count-is;
           listed = ap (λ (k : ℕ). rowsOf rows k) count-is ∙ F .rows passages plan-is;
           stand = record { few = few; fits = room };

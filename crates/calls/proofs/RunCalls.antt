@@ -13,11 +13,11 @@ use Rattle.model.specs.Lists.{Answer, accepted, refused, _after_, each}
 use Rattle.model.specs.Table.{Read}
 use Rattle.model.specs.Reader.{readTable}
 use Rattle.model.specs.Places.{Valid, readOf}
-use Rattle.model.specs.Schedule.{Visit, light}
-use Rattle.model.specs.Checks.{planOf}
+use Rattle.model.specs.Schedule.{Passage, light}
+use Rattle.model.specs.Checks.{acceptedScheduleOf}
 use Rattle.model.specs.Run.{Setting, settingOf, run, observationBytes}
 use Rattle.model.specs.Demand3.{Demand3, ticksIn}
-use Rattle.model.specs.Calls.{planIn, RunCall, notRun, ran, runWith, runPlanned, runRead, runCall, Demand3Of}
+use Rattle.model.specs.Calls.{acceptedScheduleIn, RunCall, notRun, ran, runWith, runPlanned, runRead, runCall, Demand3Of}
 use Rattle.model.proofs.Located.{valid-read}
 use Rattle.model.proofs.ObservationSize.{observations-long}
 use Rattle.model.proofs.WholePromise.{promised}
@@ -28,15 +28,15 @@ pub demanded : (table choices : List ℕ) → Demand3Of table choices
 demanded table choices t S e q = promised table t S e q choices
 
 -- a table that is not accepted is not run
-pub run-refused : (bs cs lent : List ℕ) {n c : ℕ} → planIn bs ≡ refused n c → runCall bs cs lent ≡ notRun n c lent
-unfolding runCall planIn
+pub run-refused : (bs cs lent : List ℕ) {n c : ℕ} → acceptedScheduleIn bs ≡ refused n c → runCall bs cs lent ≡ notRun n c lent
+unfolding runCall acceptedScheduleIn
 run-refused bs cs lent {n} {c} e = go (readTable bs) e
   where
-    planned : (t : Read) (b : Answer (List Visit)) → b ≡ refused n c → runPlanned t b cs lent ≡ notRun n c lent
-    planned t b q = ap (λ (x : Answer (List Visit)). runPlanned t x cs lent) q
+    planned : (t : Read) (b : Answer (List Passage)) → b ≡ refused n c → runPlanned t b cs lent ≡ notRun n c lent
+    planned t b q = ap (λ (x : Answer (List Passage)). runPlanned t x cs lent) q
 
-    go : (a : Answer Read) → (a after planOf) ≡ refused n c → runRead a cs lent ≡ notRun n c lent
-    go (accepted t) q = planned t (planOf t) q
+    go : (a : Answer Read) → (a after acceptedScheduleOf) ≡ refused n c → runRead a cs lent ≡ notRun n c lent
+    go (accepted t) q = planned t (acceptedScheduleOf t) q
     go (refused m d) q =
         let z : _≡_ {A = Answer Read} (refused m d) (refused n c) = cc in
         ap (λ (x : Answer Read). runRead x cs lent) z
@@ -56,10 +56,10 @@ length-take-most zero xs = omega arith
 length-take-most (suc k) [] = omega arith
 length-take-most (suc k) (x ∷ xs) = omega (arith, length-take-most k xs)
 
-module _ (bs cs lent : List ℕ) (v : Valid bs) (S : List Visit) (p : planOf (readOf bs) ≡ accepted S) where
+module _ (bs cs lent : List ℕ) (v : Valid bs) (S : List Passage) (p : acceptedScheduleOf (readOf bs) ≡ accepted S) where
   is-run : runCall bs cs lent ≡ runWith (readOf bs) S cs lent
   unfolding runCall
-  is-run = ap (λ (x : Answer Read). runRead x cs lent) (valid-read bs v) ∙ ap (λ (x : Answer (List Visit)). runPlanned (readOf bs) x cs lent) p
+  is-run = ap (λ (x : Answer Read). runRead x cs lent) (valid-read bs v) ∙ ap (λ (x : Answer (List Passage)). runPlanned (readOf bs) x cs lent) p
 
   pub too-short : length lent < length S * 32 → runCall bs cs lent ≡ notRun 13 255 lent
   too-short h = is-run ∙ rw (lt-ltb (length lent) (length S * 32) h)

@@ -13,28 +13,28 @@ use Rattle.model.specs.Lists.{Answer, accepted, refused, _after_}
 use Rattle.model.specs.Table.{Read}
 use Rattle.model.specs.Reader.{readTable}
 use Rattle.model.specs.Places.{Valid, readOf}
-use Rattle.model.specs.Schedule.{Visit}
-use Rattle.model.specs.Checks.{planOf}
+use Rattle.model.specs.Schedule.{Passage}
+use Rattle.model.specs.Checks.{acceptedScheduleOf}
 use Rattle.model.specs.Program.{programBytes}
-use Rattle.model.specs.Calls.{verdictOf, Call, refusing, laid, planIn, programIn, translateWith, checkCall, translateCall}
+use Rattle.model.specs.Calls.{verdictOf, Call, refusing, laid, acceptedScheduleIn, programIn, translateWith, checkCall, translateCall}
 use Rattle.model.proofs.Located.{valid-read}
 use Rattle.table.proofs.Answered.{verdict-refused, verdict-accepted}
 
 -- a table that is not accepted has no program
-pub translate-refused : (bs lent : List ℕ) {n c : ℕ} → planIn bs ≡ refused n c → translateCall bs lent ≡ refusing n c lent
-unfolding translateCall planIn
+pub translate-refused : (bs lent : List ℕ) {n c : ℕ} → acceptedScheduleIn bs ≡ refused n c → translateCall bs lent ≡ refusing n c lent
+unfolding translateCall acceptedScheduleIn
 translate-refused bs lent {n} {c} e = go (readTable bs) e
   where
-    planned : (t : Read) (b : Answer (List Visit)) → b ≡ refused n c → translateWith lent (b after λ S. accepted (programBytes t)) ≡ refusing n c lent
-    planned t b q = ap (λ (x : Answer (List Visit)). translateWith lent (x after λ S. accepted (programBytes t))) q
+    planned : (t : Read) (b : Answer (List Passage)) → b ≡ refused n c → translateWith lent (b after λ S. accepted (programBytes t)) ≡ refusing n c lent
+    planned t b q = ap (λ (x : Answer (List Passage)). translateWith lent (x after λ S. accepted (programBytes t))) q
 
-    go : (a : Answer Read) → (a after planOf) ≡ refused n c → translateWith lent (a after λ t. planOf t after λ S. accepted (programBytes t)) ≡ refusing n c lent
-    go (accepted t) q = planned t (planOf t) q
+    go : (a : Answer Read) → (a after acceptedScheduleOf) ≡ refused n c → translateWith lent (a after λ t. acceptedScheduleOf t after λ S. accepted (programBytes t)) ≡ refusing n c lent
+    go (accepted t) q = planned t (acceptedScheduleOf t) q
     go (refused m d) q = ap (translateWith lent) (let z : _≡_ {A = Answer (List ℕ)} (refused m d) (refused n c) = cc in z)
 
 pub check-refused : (bs lent : List ℕ) {v : Verdict} {n c : ℕ} → v ≡ checkCall bs → v ≡ Refused n c → translateCall bs lent ≡ refusing n c lent
 unfolding checkCall
-check-refused bs lent e q = translate-refused bs lent (verdict-refused (planIn bs) (sym e ∙ q))
+check-refused bs lent e q = translate-refused bs lent (verdict-refused (acceptedScheduleIn bs) (sym e ∙ q))
 
 module _ (bs : List ℕ) (v : Valid bs) {verdict : Verdict} (e : verdict ≡ checkCall bs) (q : verdict ≡ Accepted) where
   program : List ℕ
@@ -42,13 +42,13 @@ module _ (bs : List ℕ) (v : Valid bs) {verdict : Verdict} (e : verdict ≡ che
 
   -- the call lays the program over what is lent
   is-laid : (lent : List ℕ) → translateCall bs lent ≡ laid (length program) program lent
-  unfolding translateCall checkCall planIn program
+  unfolding translateCall checkCall acceptedScheduleIn program
   is-laid lent =
-      let a = verdict-accepted (planIn bs) (sym e ∙ q) in
+      let a = verdict-accepted (acceptedScheduleIn bs) (sym e ∙ q) in
       let r : readTable bs ≡ accepted (readOf bs) = valid-read bs v in
-      let p : planOf (readOf bs) ≡ accepted (a .0) = sym (ap (λ (x : Answer Read). x after planOf) r) ∙ a .1 in
-      ap (λ (x : Answer Read). translateWith lent (x after λ t. planOf t after λ S. accepted (programBytes t))) r
-      ∙ ap (λ (x : Answer (List Visit)). translateWith lent (x after λ S. accepted (programBytes (readOf bs)))) p
+      let p : acceptedScheduleOf (readOf bs) ≡ accepted (a .0) = sym (ap (λ (x : Answer Read). x after acceptedScheduleOf) r) ∙ a .1 in
+      ap (λ (x : Answer Read). translateWith lent (x after λ t. acceptedScheduleOf t after λ S. accepted (programBytes t))) r
+      ∙ ap (λ (x : Answer (List Passage)). translateWith lent (x after λ S. accepted (programBytes (readOf bs)))) p
 
   pub too-short : (lent : List ℕ) → length lent < length (programBytes (readOf bs)) → translateCall bs lent ≡ refusing 13 255 lent
   unfolding program

@@ -14,9 +14,9 @@ use lib.Count.{ones, trailingZeros, ones-step, ones-cat}
 use lib.ListN.{length, getD, set, length-set}
 use lib.Seq.{getD-set-same}
 use Rattle.model.specs.Lists.{only, snoc}
-use Rattle.model.specs.Schedule.{Visit}
+use Rattle.model.specs.Schedule.{Passage}
 use Rattle.model.specs.Checks.{startsEarlier, endsLater, heardWell}
-use Rattle.rows.specs.Rows.{num, rowVisit, rowsFrom, RowsPlaced}
+use Rattle.rows.specs.Rows.{num, rowPassage, rowsFrom, RowsPlaced}
 use Rattle.checks.specs.Listening.{repeatedWith, Alone, Masks, Noted}
 use Rattle.checks.proofs.Swept.{Near, back-in, back-out, Swept, swept-in, swept-out}
 
@@ -100,7 +100,7 @@ more-of-several m r c q = ⊎-elim (λ h. more-of-one m r c (omega arith)) (λ h
     go h false = h
 
 module _ (l : List ℕ) (n : ℕ) (rows : List ℕ) (m r k c : ℕ) (h : k < n) (e : c ≡ num l k 0) (s : c < 8) where
-  first-of-all : m ≡ 0 → r ≡ 0 → length rows ≡ 8 → Alone l n (rowVisit l k) (bitOr m (2 ^ c)) (repeatedWith m r c) (set rows c k)
+  first-of-all : m ≡ 0 → r ≡ 0 → length rows ≡ 8 → Alone l n (rowPassage l k) (bitOr m (2 ^ c)) (repeatedWith m r c) (set rows c k)
   first-of-all y z room =
       record {
         row = k;
@@ -111,23 +111,23 @@ module _ (l : List ℕ) (n : ℕ) (rows : List ℕ) (m r k c : ℕ) (h : k < n) 
         at = rw (← e) (getD-set-same rows c k 0 (omega (arith, room)));
       }
 
-  one-is-heard : (v : Visit) → Alone l n v m r rows → 1 ≤ ones m
+  one-is-heard : (v : Passage) → Alone l n v m r rows → 1 ≤ ones m
   one-is-heard v a = let q : ones m ≡ 1 = ap ones (a .bit) ∙ ones-of-bit (num l (a .row) 0) in omega arith
 
   -- row k is noted, of component c, before the windows found ..
-  pub noted-before : (found : List Visit) → Noted l n found m r rows → Noted l n (rowVisit l k ∷ found) (bitOr m (2 ^ c)) (repeatedWith m r c) (set rows c k)
+  pub noted-before : (found : List Passage) → Noted l n found m r rows → Noted l n (rowPassage l k ∷ found) (bitOr m (2 ^ c)) (repeatedWith m r c) (set rows c k)
   noted-before found q = record { masks = go found (q .masks); room = length-set rows c k ∙ q .room }
     where
-      go : (vs : List Visit) → Masks l n vs m r rows → Masks l n (rowVisit l k ∷ vs) (bitOr m (2 ^ c)) (repeatedWith m r c) (set rows c k)
+      go : (vs : List Passage) → Masks l n vs m r rows → Masks l n (rowPassage l k ∷ vs) (bitOr m (2 ^ c)) (repeatedWith m r c) (set rows c k)
       go [] a = first-of-all (a .0) (a .1) (q .room)
       go (v ∷ []) a = more-of-one m r c (one-is-heard v a)
       go (v ∷ w ∷ vs) a = more-of-several m r c a
 
   -- .. or after them
-  pub noted-after : (found : List Visit) → Noted l n found m r rows → Noted l n (snoc found (rowVisit l k)) (bitOr m (2 ^ c)) (repeatedWith m r c) (set rows c k)
+  pub noted-after : (found : List Passage) → Noted l n found m r rows → Noted l n (snoc found (rowPassage l k)) (bitOr m (2 ^ c)) (repeatedWith m r c) (set rows c k)
   noted-after found q = record { masks = go found (q .masks); room = length-set rows c k ∙ q .room }
     where
-      go : (vs : List Visit) → Masks l n vs m r rows → Masks l n (snoc vs (rowVisit l k)) (bitOr m (2 ^ c)) (repeatedWith m r c) (set rows c k)
+      go : (vs : List Passage) → Masks l n vs m r rows → Masks l n (snoc vs (rowPassage l k)) (bitOr m (2 ^ c)) (repeatedWith m r c) (set rows c k)
       go [] a = first-of-all (a .0) (a .1) (q .room)
       go (v ∷ []) a = more-of-one m r c (one-is-heard v a)
       go (v ∷ w ∷ vs) a = more-of-several m r c a
@@ -135,19 +135,19 @@ module _ (l : List ℕ) (n : ℕ) (rows : List ℕ) (m r k c : ℕ) (h : k < n) 
 -- ## The loop over the rows before row i
 
 -- what is found and noted from row j on, up to row i
-pub record ListenedBack (p : Visit → Bool) (l : List ℕ) (n i j listening repeated : ℕ) (rows : List ℕ) : Type 0 where
-  pub found : List Visit
+pub record ListenedBack (p : Passage → Bool) (l : List ℕ) (n i j listening repeated : ℕ) (rows : List ℕ) : Type 0 where
+  pub found : List Passage
   pub back : only p (rowsFrom l j (i - j)) ≡ found
   pub noted : Noted l n found listening repeated rows
 
-module _ (p : Visit → Bool) (bs l : List ℕ) (n i : ℕ) (r : RowsPlaced bs l n) (there : i < n) (near : Near p l i)
+module _ (p : Passage → Bool) (bs l : List ℕ) (n i : ℕ) (r : RowsPlaced bs l n) (there : i < n) (near : Near p l i)
     (j k m q : ℕ) (rows : List ℕ) (h : k < i) (b : j ≤ k) (ended : (t : ℕ) → j ≤ t → t < k → num l t 5 < num l i 4)
-    (x : Bool) (e : x ≡ p (rowVisit l k)) (a : ListenedBack p l n i (k + 1) m q rows) (m' q' : ℕ) (rows' : List ℕ) where
+    (x : Bool) (e : x ≡ p (rowPassage l k)) (a : ListenedBack p l n i (k + 1) m q rows) (m' q' : ℕ) (rows' : List ℕ) where
   pub listened-back-in : x ≡ true → (c : ℕ) → c ≡ num l k 0 → c < 8 → q' ≡ repeatedWith m q c → m' ≡ bitOr m (2 ^ c) → rows' ≡ set rows c k → ListenedBack p l n i j m' q' rows'
   listened-back-in t c f s u v w =
       rw (u, v, w)
       record {
-        found = rowVisit l k ∷ a .found;
+        found = rowPassage l k ∷ a .found;
         back = back-in p bs l n i r there near j k (a .found) h b ended (a .back) x e t;
         noted = noted-before l n rows m q k c (omega (arith, h, there)) f s (a .found) (a .noted);
       }
@@ -160,17 +160,17 @@ module _ (p : Visit → Bool) (bs l : List ℕ) (n i : ℕ) (r : RowsPlaced bs l
 -- ## The loop from row i on
 
 -- what is found and noted before row j
-pub record Listened (p : Visit → Bool) (l : List ℕ) (n j listening repeated : ℕ) (rows : List ℕ) : Type 0 where
-  pub found : List Visit
+pub record Listened (p : Passage → Bool) (l : List ℕ) (n j listening repeated : ℕ) (rows : List ℕ) : Type 0 where
+  pub found : List Passage
   pub swept : Swept p l n j found
   pub noted : Noted l n found listening repeated rows
 
-module _ (p : Visit → Bool) (l : List ℕ) (n j m q : ℕ) (rows : List ℕ) (x : Bool) (h : j < n) (e : x ≡ p (rowVisit l j)) (a : Listened p l n j m q rows) (m' q' : ℕ) (rows' : List ℕ) where
+module _ (p : Passage → Bool) (l : List ℕ) (n j m q : ℕ) (rows : List ℕ) (x : Bool) (h : j < n) (e : x ≡ p (rowPassage l j)) (a : Listened p l n j m q rows) (m' q' : ℕ) (rows' : List ℕ) where
   pub listened-in : x ≡ true → (c : ℕ) → c ≡ num l j 0 → c < 8 → q' ≡ repeatedWith m q c → m' ≡ bitOr m (2 ^ c) → rows' ≡ set rows c j → Listened p l n (j + 1) m' q' rows'
   listened-in t c f s u v w =
       rw (u, v, w)
       record {
-        found = snoc (a .found) (rowVisit l j);
+        found = snoc (a .found) (rowPassage l j);
         swept = swept-in p l n j (a .found) x h e t (a .swept);
         noted = noted-after l n rows m q j c h f s (a .found) (a .noted);
       }
@@ -183,24 +183,24 @@ module _ (p : Visit → Bool) (l : List ℕ) (n j m q : ℕ) (rows : List ℕ) (
 -- ## The decision
 
 -- the listener's number gives its row, whose window is the only one found
-pub record AloneAt (l : List ℕ) (n listening : ℕ) (rows : List ℕ) (found : List Visit) : Type 0 where
+pub record AloneAt (l : List ℕ) (n listening : ℕ) (rows : List ℕ) (found : List Passage) : Type 0 where
   pub small : trailingZeros 8 listening < 8
   pub there : getD rows (trailingZeros 8 listening) 0 < n
-  pub only : found ≡ rowVisit l (getD rows (trailingZeros 8 listening) 0) ∷ []
+  pub only : found ≡ rowPassage l (getD rows (trailingZeros 8 listening) 0) ∷ []
 
 module _ (l : List ℕ) (n m r : ℕ) (rows : List ℕ) where
   -- the count of ones is not one, or a component listens by more than one window
-  pub not-one : (s : Visit) (found : List Visit) → Noted l n found m r rows → (ones m ≡ 1 → ⊥) → false ≡ heardWell s found
+  pub not-one : (s : Passage) (found : List Passage) → Noted l n found m r rows → (ones m ≡ 1 → ⊥) → false ≡ heardWell s found
   not-one s [] q h = refl
   not-one s (v ∷ []) q h = absurd (h (ap ones (q .masks .bit) ∙ ones-of-bit (num l (q .masks .row) 0)))
   not-one s (v ∷ w ∷ vs) q h = refl
 
-  pub not-once : (s : Visit) (found : List Visit) → Noted l n found m r rows → (r ≡ 0 → ⊥) → false ≡ heardWell s found
+  pub not-once : (s : Passage) (found : List Passage) → Noted l n found m r rows → (r ≡ 0 → ⊥) → false ≡ heardWell s found
   not-once s [] q h = refl
   not-once s (v ∷ []) q h = absurd (h (q .masks .once))
   not-once s (v ∷ w ∷ vs) q h = refl
 
-  pub listener : ((k : ℕ) → k < n → num l k 0 < 8) → ones m ≡ 1 → r ≡ 0 → (found : List Visit) → Noted l n found m r rows → AloneAt l n m rows found
+  pub listener : ((k : ℕ) → k < n → num l k 0 < 8) → ones m ≡ 1 → r ≡ 0 → (found : List Passage) → Noted l n found m r rows → AloneAt l n m rows found
   listener small one once [] q = absurd (omega (arith, ap ones (q .masks .0), no-ones, one))
   listener small one once (v ∷ []) q =
       let a = q .masks in
@@ -210,11 +210,11 @@ module _ (l : List ℕ) (n m r : ℕ) (rows : List ℕ) where
       record {
         small = omega (arith, z, s);
         there = omega (arith, t, a .there);
-        only = ap (λ (w : Visit). w ∷ []) (a .is) ∙ ap (λ (k : ℕ). rowVisit l k ∷ []) (sym t);
+        only = ap (λ (w : Passage). w ∷ []) (a .is) ∙ ap (λ (k : ℕ). rowPassage l k ∷ []) (sym t);
       }
   listener small one once (v ∷ w ∷ vs) q = absurd (⊎-elim (λ (h : 2 ≤ ones m). omega (arith, one)) (λ (h : 1 ≤ r). omega (arith, once)) (q .masks))
 
 -- .. which is held against the send window
-pub heard-alone : (l : List ℕ) (s : Visit) (found : List Visit) (k : ℕ) (x : Bool) → found ≡ rowVisit l k ∷ []
-    → x ≡ startsEarlier (rowVisit l k) s && endsLater (rowVisit l k) s → x ≡ heardWell s found
+pub heard-alone : (l : List ℕ) (s : Passage) (found : List Passage) (k : ℕ) (x : Bool) → found ≡ rowPassage l k ∷ []
+    → x ≡ startsEarlier (rowPassage l k) s && endsLater (rowPassage l k) s → x ≡ heardWell s found
 heard-alone l s found k x e q = rw e q

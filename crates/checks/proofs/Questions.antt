@@ -11,11 +11,11 @@ use lib.ListN.{length}
 use Rattle.model.specs.Lists.{any, only}
 use Rattle.model.specs.Table.{Table}
 use Rattle.model.specs.Window.{channelOf}
-use Rattle.model.specs.Schedule.{Visit, visitArc, names, others}
+use Rattle.model.specs.Schedule.{Passage, passageArc, names, others}
 use Rattle.model.specs.Checks.{shareTick, startsEarlier, endsLater, isSend, isReceive, meets, collides, mayHear, heardWell, unheard, two, crowded}
 use Rattle.model.proofs.Members.{only-none, any-none, any-append}
 use Rattle.model.proofs.Heard.{two-is}
-use Rattle.rows.specs.Rows.{rowVisit, rowsFrom, rowsOf}
+use Rattle.rows.specs.Rows.{rowPassage, rowsFrom, rowsOf}
 use Rattle.rows.proofs.Sought.{rows-split}
 use Rattle.checks.proofs.Swept.{Near}
 
@@ -26,22 +26,22 @@ and-false true = refl
 and-false false = refl
 
 -- windows that share no tick
-apart-before : (v w : Visit) → w .end < v .ready → shareTick v w ≡ false
+apart-before : (v w : Passage) → w .end < v .ready → shareTick v w ≡ false
 apart-before v w h = rw (lt-leb (v .ready) (w .end) h)
 
-apart-after : (v w : Visit) → v .end < w .ready → shareTick v w ≡ false
+apart-after : (v w : Passage) → v .end < w .ready → shareTick v w ≡ false
 apart-after v w h = rw (lt-leb (w .ready) (v .end) h, and-false)
 
 -- of another component, with a tick shared: what `overlap` answers
-abbrev pub beside : Visit → Visit → Bool
+abbrev pub beside : Passage → Passage → Bool
 beside v w = others v w && shareTick v w
 
-pub beside-is : (v w : Visit) (vr we wr ve vc wc : ℕ) (x y : Bool) → vr ≡ v .ready → we ≡ w .end → wr ≡ w .ready → ve ≡ v .end → vc ≡ v .component → wc ≡ w .component
+pub beside-is : (v w : Passage) (vr we wr ve vc wc : ℕ) (x y : Bool) → vr ≡ v .ready → we ≡ w .end → wr ≡ w .ready → ve ≡ v .end → vc ≡ v .component → wc ≡ w .component
     → y ≡ leb vr we && leb wr ve → x ≡ not (eqb vc wc) && y → x ≡ beside v w
 beside-is v w vr we wr ve vc wc x y a b c d e f q p = rw (← a, ← b, ← c, ← d, ← e, ← f, ← q) p
 
 -- the listener starts earlier and ends later: what `surrounds` answers
-pub surrounds-is : (v w : Visit) (vr wr we ve : ℕ) (x : Bool) → vr ≡ v .ready → wr ≡ w .ready → we ≡ w .end → ve ≡ v .end
+pub surrounds-is : (v w : Passage) (vr wr we ve : ℕ) (x : Bool) → vr ≡ v .ready → wr ≡ w .ready → we ≡ w .end → ve ≡ v .end
     → x ≡ ltb vr wr && ltb we ve → x ≡ startsEarlier v w && endsLater v w
 surrounds-is v w vr wr we ve x a b c d q = rw (← a, ← b, ← c, ← d) q
 
@@ -61,19 +61,19 @@ numbers-first false false c d = refl
 
 module _ (T : Table) where
   -- who may hear s
-  abbrev pub hearing : Visit → Visit → Bool
+  abbrev pub hearing : Passage → Passage → Bool
   hearing s r = mayHear T r s
 
-  pub hear-near : (l : List ℕ) (i : ℕ) → Near (hearing (rowVisit l i)) l i
+  pub hear-near : (l : List ℕ) (i : ℕ) → Near (hearing (rowPassage l i)) l i
   hear-near l i =
       record {
-        before = λ j h. rw (apart-after (rowVisit l j) (rowVisit l i) h, and-false);
-        after = λ j h. rw (apart-before (rowVisit l j) (rowVisit l i) h, and-false);
+        before = λ j h. rw (apart-after (rowPassage l j) (rowPassage l i) h, and-false);
+        after = λ j h. rw (apart-before (rowPassage l j) (rowPassage l i) h, and-false);
       }
 
-  module _ (r s : Visit) where
-    hear-order : mayHear T r s ≡ beside r s && (isReceive T r && names (visitArc T r) (channelOf (visitArc T s)))
-    hear-order = numbers-first (isReceive T r) (others r s) (names (visitArc T r) (channelOf (visitArc T s))) (shareTick r s)
+  module _ (r s : Passage) where
+    hear-order : mayHear T r s ≡ beside r s && (isReceive T r && names (passageArc T r) (channelOf (passageArc T s)))
+    hear-order = numbers-first (isReceive T r) (others r s) (names (passageArc T r) (channelOf (passageArc T s))) (shareTick r s)
 
     pub not-beside : (x : Bool) → x ≡ beside r s → not x ≡ true → false ≡ mayHear T r s
     not-beside x e t = let f : beside r s ≡ false = sym e ∙ not-true x t in sym (hear-order ∙ rw f)
@@ -81,26 +81,26 @@ module _ (T : Table) where
     pub not-receive : (x : Bool) → x ≡ isReceive T r → not x ≡ true → false ≡ mayHear T r s
     not-receive x e t = let f : isReceive T r ≡ false = sym e ∙ not-true x t in rw f
 
-    hears : (y : Bool) → beside r s ≡ true → isReceive T r ≡ true → y ≡ names (visitArc T r) (channelOf (visitArc T s)) → y ≡ mayHear T r s
+    hears : (y : Bool) → beside r s ≡ true → isReceive T r ≡ true → y ≡ names (passageArc T r) (channelOf (passageArc T s)) → y ≡ mayHear T r s
     hears y f g q = q ∙ sym (hear-order ∙ rw (f, g))
 
-    pub hear : (x w y : Bool) (m : Option ℕ) → x ≡ beside r s → not x ≡ false → w ≡ isReceive T r → not w ≡ false → m ≡ channelOf (visitArc T s)
-        → y ≡ names (visitArc T r) m → y ≡ mayHear T r s
-    hear x w y m e t f u k q = hears y (sym e ∙ not-false x t) (sym f ∙ not-false w u) (q ∙ ap (names (visitArc T r)) k)
+    pub hear : (x w y : Bool) (m : Option ℕ) → x ≡ beside r s → not x ≡ false → w ≡ isReceive T r → not w ≡ false → m ≡ channelOf (passageArc T s)
+        → y ≡ names (passageArc T r) m → y ≡ mayHear T r s
+    hear x w y m e t f u k q = hears y (sym e ∙ not-false x t) (sym f ∙ not-false w u) (q ∙ ap (names (passageArc T r)) k)
 
 -- ## The questions
 
 module _ (T : Table) (H : ℕ) where
   -- ## 10
 
-  pub meets-near : (l : List ℕ) (i : ℕ) → Near (meets T H (rowVisit l i)) l i
+  pub meets-near : (l : List ℕ) (i : ℕ) → Near (meets T H (rowPassage l i)) l i
   meets-near l i =
       record {
-        before = λ j h. rw (apart-before (rowVisit l i) (rowVisit l j) h, and-false);
-        after = λ j h. rw (apart-after (rowVisit l i) (rowVisit l j) h, and-false);
+        before = λ j h. rw (apart-before (rowPassage l i) (rowPassage l j) h, and-false);
+        after = λ j h. rw (apart-after (rowPassage l i) (rowPassage l j) h, and-false);
       }
 
-  module _ (s o : Visit) where
+  module _ (s o : Passage) where
     meets-order : meets T H s o ≡ beside o s && isSend T H o
     meets-order = go (isSend T H o) (others o s) (leb (s .ready) (o .end)) (leb (o .ready) (s .end))
       where
@@ -123,14 +123,14 @@ module _ (T : Table) (H : ℕ) where
     met x y e t q = let f : beside o s ≡ true = sym e ∙ not-false x t in q ∙ sym (meets-order ∙ rw f)
 
   -- what is asked of sends only
-  pub not-asked : (s : Visit) (x b : Bool) → x ≡ isSend T H s → not x ≡ true → false ≡ isSend T H s && b
+  pub not-asked : (s : Passage) (x b : Bool) → x ≡ isSend T H s → not x ≡ true → false ≡ isSend T H s && b
   not-asked s x b e t = let f : isSend T H s ≡ false = sym e ∙ not-true x t in rw f
 
-  asked : (s : Visit) (x b y : Bool) → x ≡ isSend T H s → not x ≡ false → y ≡ b → y ≡ isSend T H s && b
+  asked : (s : Passage) (x b y : Bool) → x ≡ isSend T H s → not x ≡ false → y ≡ b → y ≡ isSend T H s && b
   asked s x b y e t q = let f : isSend T H s ≡ true = sym e ∙ not-false x t in rw f q
 
   -- with one of the rows before row i
-  pub collides-before : (l : List ℕ) (n i : ℕ) → i ≤ n → (s : Visit) (x : Bool) → x ≡ isSend T H s → not x ≡ false → any (meets T H s) (rowsOf l i) ≡ true
+  pub collides-before : (l : List ℕ) (n i : ℕ) → i ≤ n → (s : Passage) (x : Bool) → x ≡ isSend T H s → not x ≡ false → any (meets T H s) (rowsOf l i) ≡ true
       → true ≡ collides T H (rowsOf l n) s
   collides-before l n i h s x e t q =
       let k : n ≡ i + (n - i) = omega arith in
@@ -142,17 +142,17 @@ module _ (T : Table) (H : ℕ) where
       ∙ rw q
       ))
 
-  module _ (S : List Visit) (s : Visit) (x : Bool) (e : x ≡ isSend T H s) (t : not x ≡ false) where
+  module _ (S : List Passage) (s : Passage) (x : Bool) (e : x ≡ isSend T H s) (t : not x ≡ false) where
     pub collides-none : [] ≡ only (meets T H s) S → false ≡ collides T H S s
     collides-none q = asked s x _ false e t (sym (any-none (meets T H s) S .1 (only-none (meets T H s) S .0 (sym q))))
 
-    pub collides-one : (v : Visit) (vs : List Visit) → v ∷ vs ≡ only (meets T H s) S → true ≡ collides T H S s
+    pub collides-one : (v : Passage) (vs : List Passage) → v ∷ vs ≡ only (meets T H s) S → true ≡ collides T H S s
     collides-one v vs q = asked s x _ true e t (sym (go S q))
       where
-        p : Visit → Bool
+        p : Passage → Bool
         p = meets T H s
 
-        go : (S : List Visit) → v ∷ vs ≡ only p S → any p S ≡ true
+        go : (S : List Passage) → v ∷ vs ≡ only p S → any p S ≡ true
         go [] k = let z : _≡_ {A = ℕ} 0 1 = cc in absurd (omega arith)
         go (w ∷ S) k = each (go S) (p w) k
           where
@@ -167,26 +167,26 @@ module _ (T : Table) (H : ℕ) where
 
   -- ## 12
 
-  module _ (r s : Visit) where
+  module _ (r s : Passage) where
     pub no-send-beside : (x : Bool) → x ≡ beside r s → not x ≡ true → false ≡ isSend T H s && mayHear T r s
     no-send-beside x e t = rw (← not-beside T r s x e t) (sym (and-false (isSend T H s)))
 
     pub hear-send : (x w y : Bool) (m : Option ℕ) → x ≡ beside r s → not x ≡ false → w ≡ isSend T H s → not w ≡ false → isReceive T r ≡ true
-        → m ≡ channelOf (visitArc T s) → y ≡ names (visitArc T r) m → y ≡ isSend T H s && mayHear T r s
-    hear-send x w y m e t f u g k q = asked s w _ y f u (hears T r s y (sym e ∙ not-false x t) g (q ∙ ap (names (visitArc T r)) k))
+        → m ≡ channelOf (passageArc T s) → y ≡ names (passageArc T r) m → y ≡ isSend T H s && mayHear T r s
+    hear-send x w y m e t f u g k q = asked s w _ y f u (hears T r s y (sym e ∙ not-false x t) g (q ∙ ap (names (passageArc T r)) k))
 
   -- a send that r may hear
-  abbrev pub heardSend : Visit → Visit → Bool
+  abbrev pub heardSend : Passage → Passage → Bool
   heardSend r s = isSend T H s && mayHear T r s
 
-  pub heard-near : (l : List ℕ) (i : ℕ) → Near (heardSend (rowVisit l i)) l i
+  pub heard-near : (l : List ℕ) (i : ℕ) → Near (heardSend (rowPassage l i)) l i
   heard-near l i =
       record {
-        before = λ j h. rw (apart-before (rowVisit l i) (rowVisit l j) h, and-false, and-false);
-        after = λ j h. rw (apart-after (rowVisit l i) (rowVisit l j) h, and-false, and-false);
+        before = λ j h. rw (apart-before (rowPassage l i) (rowPassage l j) h, and-false, and-false);
+        after = λ j h. rw (apart-after (rowPassage l i) (rowPassage l j) h, and-false, and-false);
       }
 
-  module _ (S : List Visit) (r : Visit) (x : Bool) (e : x ≡ isReceive T r) where
+  module _ (S : List Passage) (r : Passage) (x : Bool) (e : x ≡ isReceive T r) where
     pub not-crowded : not x ≡ true → false ≡ crowded T H S r
     not-crowded t = let f : isReceive T r ≡ false = sym e ∙ not-true x t in rw f
 
@@ -196,13 +196,13 @@ module _ (T : Table) (H : ℕ) where
     crowded-by : not x ≡ false → (y : Bool) → y ≡ two (only (heardSend r) S) → y ≡ crowded T H S r
     crowded-by t y q = q ∙ sym (ap (λ (b : Bool). b && two (only (heardSend r) S)) (is-receive t))
 
-    pub crowded-few : not x ≡ false → (found : List Visit) → length found ≤ 1 → found ≡ only (heardSend r) S → false ≡ crowded T H S r
+    pub crowded-few : not x ≡ false → (found : List Passage) → length found ≤ 1 → found ≡ only (heardSend r) S → false ≡ crowded T H S r
     crowded-few t found h q = crowded-by t false (sym (two-is (only (heardSend r) S) .1 (rw (← q) h)))
 
-    pub crowded-two : not x ≡ false → (found vs : List Visit) → 2 ≤ length found → found ++ vs ≡ only (heardSend r) S → true ≡ crowded T H S r
+    pub crowded-two : not x ≡ false → (found vs : List Passage) → 2 ≤ length found → found ++ vs ≡ only (heardSend r) S → true ≡ crowded T H S r
     crowded-two t found vs h q = crowded-by t true (rw (← q) (many found h))
       where
-        many : (found : List Visit) → 2 ≤ length found → true ≡ two (found ++ vs)
+        many : (found : List Passage) → 2 ≤ length found → true ≡ two (found ++ vs)
         many [] k = absurd (omega arith)
         many (v ∷ []) k = absurd (omega arith)
         many (v ∷ w ∷ found) k = refl

@@ -13,7 +13,7 @@ use Rattle.model.specs.Lists.{isNone}
 use Rattle.model.specs.Table.{Table}
 use Rattle.model.specs.Window.{sends, channelOf}
 use Rattle.model.specs.Places.{readOf}
-use Rattle.model.specs.Schedule.{Visit, visitArc}
+use Rattle.model.specs.Schedule.{Passage, passageArc}
 use Rattle.model.specs.Checks.{isSend}
 use Rattle.model.proofs.RoundTrip.{written-read}
 use Rattle.model.proofs.Located.{valid-read}
@@ -36,7 +36,7 @@ row-stands bs l n i b r h = record { fits = omega (arith, r .fits); small = row-
 
 -- ## A send with ready < H: the number first
 
-module _ (T : Table) (H : ℕ) (v : Visit) where
+module _ (T : Table) (H : ℕ) (v : Passage) where
   and-false : (a : Bool) → a && false ≡ false
   and-false true = refl
   and-false false = refl
@@ -44,7 +44,7 @@ module _ (T : Table) (H : ℕ) (v : Visit) where
   pub ready-late : H ≤ v .ready → false ≡ isSend T H v
   ready-late h = rw (le-ltb (v .ready) H h, and-false)
 
-  pub ready-early : (x : Bool) → v .ready < H → x ≡ not (isNone (channelOf (visitArc T v))) → x ≡ isSend T H v
+  pub ready-early : (x : Bool) → v .ready < H → x ≡ not (isNone (channelOf (passageArc T v))) → x ≡ isSend T H v
   ready-early x h e = rw (lt-ltb (v .ready) H h, ← e) (same x)
     where
       same : (a : Bool) → a ≡ a && true

@@ -5,16 +5,16 @@ use Prim.Native.Nat.{ℕ, _+_, _*_, _≤_, _<_}
 use lib.ListN.{length}
 use Rattle.model.specs.Lists.{first, Answer, accepted}
 use Rattle.model.specs.Table.{Table}
-use Rattle.model.specs.Schedule.{Visit}
+use Rattle.model.specs.Schedule.{Passage}
 use Rattle.model.specs.Checks.{unheard, crowded, faultOf}
-use Rattle.rows.specs.Rows.{num, rowVisit}
+use Rattle.rows.specs.Rows.{num, rowPassage}
 use Rattle.checks.specs.declared.Fault.{Fault}
 use Rattle.checks.specs.declared.Fault.the-variants.{Nothing, At}
 
 -- as the passage that it is
-abbrev pub faultView : List ℕ → Fault → Option Visit
+abbrev pub faultView : List ℕ → Fault → Option Passage
 faultView l Nothing = none
-faultView l (At i) = some (rowVisit l i)
+faultView l (At i) = some (rowPassage l i)
 
 -- it is one of n rows
 abbrev pub FaultBelow : ℕ → Fault → Type 0
@@ -27,8 +27,8 @@ pub record RowStands (l : List ℕ) (i : ℕ) : Type 0 where
   pub small : num l i 0 < 8
 
 -- `checked` from question 12 on, and from question 11 on
-abbrev pub from12 : Table → ℕ → List Visit → Answer (List Visit)
+abbrev pub from12 : Table → ℕ → List Passage → Answer (List Passage)
 from12 T H S = faultOf 12 (first (crowded T H S) S) (accepted S)
 
-abbrev pub from11 : Table → ℕ → List Visit → Answer (List Visit)
+abbrev pub from11 : Table → ℕ → List Passage → Answer (List Passage)
 from11 T H S = faultOf 11 (first (unheard T H S) S) (from12 T H S)

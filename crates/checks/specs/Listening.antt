@@ -9,28 +9,28 @@ use lib.Bits.{bitOr}
 use lib.Count.{ones}
 use lib.Dec.{eqb}
 use lib.ListN.{length, getD}
-use Rattle.model.specs.Schedule.{Visit}
-use Rattle.rows.specs.Rows.{num, rowVisit}
+use Rattle.model.specs.Schedule.{Passage}
+use Rattle.rows.specs.Rows.{num, rowPassage}
 
 -- those that listen by more than one window, with one more window of component c, whose bit may be set already
 abbrev pub repeatedWith : ℕ → ℕ → ℕ → ℕ
 repeatedWith listening repeated c = cond (eqb (bitOr listening (2 ^ c)) listening) (bitOr repeated (2 ^ c)) repeated
 
 -- one window, of one of n rows: its component's bit alone is set, once, and the row stands at the component's place
-pub record Alone (l : List ℕ) (n : ℕ) (window : Visit) (listening repeated : ℕ) (rows : List ℕ) : Type 0 where
+pub record Alone (l : List ℕ) (n : ℕ) (window : Passage) (listening repeated : ℕ) (rows : List ℕ) : Type 0 where
   pub row : ℕ
   pub there : row < n
-  pub is : window ≡ rowVisit l row
+  pub is : window ≡ rowPassage l row
   pub bit : listening ≡ 2 ^ num l row 0
   pub once : repeated ≡ 0
   pub at : getD rows (num l row 0) 0 ≡ row
 
 -- no window, one, or more: then two components listen, or one by more than one window
-abbrev pub Masks : List ℕ → ℕ → List Visit → ℕ → ℕ → List ℕ → Type 0
+abbrev pub Masks : List ℕ → ℕ → List Passage → ℕ → ℕ → List ℕ → Type 0
 Masks l n [] listening repeated rows = (listening ≡ 0) × (repeated ≡ 0)
 Masks l n (v ∷ []) listening repeated rows = Alone l n v listening repeated rows
 Masks l n (v ∷ w ∷ vs) listening repeated rows = (2 ≤ ones listening) ⊎ (1 ≤ repeated)
 
-pub record Noted (l : List ℕ) (n : ℕ) (found : List Visit) (listening repeated : ℕ) (rows : List ℕ) : Type 0 where
+pub record Noted (l : List ℕ) (n : ℕ) (found : List Passage) (listening repeated : ℕ) (rows : List ℕ) : Type 0 where
   pub masks : Masks l n found listening repeated rows
   pub room : length rows ≡ 8

@@ -8,10 +8,10 @@ ghost use Rattle.model.specs.declared.Verdict.the-variants.{Refused};
 ghost use Rattle.model.specs.Lists.{first, any, only, isNone};
 ghost use Rattle.model.specs.Window.{channelOf};
 ghost use Rattle.model.specs.Places.{readOf};
-ghost use Rattle.model.specs.Schedule.{visitArc, others};
+ghost use Rattle.model.specs.Schedule.{passageArc, others};
 ghost use Rattle.model.specs.Checks.{shareTick, startsEarlier, endsLater, isSend, isReceive, meets, collides, unheard, crowded, heardWell, mayHear, checked};
 ghost use Rattle.model.specs.Calls.{verdictOf};
-ghost use Rattle.rows.specs.Rows.{num, messageOf, rowVisit, rowsOf, RowKnown, RowsPlaced};
+ghost use Rattle.rows.specs.Rows.{num, messageOf, rowPassage, rowsOf, RowKnown, RowsPlaced};
 ghost use Rattle.checks.specs.Faults.{faultView, FaultBelow, RowStands, from12, from11};
 ghost use Rattle.checks.specs.Listening.{repeatedWith, Noted};
 use model::Action;
@@ -33,7 +33,7 @@ struct Listeners {
 // Whether row i's edge sends.
 fn row_sends(s: &[u8], l: &[u32], i: usize) -> bool
     requires { ⌜ RowKnown (now s) (now l) i ⌝ }
-    ensures { λ r. ⌜ r ≡ not (isNone (channelOf (visitArc (readOf (now (s .entry)) .table) (rowVisit (now (l .entry)) i)))) ⌝ }
+    ensures { λ r. ⌜ r ≡ not (isNone (channelOf (passageArc (readOf (now (s .entry)) .table) (rowPassage (now (l .entry)) i)))) ⌝ }
 {
     let at = rows::index(l, i, 7);
     let action = decoder::action_at(&s[at..]);
@@ -47,7 +47,7 @@ fn row_sends(s: &[u8], l: &[u32], i: usize) -> bool
 // Whether row i is a send that is ready before the tick h.
 pub fn is_send(s: &[u8], l: &[u32], i: usize, h: u32) -> bool
     requires { ⌜ RowKnown (now s) (now l) i ⌝ }
-    ensures { λ r. ⌜ r ≡ isSend (readOf (now (s .entry)) .table) h (rowVisit (now (l .entry)) i) ⌝ }
+    ensures { λ r. ⌜ r ≡ isSend (readOf (now (s .entry)) .table) h (rowPassage (now (l .entry)) i) ⌝ }
 {
     if h <= rows::number(l, i, 4) {
         return false;
@@ -58,7 +58,7 @@ pub fn is_send(s: &[u8], l: &[u32], i: usize, h: u32) -> bool
 // Whether rows i and j are of different components and share a tick.
 fn overlap(l: &[u32], i: usize, j: usize) -> bool
     requires { ⌜ (i * 9 + 9 ≤ length (now l)) × (j * 9 + 9 ≤ length (now l)) ⌝ }
-    ensures { λ r. ⌜ r ≡ others (rowVisit (now (l .entry)) i) (rowVisit (now (l .entry)) j) && shareTick (rowVisit (now (l .entry)) i) (rowVisit (now (l .entry)) j) ⌝ }
+    ensures { λ r. ⌜ r ≡ others (rowPassage (now (l .entry)) i) (rowPassage (now (l .entry)) j) && shareTick (rowPassage (now (l .entry)) i) (rowPassage (now (l .entry)) j) ⌝ }
 {
     let started = rows::number(l, i, 4) <= rows::number(l, j, 5);
     let shared = parts::both(started, rows::number(l, j, 4) <= rows::number(l, i, 5));
@@ -68,7 +68,7 @@ fn overlap(l: &[u32], i: usize, j: usize) -> bool
 // Whether row j is a send of another component that shares a tick with row i, a send.
 pub fn is_met(s: &[u8], l: &[u32], i: usize, j: usize, h: u32) -> bool
     requires { ⌜ RowKnown (now s) (now l) i × RowKnown (now s) (now l) j ⌝ }
-    ensures { λ r. ⌜ r ≡ meets (readOf (now (s .entry)) .table) h (rowVisit (now (l .entry)) i) (rowVisit (now (l .entry)) j) ⌝ }
+    ensures { λ r. ⌜ r ≡ meets (readOf (now (s .entry)) .table) h (rowPassage (now (l .entry)) i) (rowPassage (now (l .entry)) j) ⌝ }
 {
     if !overlap(l, j, i) {
         return false;
@@ -80,7 +80,7 @@ pub fn is_met(s: &[u8], l: &[u32], i: usize, j: usize, h: u32) -> bool
 // are passed over by their links.
 fn is_met_before(s: &[u8], l: &[u32], n: usize, i: usize, h: u32) -> bool
     requires { ⌜ RowsPlaced (now s) (now l) n × (i < n) ⌝ }
-    ensures { λ r. ⌜ r ≡ any (meets (readOf (now (s .entry)) .table) h (rowVisit (now (l .entry)) i)) (rowsOf (now (l .entry)) i) ⌝ }
+    ensures { λ r. ⌜ r ≡ any (meets (readOf (now (s .entry)) .table) h (rowPassage (now (l .entry)) i)) (rowsOf (now (l .entry)) i) ⌝ }
 {
     let ready = rows::number(l, i, 4);
     let mut j = rows::open_before(l, i, ready);
@@ -97,7 +97,7 @@ fn is_met_before(s: &[u8], l: &[u32], n: usize, i: usize, h: u32) -> bool
 // Whether the send window of row i shares a tick with one of another component.
 pub fn collides_with_one(s: &[u8], l: &[u32], n: usize, i: usize, h: u32) -> bool
     requires { ⌜ RowsPlaced (now s) (now l) n × (i < n) ⌝ }
-    ensures { λ r. ⌜ r ≡ collides (readOf (now (s .entry)) .table) h (rowsOf (now (l .entry)) n) (rowVisit (now (l .entry)) i) ⌝ }
+    ensures { λ r. ⌜ r ≡ collides (readOf (now (s .entry)) .table) h (rowsOf (now (l .entry)) n) (rowPassage (now (l .entry)) i) ⌝ }
 {
     if !is_send(s, l, i, h) {
         return false;
@@ -121,8 +121,8 @@ pub fn collides_with_one(s: &[u8], l: &[u32], n: usize, i: usize, h: u32) -> boo
 
 // Whether row j hears the send window of row i, which is on that channel (255: none).
 pub fn may_hear(s: &[u8], l: &[u32], j: usize, i: usize, channel: u8) -> bool
-    requires { ⌜ RowKnown (now s) (now l) j × RowKnown (now s) (now l) i × (messageOf channel ≡ channelOf (visitArc (readOf (now s) .table) (rowVisit (now l) i))) ⌝ }
-    ensures { λ r. ⌜ r ≡ mayHear (readOf (now (s .entry)) .table) (rowVisit (now (l .entry)) j) (rowVisit (now (l .entry)) i) ⌝ }
+    requires { ⌜ RowKnown (now s) (now l) j × RowKnown (now s) (now l) i × (messageOf channel ≡ channelOf (passageArc (readOf (now s) .table) (rowPassage (now l) i))) ⌝ }
+    ensures { λ r. ⌜ r ≡ mayHear (readOf (now (s .entry)) .table) (rowPassage (now (l .entry)) j) (rowPassage (now (l .entry)) i) ⌝ }
 {
     if !overlap(l, j, i) {
         return false;
@@ -144,7 +144,7 @@ fn with_bit(mask: u8, c: usize) -> u8
 // Whether row k starts earlier and ends later than row i.
 fn surrounds(l: &[u32], k: usize, i: usize) -> bool
     requires { ⌜ (k * 9 + 9 ≤ length (now l)) × (i * 9 + 9 ≤ length (now l)) ⌝ }
-    ensures { λ r. ⌜ r ≡ startsEarlier (rowVisit (now (l .entry)) k) (rowVisit (now (l .entry)) i) && endsLater (rowVisit (now (l .entry)) k) (rowVisit (now (l .entry)) i) ⌝ }
+    ensures { λ r. ⌜ r ≡ startsEarlier (rowPassage (now (l .entry)) k) (rowPassage (now (l .entry)) i) && endsLater (rowPassage (now (l .entry)) k) (rowPassage (now (l .entry)) i) ⌝ }
 {
     let earlier = rows::number(l, k, 4) < rows::number(l, i, 4);
     parts::both(earlier, rows::number(l, i, 5) < rows::number(l, k, 5))
@@ -163,8 +163,8 @@ fn with_repeated(listening: u8, repeated: u8, c: usize) -> u8
 
 // Who listens to the send window of row i by a window before row i. Rows that ended before it are passed over by their links.
 fn listeners_before(s: &[u8], l: &[u32], n: usize, i: usize, channel: u8) -> Listeners
-    requires { ⌜ RowsPlaced (now s) (now l) n × (i < n) × (messageOf channel ≡ channelOf (visitArc (readOf (now s) .table) (rowVisit (now l) i))) ⌝ }
-    ensures { λ r. ⌜ Noted (now (l .entry)) n (only (λ v. mayHear (readOf (now (s .entry)) .table) v (rowVisit (now (l .entry)) i)) (rowsOf (now (l .entry)) i)) (r .listening) (r .repeated) (r .row) ⌝ }
+    requires { ⌜ RowsPlaced (now s) (now l) n × (i < n) × (messageOf channel ≡ channelOf (passageArc (readOf (now s) .table) (rowPassage (now l) i))) ⌝ }
+    ensures { λ r. ⌜ Noted (now (l .entry)) n (only (λ v. mayHear (readOf (now (s .entry)) .table) v (rowPassage (now (l .entry)) i)) (rowsOf (now (l .entry)) i)) (r .listening) (r .repeated) (r .row) ⌝ }
 {
     let mut listening: u8 = 0;
     let mut repeated: u8 = 0;
@@ -197,8 +197,8 @@ fn listeners_from(
     channel: u8,
     before: Listeners,
 ) -> Listeners
-    requires { ⌜ RowsPlaced (now s) (now l) n × (i < n) × (messageOf channel ≡ channelOf (visitArc (readOf (now s) .table) (rowVisit (now l) i))) × Noted (now l) n (only (λ v. mayHear (readOf (now s) .table) v (rowVisit (now l) i)) (rowsOf (now l) i)) (before .listening) (before .repeated) (before .row) ⌝ }
-    ensures { λ r. ⌜ Noted (now (l .entry)) n (only (λ v. mayHear (readOf (now (s .entry)) .table) v (rowVisit (now (l .entry)) i)) (rowsOf (now (l .entry)) n)) (r .listening) (r .repeated) (r .row) ⌝ }
+    requires { ⌜ RowsPlaced (now s) (now l) n × (i < n) × (messageOf channel ≡ channelOf (passageArc (readOf (now s) .table) (rowPassage (now l) i))) × Noted (now l) n (only (λ v. mayHear (readOf (now s) .table) v (rowPassage (now l) i)) (rowsOf (now l) i)) (before .listening) (before .repeated) (before .row) ⌝ }
+    ensures { λ r. ⌜ Noted (now (l .entry)) n (only (λ v. mayHear (readOf (now (s .entry)) .table) v (rowPassage (now (l .entry)) i)) (rowsOf (now (l .entry)) n)) (r .listening) (r .repeated) (r .row) ⌝ }
 {
     let until = rows::number(l, i, 5);
     let mut listening = before.listening;
@@ -229,7 +229,7 @@ fn listeners_from(
 // Two windows of one component are one bit and still a fault, so it may not listen by more than one.
 pub fn is_heard_well(s: &[u8], l: &[u32], n: usize, i: usize) -> bool
     requires { ⌜ RowsPlaced (now s) (now l) n × (i < n) ⌝ }
-    ensures { λ r. ⌜ r ≡ heardWell (rowVisit (now (l .entry)) i) (only (λ r. mayHear (readOf (now (s .entry)) .table) r (rowVisit (now (l .entry)) i)) (rowsOf (now (l .entry)) n)) ⌝ }
+    ensures { λ r. ⌜ r ≡ heardWell (rowPassage (now (l .entry)) i) (only (λ r. mayHear (readOf (now (s .entry)) .table) r (rowPassage (now (l .entry)) i)) (rowsOf (now (l .entry)) n)) ⌝ }
 {
     let channel = rows::row_sent(s, l, i);
     let before = listeners_before(s, l, n, i, channel);
@@ -247,7 +247,7 @@ pub fn is_heard_well(s: &[u8], l: &[u32], n: usize, i: usize) -> bool
 // Whether row i is a send that is not heard well.
 pub fn is_unheard(s: &[u8], l: &[u32], n: usize, i: usize, h: u32) -> bool
     requires { ⌜ RowsPlaced (now s) (now l) n × (i < n) ⌝ }
-    ensures { λ r. ⌜ r ≡ unheard (readOf (now (s .entry)) .table) h (rowsOf (now (l .entry)) n) (rowVisit (now (l .entry)) i) ⌝ }
+    ensures { λ r. ⌜ r ≡ unheard (readOf (now (s .entry)) .table) h (rowsOf (now (l .entry)) n) (rowPassage (now (l .entry)) i) ⌝ }
 {
     if !is_send(s, l, i, h) {
         return false;
@@ -257,8 +257,8 @@ pub fn is_unheard(s: &[u8], l: &[u32], n: usize, i: usize, h: u32) -> bool
 
 // Whether row j is a send that row i, a receive, may hear.
 fn hears_send(s: &[u8], l: &[u32], i: usize, j: usize, h: u32) -> bool
-    requires { ⌜ RowKnown (now s) (now l) i × RowKnown (now s) (now l) j × (isReceive (readOf (now s) .table) (rowVisit (now l) i) ≡ true) ⌝ }
-    ensures { λ r. ⌜ r ≡ isSend (readOf (now (s .entry)) .table) h (rowVisit (now (l .entry)) j) && mayHear (readOf (now (s .entry)) .table) (rowVisit (now (l .entry)) i) (rowVisit (now (l .entry)) j) ⌝ }
+    requires { ⌜ RowKnown (now s) (now l) i × RowKnown (now s) (now l) j × (isReceive (readOf (now s) .table) (rowPassage (now l) i) ≡ true) ⌝ }
+    ensures { λ r. ⌜ r ≡ isSend (readOf (now (s .entry)) .table) h (rowPassage (now (l .entry)) j) && mayHear (readOf (now (s .entry)) .table) (rowPassage (now (l .entry)) i) (rowPassage (now (l .entry)) j) ⌝ }
 {
     if !overlap(l, i, j) {
         return false;
@@ -271,8 +271,8 @@ fn hears_send(s: &[u8], l: &[u32], i: usize, j: usize, h: u32) -> bool
 
 // How many rows before row i, a receive, are sends that it may hear.
 fn sends_before(s: &[u8], l: &[u32], n: usize, i: usize, h: u32) -> usize
-    requires { ⌜ RowsPlaced (now s) (now l) n × (i < n) × (isReceive (readOf (now s) .table) (rowVisit (now l) i) ≡ true) ⌝ }
-    ensures { λ r. ⌜ r ≡ length (only (λ o. isSend (readOf (now (s .entry)) .table) h o && mayHear (readOf (now (s .entry)) .table) (rowVisit (now (l .entry)) i) o) (rowsOf (now (l .entry)) i)) ⌝ }
+    requires { ⌜ RowsPlaced (now s) (now l) n × (i < n) × (isReceive (readOf (now s) .table) (rowPassage (now l) i) ≡ true) ⌝ }
+    ensures { λ r. ⌜ r ≡ length (only (λ o. isSend (readOf (now (s .entry)) .table) h o && mayHear (readOf (now (s .entry)) .table) (rowPassage (now (l .entry)) i) o) (rowsOf (now (l .entry)) i)) ⌝ }
 {
     let ready = rows::number(l, i, 4);
     let mut sends: usize = 0;
@@ -290,7 +290,7 @@ fn sends_before(s: &[u8], l: &[u32], n: usize, i: usize, h: u32) -> usize
 // Whether the receive window of row i shares a tick with two send windows of other components on its channels.
 pub fn is_crowded(s: &[u8], l: &[u32], n: usize, i: usize, h: u32) -> bool
     requires { ⌜ RowsPlaced (now s) (now l) n × (i < n) ⌝ }
-    ensures { λ r. ⌜ r ≡ crowded (readOf (now (s .entry)) .table) h (rowsOf (now (l .entry)) n) (rowVisit (now (l .entry)) i) ⌝ }
+    ensures { λ r. ⌜ r ≡ crowded (readOf (now (s .entry)) .table) h (rowsOf (now (l .entry)) n) (rowPassage (now (l .entry)) i) ⌝ }
 {
     if !rows::row_receives(s, l, i) {
         return false;

@@ -9,10 +9,10 @@ use native.Mathlib.Omega.{arith}
 use borrow.Author.Tests.{lt-ltb, le-ltb}
 use lib.ListN.{length, drop, set, drop-of-length-le}
 use lib.Seq.{drop-cons, drop-drop}
-use Rattle.model.specs.Schedule.{Visit, own}
-use Rattle.model.specs.Checks.{noVisit, visitAt}
+use Rattle.model.specs.Schedule.{Passage, own}
+use Rattle.model.specs.Checks.{noPassage, passageAt}
 use Rattle.model.proofs.Own.{own-here, own-other}
-use Rattle.rows.specs.Rows.{num, rowVisit, rowsFrom, rowsOf}
+use Rattle.rows.specs.Rows.{num, rowPassage, rowsFrom, rowsOf}
 use Rattle.stand.specs.Stands.{never}
 use Rattle.registers.specs.Words.{wordIn}
 use Rattle.registers.proofs.Frames.{put-there, put-beside, put-length, put-others}
@@ -26,56 +26,56 @@ unfolding rowsFrom
 from-length rows i zero = refl
 from-length rows i (suc n) = ap suc (from-length rows (suc i) n)
 
-from-at : (rows : List ℕ) (i n k : ℕ) → k < n → visitAt (rowsFrom rows i n) k ≡ rowVisit rows (i + k)
+from-at : (rows : List ℕ) (i n k : ℕ) → k < n → passageAt (rowsFrom rows i n) k ≡ rowPassage rows (i + k)
 unfolding rowsFrom
 from-at rows i zero k h = absurd (omega arith)
-from-at rows i (suc n) zero h = ap (rowVisit rows) (sym (add-zero i))
+from-at rows i (suc n) zero h = ap (rowPassage rows) (sym (add-zero i))
 from-at rows i (suc n) (suc k) h =
     let e : suc i + k ≡ i + suc k = omega arith in
-    from-at rows (suc i) n k (omega arith) ∙ ap (rowVisit rows) e
+    from-at rows (suc i) n k (omega arith) ∙ ap (rowPassage rows) e
 
 -- n rows are n passages
 pub rows-length : (rows : List ℕ) (n : ℕ) → length (rowsOf rows n) ≡ n
 rows-length rows n = from-length rows 0 n
 
 -- passage number k is that of row k
-pub row-at : (rows : List ℕ) (n k : ℕ) → k < n → visitAt (rowsOf rows n) k ≡ rowVisit rows k
-row-at rows n k h = let e : 0 + k ≡ k = omega arith in from-at rows 0 n k h ∙ ap (rowVisit rows) e
+pub row-at : (rows : List ℕ) (n k : ℕ) → k < n → passageAt (rowsOf rows n) k ≡ rowPassage rows k
+row-at rows n k h = let e : 0 + k ≡ k = omega arith in from-at rows 0 n k h ∙ ap (rowPassage rows) e
 
 module _ (rows : List ℕ) (n : ℕ) where
   -- the passages from a row on
-  row-on : (k : ℕ) → k < n → drop k (rowsOf rows n) ≡ rowVisit rows k ∷ drop (suc k) (rowsOf rows n)
+  row-on : (k : ℕ) → k < n → drop k (rowsOf rows n) ≡ rowPassage rows k ∷ drop (suc k) (rowsOf rows n)
   row-on k h =
       let long : k < length (rowsOf rows n) = omega (arith, rows-length rows n) in
-      drop-cons (rowsOf rows n) k noVisit long ∙ ap (λ (v : Visit). v ∷ drop (suc k) (rowsOf rows n)) (row-at rows n k h)
+      drop-cons (rowsOf rows n) k noPassage long ∙ ap (λ (v : Passage). v ∷ drop (suc k) (rowsOf rows n)) (row-at rows n k h)
 
   -- a row of another component is passed over
   pub own-past : (c k : ℕ) → k < n → (num rows k 0 ≡ c → ⊥) → own c (drop (k + 1) (rowsOf rows n)) ≡ own c (drop k (rowsOf rows n))
   own-past c k h d =
       ap (λ (m : ℕ). own c (drop m (rowsOf rows n))) (add-one k)
-      ∙ sym (ap (own c) (row-on k h) ∙ own-other c (rowVisit rows k) (drop (suc k) (rowsOf rows n)) d)
+      ∙ sym (ap (own c) (row-on k h) ∙ own-other c (rowPassage rows k) (drop (suc k) (rowsOf rows n)) d)
 
   -- a row of the component is its next passage
-  own-next : (c k : ℕ) → k < n → num rows k 0 ≡ c → own c (drop k (rowsOf rows n)) ≡ rowVisit rows k ∷ own c (drop (suc k) (rowsOf rows n))
-  own-next c k h e = ap (own c) (row-on k h) ∙ own-here c (rowVisit rows k) (drop (suc k) (rowsOf rows n)) e
+  own-next : (c k : ℕ) → k < n → num rows k 0 ≡ c → own c (drop k (rowsOf rows n)) ≡ rowPassage rows k ∷ own c (drop (suc k) (rowsOf rows n))
+  own-next c k h e = ap (own c) (row-on k h) ∙ own-here c (rowPassage rows k) (drop (suc k) (rowsOf rows n)) e
 
   -- ## The ready of a row
 
   pub ready-of : (k : ℕ) → k < n → num rows k 4 ≡ readyAt (rowsOf rows n) k
   ready-of k h =
       let long : k < length (rowsOf rows n) = omega (arith, rows-length rows n) in
-      sym (ap (λ t. cond t (visitAt (rowsOf rows n) k .ready) never) (lt-ltb k (length (rowsOf rows n)) long)
-      ∙ ap (λ (v : Visit). v .ready) (row-at rows n k h))
+      sym (ap (λ t. cond t (passageAt (rowsOf rows n) k .ready) never) (lt-ltb k (length (rowsOf rows n)) long)
+      ∙ ap (λ (v : Passage). v .ready) (row-at rows n k h))
 
   pub no-ready : (k : ℕ) → n ≤ k → never ≡ readyAt (rowsOf rows n) k
   no-ready k h =
       let long : length (rowsOf rows n) ≤ k = omega (arith, rows-length rows n) in
-      sym (ap (λ t. cond t (visitAt (rowsOf rows n) k .ready) never) (le-ltb k (length (rowsOf rows n)) long))
+      sym (ap (λ t. cond t (passageAt (rowsOf rows n) k .ready) never) (le-ltb k (length (rowsOf rows n)) long))
 
   -- ## The row of the passage after
 
   -- one passage more
-  after : (k : ℕ) (ws : List Visit) {v : Visit} {vs : List Visit} → v ∷ vs ≡ drop k ws → vs ≡ drop (suc k) ws
+  after : (k : ℕ) (ws : List Passage) {v : Passage} {vs : List Passage} → v ∷ vs ≡ drop k ws → vs ≡ drop (suc k) ws
   after k ws e =
       let s : k + 1 ≡ suc k = add-one k in
       ap (drop 1) e ∙ drop-drop 1 k ws ∙ ap (λ (m : ℕ). drop m ws) s
@@ -85,7 +85,7 @@ module _ (rows : List ℕ) (n : ℕ) where
       → RowIs (rowsOf rows n) c k row → RowIs (rowsOf rows n) c (suc k) next
   row-passed c k row next h m e t r =
       let long = rows-length rows n in
-      let here : num rows row 0 ≡ c = sym (ap (λ (v : Visit). v .component) (row-at rows n row h)) ∙ r .there (omega arith) in
+      let here : num rows row 0 ≡ c = sym (ap (λ (v : Passage). v .component) (row-at rows n row h)) ∙ r .there (omega arith) in
       let step : own c (drop next (rowsOf rows n)) ≡ own c (drop (suc row) (rowsOf rows n)) =
       e ∙ ap (λ (i : ℕ). own c (drop i (rowsOf rows n))) (add-one row) in
       record {
@@ -93,7 +93,7 @@ module _ (rows : List ℕ) (n : ℕ) where
         rest = step ∙ after k (own c (rowsOf rows n)) (sym (own-next c row h here) ∙ r .rest);
         there = λ b.
             let in-rows : next < n = omega arith in
-            ap (λ (v : Visit). v .component) (row-at rows n next in-rows) ∙ t in-rows;
+            ap (λ (v : Passage). v .component) (row-at rows n next in-rows) ∙ t in-rows;
       }
 
   -- past the last row there is none

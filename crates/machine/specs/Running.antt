@@ -7,8 +7,8 @@ use lib.Dec.{ltb}
 use lib.IntN.{ℤ}
 use lib.ListN.{length, drop}
 use Rattle.model.specs.Lists.{below}
-use Rattle.model.specs.Schedule.{Visit, own}
-use Rattle.model.specs.Checks.{visitAt}
+use Rattle.model.specs.Schedule.{Passage, own}
+use Rattle.model.specs.Checks.{passageAt}
 use Rattle.model.specs.Machine.{Node, partBytes}
 use Rattle.model.specs.Run.{Counts, Setting, readyOfNth, Run, standOf}
 use Rattle.rows.specs.Rows.{rowsOf}
@@ -24,14 +24,14 @@ pub record RowsStand (rows : List ℕ) (n : ℕ) : Type 0 where
   pub fits : n * 9 ≤ length rows
 
 -- row is the row of component c's passage number k, or the number of rows where it has none
-pub record RowIs (S : List Visit) (c k row : ℕ) : Type 0 where
+pub record RowIs (S : List Passage) (c k row : ℕ) : Type 0 where
   pub among : row ≤ length S
   pub rest : own c (drop row S) ≡ drop k (own c S)
-  pub there : row < length S → visitAt S row .component ≡ c
+  pub there : row < length S → passageAt S row .component ≡ c
 
 -- the ready of that passage
-abbrev pub readyAt : List Visit → ℕ → ℕ
-readyAt S row = cond (ltb row (length S)) (visitAt S row .ready) never
+abbrev pub readyAt : List Passage → ℕ → ℕ
+readyAt S row = cond (ltb row (length S)) (passageAt S row .ready) never
 
 -- ## The nodes
 

@@ -12,14 +12,14 @@ use Rattle.model.specs.declared.Verdict.the-variants.{Accepted, Refused}
 use Rattle.model.specs.Lists.{only, first, Answer, accepted, refused, _after_, each}
 use Rattle.model.specs.Table.{Table, Read}
 use Rattle.model.specs.Reader.{readTable}
-use Rattle.model.specs.Schedule.{Visit, schedule, sevenOf}
+use Rattle.model.specs.Schedule.{Passage, schedule, sevenOf}
 use Rattle.model.specs.Checks.{limit, isSend, meets, collides, mayHear, unheard, crowded, faultOf, checked}
 use Rattle.model.specs.Calls.{Call, refusing}
 use Rattle.model.specs.Meetings.{sendsMet, listenersMet, sendsHeard, withMet, concerned, concernedIn, listOr, meetingsIn, meetingsCall}
 use Rattle.model.proofs.Scheduled.{schedule-is}
 use Rattle.schedule.proofs.Fields.{laid-fits}
 
-only-few : (p : Visit → Bool) (S : List Visit) → length (only p S) ≤ length S
+only-few : (p : Passage → Bool) (S : List Passage) → length (only p S) ≤ length S
 only-few p [] = omega arith
 only-few p (v ∷ S) = go (only-few p S) (p v)
   where
@@ -27,8 +27,8 @@ only-few p (v ∷ S) = go (only-few p S) (p v)
     go h true = omega arith
     go h false = omega arith
 
-module _ (T : Table) (H : ℕ) (S : List Visit) where
-  met-few : (met : Visit → List Visit) → ((v : Visit) → length (met v) ≤ length S) → (o : Option Visit) (vs : List Visit) → length vs ≤ suc (length S)
+module _ (T : Table) (H : ℕ) (S : List Passage) where
+  met-few : (met : Passage → List Passage) → ((v : Passage) → length (met v) ≤ length S) → (o : Option Passage) (vs : List Passage) → length vs ≤ suc (length S)
       → length (withMet met o vs) ≤ suc (length S)
   met-few met h none vs e = e
   met-few met h (some v) vs e = omega (arith, h v)
@@ -46,7 +46,7 @@ module _ (T : Table) (H : ℕ) (S : List Visit) where
   unfolding concerned checked
   concerned-none = go (first (collides T H S) S) (first (unheard T H S) S) (first (crowded T H S) S)
     where
-      go : (a b c : Option Visit)
+      go : (a b c : Option Passage)
           → (withMet (sendsMet T H S) a (withMet (listenersMet T S) b (withMet (sendsHeard T H S) c [])) ≡ [])
           ↔ (faultOf 10 a (faultOf 11 b (faultOf 12 c (accepted S))) ≡ accepted S)
       go none none none = (λ e. refl, λ e. refl)
@@ -59,7 +59,7 @@ pub meetings-few : (bs : List ℕ) → length (meetingsIn bs) ≤ 1025
 unfolding meetingsIn
 meetings-few bs = go (readTable bs)
   where
-    made : (t : Read) (a : Answer (List Visit)) → schedule limit (t .table) (t .horizon) ≡ a
+    made : (t : Read) (a : Answer (List Passage)) → schedule limit (t .table) (t .horizon) ≡ a
         → length (listOr (a after λ S. accepted (concerned (t .table) (t .horizon) S))) ≤ 1025
     made t (refused n c) q = omega arith
     made t (accepted S) q = omega (arith, concerned-few (t .table) (t .horizon) S, schedule-is (t .table) (t .horizon) limit q .few)

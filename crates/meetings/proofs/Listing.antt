@@ -12,14 +12,14 @@ use Rattle.model.specs.Lists.{first, Answer, accepted, refused, _after_, each}
 use Rattle.model.specs.Table.{Table, Read}
 use Rattle.model.specs.Reader.{readTable}
 use Rattle.model.specs.Places.{Valid, readOf}
-use Rattle.model.specs.Schedule.{Visit, sevenOf, light}
-use Rattle.model.specs.Checks.{isSend, meets, collides, mayHear, unheard, crowded, faultOf, checked, plan, planOf}
-use Rattle.model.specs.Calls.{Call, verdictOf, laid, planIn, checkCall}
+use Rattle.model.specs.Schedule.{Passage, sevenOf, light}
+use Rattle.model.specs.Checks.{isSend, meets, collides, mayHear, unheard, crowded, faultOf, checked, acceptedSchedule, acceptedScheduleOf}
+use Rattle.model.specs.Calls.{Call, verdictOf, laid, acceptedScheduleIn, checkCall}
 use Rattle.model.specs.Meetings.{sendsMet, listenersMet, sendsHeard, withMet, concerned, concernedIn, listOr, meetingsIn, MeetingsCall, about, meetingsCall}
 use Rattle.model.proofs.Independence.{only-map}
 use Rattle.model.proofs.Located.{valid-read}
 use Rattle.table.proofs.Answered.{verdict-refused}
-use Rattle.rows.specs.Rows.{num, rowVisit, rowsOf}
+use Rattle.rows.specs.Rows.{num, rowPassage, rowsOf}
 use Rattle.checks.specs.declared.Fault.{Fault}
 use Rattle.checks.specs.declared.Fault.the-variants.{Nothing, At}
 use Rattle.checks.specs.Faults.{faultView}
@@ -41,7 +41,7 @@ module _ (given : Verdict) (lent : List ℕ) (r : Listed) (e : r .table ≡ give
       subst (λ (c : Call). Says (about given c) r lent) (sym (laid-fits [] 0 [] lent refl refl (omega arith)))
       (record { table = e; verdict = a; size = b; lent = refl })
 
-  module _ (P : List Visit) (k : ℕ) (q : k ≡ length P) where
+  module _ (P : List Passage) (k : ℕ) (q : k ≡ length P) where
     -- the list is too short ..
     pub says-short : length lent < k * 7 → r .verdict ≡ Refused 13 255 → r .size ≡ 0 → Says (listing given P lent) r lent
     says-short h a b =
@@ -56,25 +56,25 @@ module _ (given : Verdict) (lent : List ℕ) (r : Listed) (e : r .table ≡ give
 
 -- ## The questions
 
-module _ (p : Visit → Bool) (S : List Visit) (l : List ℕ) (f : Fault) (seen : faultView l f ≡ first p S) (number : ℕ) (met : Visit → List Visit) (further : Answer (List Visit)) (others : List Visit) (lent : List ℕ) (r : Listed) (written : List ℕ) where
+module _ (p : Passage → Bool) (S : List Passage) (l : List ℕ) (f : Fault) (seen : faultView l f ≡ first p S) (number : ℕ) (met : Passage → List Passage) (further : Answer (List Passage)) (others : List Passage) (lent : List ℕ) (r : Listed) (written : List ℕ) where
   -- no row is at fault: the next question ..
   pub passed : f ≡ Nothing → Says (listing (verdictOf further) others lent) r written
       → Says (listing (verdictOf (faultOf number (first p S) further)) (withMet met (first p S) others) lent) r written
   passed e q = rw (← seen, e) q
 
   -- .. or the first that is, with those that it meets
-  pub failed : (i : ℕ) → f ≡ At i → Says (listing (Refused number (num l i 0)) (rowVisit l i ∷ met (rowVisit l i)) lent) r written
+  pub failed : (i : ℕ) → f ≡ At i → Says (listing (Refused number (num l i 0)) (rowPassage l i ∷ met (rowPassage l i)) lent) r written
       → Says (listing (verdictOf (faultOf number (first p S) further)) (withMet met (first p S) others) lent) r written
   failed i e q = rw (← seen, e) q
 
 -- ## The passages behind the rows
 
-met-light : (met met′ : Visit → List Visit) → ((v : Visit) → met′ (light v) ≡ map light (met v)) → (o : Option Visit) (vs ws : List Visit) → ws ≡ map light vs
+met-light : (met met′ : Passage → List Passage) → ((v : Passage) → met′ (light v) ≡ map light (met v)) → (o : Option Passage) (vs ws : List Passage) → ws ≡ map light vs
     → withMet met′ (Option·map light o) ws ≡ map light (withMet met o vs)
 met-light met met′ same none vs ws e = e
-met-light met met′ same (some v) vs ws e = ap (λ (us : List Visit). light v ∷ us) (same v)
+met-light met met′ same (some v) vs ws e = ap (λ (us : List Passage). light v ∷ us) (same v)
 
-module _ (T : Table) (H : ℕ) (S : List Visit) where
+module _ (T : Table) (H : ℕ) (S : List Passage) where
   -- the passages concerned are the same
   concerned-light : concerned T H (map light S) ≡ map light (concerned T H S)
   unfolding concerned
@@ -92,25 +92,25 @@ module _ (T : Table) (H : ℕ) (S : List Visit) where
   pub listing-light : (lent : List ℕ)
       → listing (verdictOf (checked T H (map light S))) (concerned T H (map light S)) lent ≡ listing (verdictOf (checked T H S)) (concerned T H S) lent
   listing-light lent =
-      ap₂ (λ (given : Verdict) (P : List Visit). listing given P lent) (checked-light T H S) concerned-light
+      ap₂ (λ (given : Verdict) (P : List Passage). listing given P lent) (checked-light T H S) concerned-light
       ∙ ap₂ (λ (k : ℕ) (out : List ℕ). about (verdictOf (checked T H S)) (laid k out lent)) (length-map (concerned T H S) light) (fields-light (concerned T H S))
 
 -- ## A table that was read
 
 -- not at all: 1 to 6
 pub read-not : (bs lent : List ℕ) {n c : ℕ} → readTable bs ≡ refused n c → meetingsCall bs lent ≡ listing (Refused n c) [] lent
-unfolding meetingsCall checkCall planIn meetingsIn
-read-not bs lent e = ap (λ (a : Answer Read). listing (verdictOf (a after planOf)) (listOr (a after concernedIn)) lent) e
+unfolding meetingsCall checkCall acceptedScheduleIn meetingsIn
+read-not bs lent e = ap (λ (a : Answer Read). listing (verdictOf (a after acceptedScheduleOf)) (listOr (a after concernedIn)) lent) e
 
 module _ (bs lent : List ℕ) (v : Valid bs) where
-  planned : Answer (List Visit) → MeetingsCall
+  planned : Answer (List Passage) → MeetingsCall
   planned a =
       listing (verdictOf (a after λ S. checked (readOf bs .table) (readOf bs .horizon) S))
       (listOr (a after λ S. accepted (concerned (readOf bs .table) (readOf bs .horizon) S))) lent
 
   call-is : meetingsCall bs lent ≡ planned (scheduleOf bs)
-  unfolding meetingsCall checkCall planIn plan meetingsIn planned
-  call-is = ap (λ (a : Answer Read). listing (verdictOf (a after planOf)) (listOr (a after concernedIn)) lent) (valid-read bs v)
+  unfolding meetingsCall checkCall acceptedScheduleIn acceptedSchedule meetingsIn planned
+  call-is = ap (λ (a : Answer Read). listing (verdictOf (a after acceptedScheduleOf)) (listOr (a after concernedIn)) lent) (valid-read bs v)
 
   module _ (r : Scheduled) (rows : List ℕ) (F : Filled bs (scheduleOf bs) r rows) where
     -- 7 to 9
@@ -126,6 +126,6 @@ module _ (bs lent : List ℕ) (v : Valid bs) where
         let S = was bs r rows F e .0 in
         let q = was bs r rows F e .1 in
         let light-rows : rowsOf rows (r .count) ≡ map light S = ap (rowsOf rows) (F .count S q) ∙ F .rows S q in
-        ap₂ (λ (k : ℕ) (W : List Visit). listing (verdictOf (checked (readOf bs .table) k W)) (concerned (readOf bs .table) k W) lent) h light-rows
+        ap₂ (λ (k : ℕ) (W : List Passage). listing (verdictOf (checked (readOf bs .table) k W)) (concerned (readOf bs .table) k W) lent) h light-rows
         ∙ listing-light (readOf bs .table) (readOf bs .horizon) S lent
         ∙ sym (call-is ∙ ap planned q)

@@ -7,7 +7,7 @@ use lib.ListN.{length}
 use Rattle.model.specs.declared.Verdict.{Verdict}
 use Rattle.model.specs.Lists.{only, first, each}
 use Rattle.model.specs.Table.{Table}
-use Rattle.model.specs.Schedule.{Visit, sevenOf}
+use Rattle.model.specs.Schedule.{Passage, sevenOf}
 use Rattle.model.specs.Checks.{isSend, meets, mayHear, unheard, crowded}
 use Rattle.model.specs.Calls.{laid}
 use Rattle.model.specs.Meetings.{listenersMet, sendsHeard, withMet, MeetingsCall, about}
@@ -22,24 +22,24 @@ numberAsked Unheard = 11
 numberAsked Crowded = 12
 
 -- w is one that v, at fault, meets
-abbrev pub metBy : Question → Table → ℕ → Visit → Visit → Bool
+abbrev pub metBy : Question → Table → ℕ → Passage → Passage → Bool
 metBy Collision T H v w = meets T H v w
 metBy Unheard T H v w = mayHear T w v
 metBy Crowded T H v w = isSend T H w && mayHear T v w
 
 -- the passage at fault, and those that it meets
-abbrev pub foundBy : Question → Table → ℕ → List Visit → Visit → List Visit
+abbrev pub foundBy : Question → Table → ℕ → List Passage → Passage → List Passage
 foundBy q T H S v = v ∷ only (metBy q T H v) S
 
 -- `concerned` from question 12 on, and from question 11 on
-abbrev pub concerned12 : Table → ℕ → List Visit → List Visit
+abbrev pub concerned12 : Table → ℕ → List Passage → List Passage
 concerned12 T H S = withMet (sendsHeard T H S) (first (crowded T H S) S) []
 
-abbrev pub concerned11 : Table → ℕ → List Visit → List Visit
+abbrev pub concerned11 : Table → ℕ → List Passage → List Passage
 concerned11 T H S = withMet (listenersMet T S) (first (unheard T H S) S) (concerned12 T H S)
 
 -- the call that lists these passages of a table with that verdict
-abbrev pub listing : Verdict → List Visit → List ℕ → MeetingsCall
+abbrev pub listing : Verdict → List Passage → List ℕ → MeetingsCall
 listing given P lent = about given (laid (length P) (each sevenOf P) lent)
 
 -- the answer, and the list afterwards, are those of the call

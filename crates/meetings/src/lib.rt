@@ -13,7 +13,7 @@ ghost use Rattle.model.specs.Checks.{checked};
 ghost use Rattle.model.specs.Calls.{verdictOf};
 ghost use Rattle.model.specs.Meetings.{concerned, meetingsCall};
 ghost use Rattle.table.specs.Directory.{startsOf};
-ghost use Rattle.rows.specs.Rows.{num, rowVisit, rowsOf, RowKnown, RowsPlaced};
+ghost use Rattle.rows.specs.Rows.{num, rowPassage, rowsOf, RowKnown, RowsPlaced};
 ghost use Rattle.checks.specs.Faults.{from12, from11};
 ghost use Rattle.meetings.specs.Asked.{numberAsked, metBy, foundBy, concerned12, concerned11, listing, Says};
 use checks::Fault;
@@ -65,7 +65,7 @@ fn horizon(s: &[u8]) -> u32
 // Whether row j is one that row i, at fault by that question, meets.
 fn is_met(s: &[u8], l: &[u32], i: usize, j: usize, h: u32, q: Question) -> bool
     requires { ⌜ RowKnown (now s) (now l) i × RowKnown (now s) (now l) j ⌝ }
-    ensures { λ r. ⌜ r ≡ metBy q (readOf (now (s .entry)) .table) h (rowVisit (now (l .entry)) i) (rowVisit (now (l .entry)) j) ⌝ }
+    ensures { λ r. ⌜ r ≡ metBy q (readOf (now (s .entry)) .table) h (rowPassage (now (l .entry)) i) (rowPassage (now (l .entry)) j) ⌝ }
 {
     match q {
         Question::Collision => checks::is_met(s, l, i, j, h),
@@ -80,7 +80,7 @@ fn is_met(s: &[u8], l: &[u32], i: usize, j: usize, h: u32, q: Question) -> bool
 // How many of n rows row i meets.
 fn count_met(s: &[u8], l: &[u32], n: usize, i: usize, h: u32, q: Question) -> usize
     requires { ⌜ RowsPlaced (now s) (now l) n × (i < n) ⌝ }
-    ensures { λ r. ⌜ (r ≡ length (only (metBy q (readOf (now (s .entry)) .table) h (rowVisit (now (l .entry)) i)) (rowsOf (now (l .entry)) n))) × (r ≤ n) ⌝ }
+    ensures { λ r. ⌜ (r ≡ length (only (metBy q (readOf (now (s .entry)) .table) h (rowPassage (now (l .entry)) i)) (rowsOf (now (l .entry)) n))) × (r ≤ n) ⌝ }
 {
     let mut count: usize = 0;
     let mut j: usize = 0;
@@ -95,8 +95,8 @@ fn count_met(s: &[u8], l: &[u32], n: usize, i: usize, h: u32, q: Question) -> us
 
 // Writes row i and those of n rows that it meets; what lies past them stays.
 fn put_met(s: &[u8], l: &[u32], n: usize, i: usize, h: u32, q: Question, list: &mut [u32])
-    requires { ⌜ RowsPlaced (now s) (now l) n × (i < n) × (length (foundBy q (readOf (now s) .table) h (rowsOf (now l) n) (rowVisit (now l) i)) * 7 ≤ length (now list)) ⌝ }
-    ensures { λ _. ⌜ now (list .exit) ≡ each sevenOf (foundBy q (readOf (now (s .entry)) .table) h (rowsOf (now (l .entry)) n) (rowVisit (now (l .entry)) i)) ++ drop (length (foundBy q (readOf (now (s .entry)) .table) h (rowsOf (now (l .entry)) n) (rowVisit (now (l .entry)) i)) * 7) (now (list .entry)) ⌝ }
+    requires { ⌜ RowsPlaced (now s) (now l) n × (i < n) × (length (foundBy q (readOf (now s) .table) h (rowsOf (now l) n) (rowPassage (now l) i)) * 7 ≤ length (now list)) ⌝ }
+    ensures { λ _. ⌜ now (list .exit) ≡ each sevenOf (foundBy q (readOf (now (s .entry)) .table) h (rowsOf (now (l .entry)) n) (rowPassage (now (l .entry)) i)) ++ drop (length (foundBy q (readOf (now (s .entry)) .table) h (rowsOf (now (l .entry)) n) (rowPassage (now (l .entry)) i)) * 7) (now (list .entry)) ⌝ }
 {
     schedule::put_seven(l, i, list, 0);
     let mut k: usize = 1;
@@ -121,7 +121,7 @@ fn list_fault(
     list: &mut [u32],
 ) -> Listed
     requires { ⌜ RowsPlaced (now s) (now l) n × (i < n) ⌝ }
-    ensures { λ r. ⌜ Says (listing (Refused (numberAsked q) (num (now (l .entry)) i 0)) (foundBy q (readOf (now (s .entry)) .table) h (rowsOf (now (l .entry)) n) (rowVisit (now (l .entry)) i)) (now (list .entry))) r (now (list .exit)) ⌝ }
+    ensures { λ r. ⌜ Says (listing (Refused (numberAsked q) (num (now (l .entry)) i 0)) (foundBy q (readOf (now (s .entry)) .table) h (rowsOf (now (l .entry)) n) (rowPassage (now (l .entry)) i)) (now (list .entry))) r (now (list .exit)) ⌝ }
 {
     let size = count_met(s, l, n, i, h, q) + 1;
     let table = checks::refused(l, number_of(q), i);

@@ -9,10 +9,10 @@ use Rattle.model.specs.declared.Verdict.the-variants.{Accepted, Refused}
 use Rattle.model.specs.Lists.{_∈_, Bytes, Answer, accepted, refused, _after_}
 use Rattle.model.specs.Table.{Table, Read}
 use Rattle.model.specs.Reader.{readTable}
-use Rattle.model.specs.Schedule.{Visit, schedule}
+use Rattle.model.specs.Schedule.{Passage, schedule}
 use Rattle.model.specs.Chains.{IsSchedule}
-use Rattle.model.specs.Checks.{limit, checked, plan, planOf}
-use Rattle.model.specs.Calls.{verdictOf, planIn, checkCall}
+use Rattle.model.specs.Checks.{limit, checked, acceptedSchedule, acceptedScheduleOf}
+use Rattle.model.specs.Calls.{verdictOf, acceptedScheduleIn, checkCall}
 use Rattle.model.specs.Acceptance.{Accepts}
 use Rattle.model.proofs.Parts.{after-ok}
 use Rattle.model.proofs.RoundTrip.{law}
@@ -27,24 +27,24 @@ was-accepted : {A : Type 0} (a : Answer A) → verdictOf a ≡ Accepted → (x :
 was-accepted (accepted x) e = (x, refl)
 was-accepted (refused n c) e = absurd (let z : _≡_ {A = ℕ} 0 1 = cc in omega arith)
 
--- a plan is a schedule that the checks 10 to 12 accept
-plan-is : (most : ℕ) (T : Table) (H : ℕ) (S : List Visit) → (plan most T H ≡ accepted S) ↔ (IsSchedule most T H S × (checked T H S ≡ accepted S))
-unfolding plan
-plan-is most T H S = (schedule-at T H most S, λ p. ap (λ (x : Answer (List Visit)). x after λ X. checked T H X) (is-schedule most T H S .1 (p .0)) ∙ p .1)
+-- a acceptedSchedule is a schedule that the checks 10 to 12 accept
+plan-is : (most : ℕ) (T : Table) (H : ℕ) (S : List Passage) → (acceptedSchedule most T H ≡ accepted S) ↔ (IsSchedule most T H S × (checked T H S ≡ accepted S))
+unfolding acceptedSchedule
+plan-is most T H S = (schedule-at T H most S, λ p. ap (λ (x : Answer (List Passage)). x after λ X. checked T H X) (is-schedule most T H S .1 (p .0)) ∙ p .1)
 
 -- no window ends before it starts
-windows : {most : ℕ} {T : Table} {H : ℕ} {S : List Visit} → IsSchedule most T H S → (v : Visit) → v ∈ S → v .ready ≤ v .end
+windows : {most : ℕ} {T : Table} {H : ℕ} {S : List Passage} → IsSchedule most T H S → (v : Passage) → v ∈ S → v .ready ≤ v .end
 windows s v i = let e = all-in (entered s) i in omega (arith, e .wide)
 
 -- the call `check` accepts exactly what demand 2 says
 pub accepted-is : (bytes : List ℕ) → Bytes bytes → (checkCall bytes ≡ Accepted) ↔ Accepts bytes
-unfolding checkCall planIn
+unfolding checkCall acceptedScheduleIn
 accepted-is bytes b = (to, from)
   where
     to : checkCall bytes ≡ Accepted → Accepts bytes
     to e =
-        let s = was-accepted (planIn bytes) e in
-        let r = after-ok (readTable bytes) planOf (s .1) in
+        let s = was-accepted (acceptedScheduleIn bytes) e in
+        let r = after-ok (readTable bytes) acceptedScheduleOf (s .1) in
         let l = law bytes (r .0) b .0 (r .1) in
         let p = plan-is limit (r .0 .table) (r .0 .horizon) (s .0) .0 (r .2) in
         record {
@@ -62,4 +62,4 @@ accepted-is bytes b = (to, from)
         let H = a .network .horizon in
         let r = law bytes (a .network) b .1 (a .limits, a .is) in
         let c = independent T H (a .passages) (windows (a .schedule)) .1 (a .independent) in
-        ap verdictOf (ap (λ (x : Answer Read). x after planOf) r ∙ plan-is limit T H (a .passages) .1 (a .schedule, c))
+        ap verdictOf (ap (λ (x : Answer Read). x after acceptedScheduleOf) r ∙ plan-is limit T H (a .passages) .1 (a .schedule, c))

@@ -13,8 +13,8 @@ use lib.Seq.{append-snoc, getD-at}
 use Rattle.model.specs.Lists.{_∈_, here, All, empty, more, snoc, accepted, _after_}
 use Rattle.model.specs.Table.{Component, Table, noComponent, size, componentOf, arcOf}
 use Rattle.model.specs.Window.{Entry, channelOf}
-use Rattle.model.specs.Schedule.{Visit, visitArc, own, messageIn, withMessage, startEntry, opening, begin, goOn, finished, schedule}
-use Rattle.model.specs.Checks.{visitAt}
+use Rattle.model.specs.Schedule.{Passage, passageArc, own, messageIn, withMessage, startEntry, opening, begin, goOn, finished, schedule}
+use Rattle.model.specs.Checks.{passageAt}
 use Rattle.model.specs.Chains.{Opens, Chain, Chained, Before, Ordered, IsSchedule}
 use Rattle.model.specs.Chains.{more as first-passage}
 use Rattle.model.proofs.Opening.{opened}
@@ -25,28 +25,28 @@ use Rattle.model.proofs.Passages.{opens-follows, entered}
 use Rattle.model.proofs.Retrace.{map-snoc, chain-link, bare, Fine, Along, retrace}
 
 -- a component's first passage opens at tick 0, in the component
-starts-at : (c : ℕ) (C : Component) (w : Visit) → Opens c C (startEntry C) w → (w .entry .tick ≡ 0) × (w .component ≡ c)
+starts-at : (c : ℕ) (C : Component) (w : Passage) → Opens c C (startEntry C) w → (w .entry .tick ≡ 0) × (w .component ≡ c)
 starts-at c C w o = let k = opened c C (startEntry C) o in (ap (λ (x : Entry). x .tick) (k .entry), k .component)
 
 -- the same chain of an equal list
-chained-of : {H c : ℕ} {C : Component} {vs ws : List Visit} → vs ≡ ws → Chained H c C vs → Chained H c C ws
+chained-of : {H c : ℕ} {C : Component} {vs ws : List Passage} → vs ≡ ws → Chained H c C vs → Chained H c C ws
 chained-of e k = record { head = k .head; tail = k .tail; is = sym e ∙ k .is; starts = k .starts; chain = k .chain }
 
-module _ (T : Table) (H : ℕ) (S : List Visit) where
+module _ (T : Table) (H : ℕ) (S : List Passage) where
   -- components 0 up to c have opened, and rest is yet to open
-  record Begun (room c : ℕ) (heads rest : List Visit) : Type 0 where
+  record Begun (room c : ℕ) (heads rest : List Passage) : Type 0 where
     split : S ≡ heads ++ rest
     full : length heads ≡ c
-    each : (k : ℕ) → k < c → visitAt heads k .component ≡ k
-    fineHeads : (k : ℕ) → k < c → Fine T H S (visitAt heads k)
-    chains : (k : ℕ) → k < c → Chain H k (componentOf T k) (visitAt heads k) (own k rest)
+    each : (k : ℕ) → k < c → passageAt heads k .component ≡ k
+    fineHeads : (k : ℕ) → k < c → Fine T H S (passageAt heads k)
+    chains : (k : ℕ) → k < c → Chain H k (componentOf T k) (passageAt heads k) (own k rest)
     chained : (k : ℕ) → c ≤ k → k < size T → Chained H k (componentOf T k) (own k rest)
     fine : All (Fine T H S) rest
     order : Ordered rest
     few : length rest ≤ room
 
   -- the next to open, where component c is yet to open
-  module _ (room c : ℕ) (hc : c < size T) (heads : List Visit) (w : Visit) (rest : List Visit) (before : All (Before w) rest) (o : Ordered rest) (fw : Fine T H S w)
+  module _ (room c : ℕ) (hc : c < size T) (heads : List Passage) (w : Passage) (rest : List Passage) (before : All (Before w) rest) (o : Ordered rest) (fw : Fine T H S w)
       (fr : All (Fine T H S) rest) (a : Begun (suc room) c heads (w ∷ rest)) where
     -- were it of another component, that of c would come first
     never : (w .component ≡ c → ⊥) → ((w .entry .tick ≡ 0) × (c < w .component)) ⊎ (0 < w .entry .tick) → ⊥
@@ -56,7 +56,7 @@ module _ (T : Table) (H : ℕ) (S : List Visit) where
         let b : Before w (k .head) = all-in before (own-in c rest (subst (λ l. k .head ∈ l) (sym (k .is)) (here refl)) .0) in
         go (k .head) t b f
       where
-        go : (h : Visit) → (h .entry .tick ≡ 0) × (h .component ≡ c) → Before w h → ((w .entry .tick ≡ 0) × (c < w .component)) ⊎ (0 < w .entry .tick) → ⊥
+        go : (h : Passage) → (h .entry .tick ≡ 0) × (h .component ≡ c) → Before w h → ((w .entry .tick ≡ 0) × (c < w .component)) ⊎ (0 < w .entry .tick) → ⊥
         go h t (inl q) (inl f) = omega (arith, t .0)
         go h t (inl q) (inr f) = omega (arith, t .0)
         go h t (inr q) (inl f) = omega (arith, t .1, q .1, f .1)
@@ -66,8 +66,8 @@ module _ (T : Table) (H : ℕ) (S : List Visit) where
     opened-before : w .component < c → 0 < w .entry .tick
     opened-before h =
         let i = w .component in
-        let k = chain-link (subst (Chain H i (componentOf T i) (visitAt heads i)) (own-here i w rest refl) (a .chains i h)) in
-        omega (arith, opens-follows H i (componentOf T i) (visitAt heads i) w (k .0) (k .1) .tick, a .fineHeads i h .wide)
+        let k = chain-link (subst (Chain H i (componentOf T i) (passageAt heads i)) (own-here i w rest refl) (a .chains i h)) in
+        omega (arith, opens-follows H i (componentOf T i) (passageAt heads i) w (k .0) (k .1) .tick, a .fineHeads i h .wide)
 
     -- of a component that is yet to open, it is the first
     is-first : (i : ℕ) → c ≤ i → w .component ≡ i
@@ -102,7 +102,7 @@ module _ (T : Table) (H : ℕ) (S : List Visit) where
           each = at-snoc heads c w (a .full) (λ k x. x .component ≡ k) mine (a .each);
           fineHeads = at-snoc heads c w (a .full) (λ k x. Fine T H S x) fw (a .fineHeads);
           chains = at-snoc heads c w (a .full) (λ k x. Chain H k (componentOf T k) x (own k rest)) (is-first c (omega arith) mine .1)
-              (λ k h. subst (Chain H k (componentOf T k) (visitAt heads k)) (own-other k w rest (λ e. omega (arith, mine))) (a .chains k h));
+              (λ k h. subst (Chain H k (componentOf T k) (passageAt heads k)) (own-other k w rest (λ e. omega (arith, mine))) (a .chains k h));
           chained = λ k h l. chained-of (own-other k w rest (λ e. omega (arith, mine))) (a .chained k (omega arith) l);
           fine = fr;
           order = o;
@@ -110,8 +110,8 @@ module _ (T : Table) (H : ℕ) (S : List Visit) where
         }
 
   -- the openings at tick 0
-  begins : (room : ℕ) (Cs P : List Component) (c : ℕ) (heads rest : List Visit) → T .components ≡ P ++ Cs → length P ≡ c → Begun room c heads rest
-      → (hs : List Visit) × (rs : List Visit) × (begin room c Cs (map (bare T H S) heads) ≡ accepted (map (bare T H S) hs)) × Along T H S (room - length Cs) hs hs rs
+  begins : (room : ℕ) (Cs P : List Component) (c : ℕ) (heads rest : List Passage) → T .components ≡ P ++ Cs → length P ≡ c → Begun room c heads rest
+      → (hs : List Passage) × (rs : List Passage) × (begin room c Cs (map (bare T H S) heads) ≡ accepted (map (bare T H S) hs)) × Along T H S (room - length Cs) hs hs rs
   unfolding begin
   begins room [] P c heads rest sp lp a =
       let n : size T ≡ c = ap length (sp ∙ append-nil P) ∙ lp in (
@@ -136,8 +136,8 @@ module _ (T : Table) (H : ℕ) (S : List Visit) where
   begins (suc room) (C ∷ Cs) P c heads (w ∷ rest) sp lp a =
       go (λ x. begins room Cs (snoc P C) (suc c) (snoc heads w) rest (sp ∙ sym (append-snoc P C Cs)) (omega (arith, length-append P (C ∷ []))) x) (a .order) (a .fine)
     where
-      Result : ℕ → ℕ → List Component → List Visit → Type 0
-      Result r d Ds vs = (hs : List Visit) × (rs : List Visit) × (begin r d Ds (map (bare T H S) vs) ≡ accepted (map (bare T H S) hs)) × Along T H S (r - length Ds) hs hs rs
+      Result : ℕ → ℕ → List Component → List Passage → Type 0
+      Result r d Ds vs = (hs : List Passage) × (rs : List Passage) × (begin r d Ds (map (bare T H S) vs) ≡ accepted (map (bare T H S) hs)) × Along T H S (r - length Ds) hs hs rs
 
       go : (Begun room (suc c) (snoc heads w) rest → Result room (suc c) Cs (snoc heads w)) → Ordered (w ∷ rest) → All (Fine T H S) (w ∷ rest) → Result (suc room) c (C ∷ Cs) heads
       go ih (first-passage b o) (more f fs) =
@@ -153,16 +153,16 @@ module _ (T : Table) (H : ℕ) (S : List Visit) where
           )
 
   -- the messages are put in again
-  put-again : {vs : List Visit} → All (λ v. v .message ≡ messageIn T H S v) vs → map (put (messageIn T H (map (bare T H S) S))) (map (bare T H S) vs) ≡ vs
+  put-again : {vs : List Passage} → All (λ v. v .message ≡ messageIn T H S v) vs → map (put (messageIn T H (map (bare T H S) S))) (map (bare T H S) vs) ≡ vs
   put-again empty = refl
   put-again (more {x = v} {xs = vs} e a) =
       let m : messageIn T H (map (bare T H S) S) (bare T H S v) ≡ v .message =
-      message-bare T H (map (bare T H S) S) v (channelOf (visitArc T v)) ∙ message-put (λ x. channelOf (visitArc T x)) T H S v ∙ sym e in
-      ap₂ (λ (x : Visit) (xs : List Visit). x ∷ xs) (ap (withMessage v) m) (put-again a)
+      message-bare T H (map (bare T H S) S) v (channelOf (passageArc T v)) ∙ message-put (λ x. channelOf (passageArc T x)) T H S v ∙ sym e in
+      ap₂ (λ (x : Passage) (xs : List Passage). x ∷ xs) (ap (withMessage v) m) (put-again a)
 
 -- ## The law
 
-module _ (limit : ℕ) (T : Table) (H : ℕ) (S : List Visit) where
+module _ (limit : ℕ) (T : Table) (H : ℕ) (S : List Passage) where
   -- what is a schedule is the one computed
   pub is-accepted : IsSchedule limit T H S → schedule limit T H ≡ accepted S
   unfolding schedule finished
@@ -185,7 +185,7 @@ module _ (limit : ℕ) (T : Table) (H : ℕ) (S : List Visit) where
             few = s .few;
           }
 
-      b : (hs : List Visit) × (rs : List Visit) × (begin limit 0 (T .components) [] ≡ accepted (map (bare T H S) hs)) × Along T H S (limit - size T) hs hs rs
+      b : (hs : List Passage) × (rs : List Passage) × (begin limit 0 (T .components) [] ≡ accepted (map (bare T H S) hs)) × Along T H S (limit - size T) hs hs rs
       b = begins T H S limit (T .components) [] 0 [] S refl refl start
 
   -- the schedule is accepted as S exactly if S is a schedule

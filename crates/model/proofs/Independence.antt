@@ -11,14 +11,14 @@ use lib.Dec.{leb}
 use lib.ListN.{length, length-map}
 use Rattle.model.specs.Lists.{only, first, _∈_, here, there, accepted}
 use Rattle.model.specs.Table.{Table}
-use Rattle.model.specs.Schedule.{Visit, withMessage}
-use Rattle.model.specs.Checks.{shareTick, isSend, isReceive, mayHear, collides, unheard, crowded, checked, noVisit, visitAt, InWindow, Hears, Heard, Independent}
+use Rattle.model.specs.Schedule.{Passage, withMessage}
+use Rattle.model.specs.Checks.{shareTick, isSend, isReceive, mayHear, collides, unheard, crowded, checked, noPassage, passageAt, InWindow, Hears, Heard, Independent}
 use Rattle.model.proofs.Bools.{and-is}
 use Rattle.model.proofs.Members.{not-in, each-of, in-at, number-of, only-is, once-is, one-left, fewer, fewer-left}
 use Rattle.model.proofs.Heard.{Windows, Apart, Listener, checked-is, collides-none, listener, unheard-none, crowded-none, send-is, hears-is}
 
 -- two windows share a tick exactly if some tick lies in both
-pub share-is : (v w : Visit) → v .ready ≤ v .end → w .ready ≤ w .end → (shareTick v w ≡ true) ↔ ((t : ℕ) × InWindow t v × InWindow t w)
+pub share-is : (v w : Passage) → v .ready ≤ v .end → w .ready ≤ w .end → (shareTick v w ≡ true) ↔ ((t : ℕ) × InWindow t v × InWindow t w)
 share-is v w a b = (
   λ e.
       let h = and-is (leb (v .ready) (w .end)) (leb (w .ready) (v .end)) .0 e in
@@ -29,7 +29,7 @@ share-is v w a b = (
 )
 
 -- a passage may hear a send exactly if it is a receive window of another component that names the channel, and a tick lies in both
-pub may-hear-is : (T : Table) (r s : Visit) → r .ready ≤ r .end → s .ready ≤ s .end → (mayHear T r s ≡ true) ↔ Hears T r s
+pub may-hear-is : (T : Table) (r s : Passage) → r .ready ≤ r .end → s .ready ≤ s .end → (mayHear T r s ≡ true) ↔ Hears T r s
 may-hear-is T r s a b = (
   λ e.
       let h = hears-is T r s .0 e in
@@ -38,60 +38,60 @@ may-hear-is T r s a b = (
   λ h. hears-is T r s .1 (h .receive, h .other, h .named, share-is r s a b .1 (h .tick, h .inReceive, h .inSend)),
 )
 
-module _ (T : Table) (H : ℕ) (S : List Visit) (wins : Windows S) where
+module _ (T : Table) (H : ℕ) (S : List Passage) (wins : Windows S) where
   -- the window of a passage by its number
-  win : (i : ℕ) → i < length S → visitAt S i .ready ≤ visitAt S i .end
-  win i h = wins (visitAt S i) (in-at noVisit S i h)
+  win : (i : ℕ) → i < length S → passageAt S i .ready ≤ passageAt S i .end
+  win i h = wins (passageAt S i) (in-at noPassage S i h)
 
   -- the only receive window of a send has a number, and no other number is that of one
-  heard-of : (s : Visit) → s ∈ S → Listener T S s → Heard T S s
+  heard-of : (s : Passage) → s ∈ S → Listener T S s → Heard T S s
   heard-of s m l =
-      let n = number-of noVisit (l .listed) in
-      let here-hears : mayHear T (visitAt S (n .0)) s ≡ true = subst (λ r. mayHear T r s ≡ true) (sym (n .2)) (l .hears) in
+      let n = number-of noPassage (l .listed) in
+      let here-hears : mayHear T (passageAt S (n .0)) s ≡ true = subst (λ r. mayHear T r s ≡ true) (sym (n .2)) (l .hears) in
       record {
         index = n .0;
         there = n .1;
-        hears = may-hear-is T (visitAt S (n .0)) s (win (n .0) (n .1)) (wins s m) .0 here-hears;
-        earlier = subst (λ (r : Visit). r .ready < s .ready) (sym (n .2)) (l .earlier);
-        later = subst (λ (r : Visit). s .end < r .end) (sym (n .2)) (l .later);
+        hears = may-hear-is T (passageAt S (n .0)) s (win (n .0) (n .1)) (wins s m) .0 here-hears;
+        earlier = subst (λ (r : Passage). r .ready < s .ready) (sym (n .2)) (l .earlier);
+        later = subst (λ (r : Passage). s .end < r .end) (sym (n .2)) (l .later);
         alone = λ j u h.
-            once-is (λ r. mayHear T r s) noVisit S .0 (omega (arith, ap length (l .once))) j (n .0) u (n .1)
-            (may-hear-is T (visitAt S j) s (win j u) (wins s m) .1 h)
+            once-is (λ r. mayHear T r s) noPassage S .0 (omega (arith, ap length (l .once))) j (n .0) u (n .1)
+            (may-hear-is T (passageAt S j) s (win j u) (wins s m) .1 h)
             here-hears;
       }
 
   -- and back
-  listener-of : (s : Visit) → s ∈ S → Heard T S s → Listener T S s
+  listener-of : (s : Passage) → s ∈ S → Heard T S s → Listener T S s
   listener-of s m h =
-      let hears : (j : ℕ) → j < length S → mayHear T (visitAt S j) s ≡ true → Hears T (visitAt S j) s = λ j u. may-hear-is T (visitAt S j) s (win j u) (wins s m) .0 in
-      let heard = may-hear-is T (visitAt S (h .index)) s (win (h .index) (h .there)) (wins s m) .1 (h .hears) in
-      let few = once-is (λ r. mayHear T r s) noVisit S .1 (λ i j u v f g. h .alone i u (hears i u f) ∙ sym (h .alone j v (hears j v g))) in
-      listener T S s (visitAt S (h .index))
-      (one-left (only-is (λ r. mayHear T r s) S .1 (in-at noVisit S (h .index) (h .there), heard)) few)
+      let hears : (j : ℕ) → j < length S → mayHear T (passageAt S j) s ≡ true → Hears T (passageAt S j) s = λ j u. may-hear-is T (passageAt S j) s (win j u) (wins s m) .0 in
+      let heard = may-hear-is T (passageAt S (h .index)) s (win (h .index) (h .there)) (wins s m) .1 (h .hears) in
+      let few = once-is (λ r. mayHear T r s) noPassage S .1 (λ i j u v f g. h .alone i u (hears i u f) ∙ sym (h .alone j v (hears j v g))) in
+      listener T S s (passageAt S (h .index))
+      (one-left (only-is (λ r. mayHear T r s) S .1 (in-at noPassage S (h .index) (h .there), heard)) few)
       (h .earlier)
       (h .later)
 
   -- a receive window hears one send at most, by their numbers
-  single-is : (r : Visit) → r ∈ S → (length (only (λ s. isSend T H s && mayHear T r s) S) ≤ 1)
-      ↔ ((i j : ℕ) → i < length S → j < length S → isSend T H (visitAt S i) ≡ true → isSend T H (visitAt S j) ≡ true → Hears T r (visitAt S i) → Hears T r (visitAt S j) → i ≡ j)
+  single-is : (r : Passage) → r ∈ S → (length (only (λ s. isSend T H s && mayHear T r s) S) ≤ 1)
+      ↔ ((i j : ℕ) → i < length S → j < length S → isSend T H (passageAt S i) ≡ true → isSend T H (passageAt S j) ≡ true → Hears T r (passageAt S i) → Hears T r (passageAt S j) → i ≡ j)
   single-is r m = (
-    λ h i j u v f g a b. once-is heardSend noVisit S .0 h i j u v (put i u f a) (put j v g b),
-    λ h. once-is heardSend noVisit S .1 (λ i j u v f g.
+    λ h i j u v f g a b. once-is heardSend noPassage S .0 h i j u v (put i u f a) (put j v g b),
+    λ h. once-is heardSend noPassage S .1 (λ i j u v f g.
         let a = get i u f in
         let b = get j v g in
         h i j u v (a .0) (b .0) (a .1) (b .1)),
   )
     where
-      heardSend : Visit → Bool
+      heardSend : Passage → Bool
       heardSend s = isSend T H s && mayHear T r s
 
-      put : (i : ℕ) → i < length S → isSend T H (visitAt S i) ≡ true → Hears T r (visitAt S i) → heardSend (visitAt S i) ≡ true
-      put i u f a = and-is (isSend T H (visitAt S i)) (mayHear T r (visitAt S i)) .1 (f, may-hear-is T r (visitAt S i) (wins r m) (win i u) .1 a)
+      put : (i : ℕ) → i < length S → isSend T H (passageAt S i) ≡ true → Hears T r (passageAt S i) → heardSend (passageAt S i) ≡ true
+      put i u f a = and-is (isSend T H (passageAt S i)) (mayHear T r (passageAt S i)) .1 (f, may-hear-is T r (passageAt S i) (wins r m) (win i u) .1 a)
 
-      get : (i : ℕ) → i < length S → heardSend (visitAt S i) ≡ true → (isSend T H (visitAt S i) ≡ true) × Hears T r (visitAt S i)
+      get : (i : ℕ) → i < length S → heardSend (passageAt S i) ≡ true → (isSend T H (passageAt S i) ≡ true) × Hears T r (passageAt S i)
       get i u f =
-          let h = and-is (isSend T H (visitAt S i)) (mayHear T r (visitAt S i)) .0 f in
-          (h .0, may-hear-is T r (visitAt S i) (wins r m) (win i u) .0 (h .1))
+          let h = and-is (isSend T H (passageAt S i)) (mayHear T r (passageAt S i)) .0 f in
+          (h .0, may-hear-is T r (passageAt S i) (wins r m) (win i u) .0 (h .1))
 
   -- 10 to 12 are passed exactly if the network is independent of a global scheduler
   pub independent : (checked T H S ≡ accepted S) ↔ Independent T H S
@@ -116,20 +116,20 @@ module _ (T : Table) (H : ℕ) (S : List Visit) (wins : Windows S) where
 
 module _ (T : Table) (h H : ℕ) (less : h ≤ H) where
   -- what counts as a send below a horizon does so below a higher one
-  pub send-up : (s : Visit) → isSend T h s ≡ true → isSend T H s ≡ true
+  pub send-up : (s : Passage) → isSend T h s ≡ true → isSend T H s ≡ true
   send-up s e = let g = send-is T h s .0 e in send-is T H s .1 (g .0, g .1, omega arith)
 
   -- passages that are independent up to a horizon are so up to a lower one: fewer sends count
-  pub independent-lower : (S : List Visit) → Independent T H S → Independent T h S
+  pub independent-lower : (S : List Passage) → Independent T H S → Independent T h S
   independent-lower S i =
       record {
         apart = λ s o ms mo es eo. i .apart s o ms mo (send-up s es) (send-up o eo);
         heard = λ s m e. i .heard s m (send-up s e);
-        single = λ r m e a b u v f g. i .single r m e a b u v (send-up (visitAt S a) f) (send-up (visitAt S b) g);
+        single = λ r m e a b u v f g. i .single r m e a b u v (send-up (passageAt S a) f) (send-up (passageAt S b) g);
       }
 
   -- so is every part of them that has all with ready below the lower one
-  pub independent-part : (S : List Visit) (q : Visit → Bool) → Windows S → ((v : Visit) → v ∈ S → v .ready < h → q v ≡ true) → Independent T H S
+  pub independent-part : (S : List Passage) (q : Passage → Bool) → Windows S → ((v : Passage) → v ∈ S → v .ready < h → q v ≡ true) → Independent T H S
       → Independent T h (only q S)
   independent-part S q wins kept i =
       independent T h part (λ v m. wins v (whole m)) .0 (checked-is T h part part .1 (
@@ -140,24 +140,24 @@ module _ (T : Table) (h H : ℕ) (less : h ≤ H) where
         crowded-none T h part .1 few,
       ))
     where
-      part : List Visit
+      part : List Passage
       part = only q S
 
       c : (S ≡ S) × (first (collides T H S) S ≡ none) × (first (unheard T H S) S ≡ none) × (first (crowded T H S) S ≡ none)
       c = checked-is T H S S .0 (independent T H S wins .1 i)
 
-      whole : {v : Visit} → v ∈ part → v ∈ S
+      whole : {v : Passage} → v ∈ part → v ∈ S
       whole m = only-is q S .0 m .0
 
-      heard : (s : Visit) → s ∈ part → isSend T h s ≡ true → Listener T part s
+      heard : (s : Passage) → s ∈ part → isSend T h s ≡ true → Listener T part s
       heard s m e =
           let l = unheard-none T H S .0 (c .2) s (whole m) (send-up s e) in
           let below = send-is T h s .0 e .2 in
-          let left = only-is q S .1 (l .listed, kept (l .visit) (l .listed) (omega (arith, l .earlier))) in
+          let left = only-is q S .1 (l .listed, kept (l .passage) (l .listed) (omega (arith, l .earlier))) in
           let one : length (only (λ r. mayHear T r s) part) ≤ 1 = omega (arith, fewer-left (λ r. mayHear T r s) q S, ap length (l .once)) in
-          listener T part s (l .visit) (one-left (only-is (λ r. mayHear T r s) part .1 (left, l .hears)) one) (l .earlier) (l .later)
+          listener T part s (l .passage) (one-left (only-is (λ r. mayHear T r s) part .1 (left, l .hears)) one) (l .earlier) (l .later)
 
-      few : (r : Visit) → r ∈ part → isReceive T r ≡ true → length (only (λ s. isSend T h s && mayHear T r s) part) ≤ 1
+      few : (r : Passage) → r ∈ part → isReceive T r ≡ true → length (only (λ s. isSend T h s && mayHear T r s) part) ≤ 1
       few r m e = omega (
         arith,
         crowded-none T H S .0 (c .3) r (whole m) e,
@@ -184,27 +184,27 @@ only-map f p (x ∷ S) = go (only-map f p S) (p (f x))
     go ih false = ih
 
 -- independence does not depend on the messages put in
-pub independent-messages : (T : Table) (H : ℕ) (S : List Visit) (g : Visit → Option ℕ) → Windows S → Independent T H S
+pub independent-messages : (T : Table) (H : ℕ) (S : List Passage) (g : Passage → Option ℕ) → Windows S → Independent T H S
     → Independent T H (map (λ v. withMessage v (g v)) S)
 independent-messages T H S g wins i =
     independent T H S′ (each-mapped f (λ v. v .ready ≤ v .end) S wins) .0 (checked-is T H S′ S′ .1 (
       refl,
-      collides-none T H S′ .1 (each-mapped f (λ s. isSend T H s ≡ true → (o : Visit) → o ∈ S′ → Apart T H s o) S (λ s ms es.
+      collides-none T H S′ .1 (each-mapped f (λ s. isSend T H s ≡ true → (o : Passage) → o ∈ S′ → Apart T H s o) S (λ s ms es.
           each-mapped f (Apart T H (f s)) S (collides-none T H S .0 (c .1) s ms es))),
       unheard-none T H S′ .1 (each-mapped f (λ s. isSend T H s ≡ true → Listener T S′ s) S (λ s m e.
           let l = unheard-none T H S .0 (c .2) s m e in
-          listener T S′ (f s) (f (l .visit)) (only-map f (λ r. mayHear T r (f s)) S ∙ ap (map f) (l .once)) (l .earlier) (l .later))),
+          listener T S′ (f s) (f (l .passage)) (only-map f (λ r. mayHear T r (f s)) S ∙ ap (map f) (l .once)) (l .earlier) (l .later))),
       crowded-none T H S′ .1 (each-mapped f (λ r. isReceive T r ≡ true → length (only (heardFrom r) S′) ≤ 1) S (λ r m e.
           rw (only-map f (heardFrom (f r)) S, length-map (only (heardFrom r) S) f) (crowded-none T H S .0 (c .3) r m e))),
     ))
   where
-    f : Visit → Visit
+    f : Passage → Passage
     f v = withMessage v (g v)
 
-    S′ : List Visit
+    S′ : List Passage
     S′ = map f S
 
-    heardFrom : Visit → Visit → Bool
+    heardFrom : Passage → Passage → Bool
     heardFrom r s = isSend T H s && mayHear T r s
 
     c : (S ≡ S) × (first (collides T H S) S ≡ none) × (first (unheard T H S) S ≡ none) × (first (crowded T H S) S ≡ none)

@@ -14,9 +14,9 @@ use Rattle.model.specs.Lists.{_∈_, accepted}
 use Rattle.model.specs.Table.{Table, Read, size, componentOf, arcOf}
 use Rattle.model.specs.Limits.{InLimits}
 use Rattle.model.specs.Window.{Entry, channelOf, listens}
-use Rattle.model.specs.Schedule.{Visit, visitArc, own, names, others}
-use Rattle.model.specs.Checks.{isSend, mayHear, planOf, visitAt}
-use Rattle.model.specs.Network.{State, Place, Taken, Label, together, placeOf, start, mayStepIn, mayJoin, step, waits, withPlace}
+use Rattle.model.specs.Schedule.{Passage, passageArc, own, names, others}
+use Rattle.model.specs.Checks.{isSend, mayHear, acceptedScheduleOf, passageAt}
+use Rattle.model.specs.Network.{State, PathPassage, Taken, Label, together, passageIn, start, mayStepIn, mayJoin, step, waits, withPassage}
 use Rattle.model.specs.Demand3.{TakenAs, PassAs, SteppedBefore}
 use Rattle.model.specs.Progress.{presentOf, OnSchedule, Sending, meet, mayMeet, OnePartner, Means}
 use Rattle.model.proofs.Parts.{some-clash}
@@ -37,16 +37,16 @@ use Rattle.model.proofs.MeaningPresent.{Present, steps, sound, present}
 use Rattle.model.proofs.MeaningStays.{pass-put, stepped-put, leads-on, led-on, passages-on, joined, joins-to, scheduled-edge}
 
 -- a component that is not waiting, in its present passage
-free-place : {p : Place} (v : Visit) → p .entry ≡ v .entry → p .waiting ≡ none → p ≡ placeIn v false
+free-place : {p : PathPassage} (v : Passage) → p .entry ≡ v .entry → p .waiting ≡ none → p ≡ placeIn v false
 free-place v e f = ap₂ (λ (x : Entry) (o : Option Taken). record { entry = x; waiting = o }) e f
 
-module _ {t : Read} {H : ℕ} {S : List Visit} (G : Given t H S) {path : List Label} {s : State} (O : OnSchedule (t .table) S path s) {a : ℕ} (Z : Sending (t .table) H S path s a) where
+module _ {t : Read} {H : ℕ} {S : List Passage} (G : Given t H S) {path : List Label} {s : State} (O : OnSchedule (t .table) S path s) {a : ℕ} (Z : Sending (t .table) H S path s a) where
   -- the table
   abbrev T : Table
   T = t .table
 
   -- the present passage of each component
-  abbrev N : ℕ → Visit
+  abbrev N : ℕ → Passage
   N c = presentOf (t .table) S path c
 
   -- where the sender stands
@@ -71,35 +71,35 @@ module _ {t : Read} {H : ℕ} {S : List Visit} (G : Given t H S) {path : List La
 
   -- its component
   abbrev b : ℕ
-  b = R .visit .component
+  b = R .passage .component
 
   -- it is there
   there : b < size T
-  there = component-there (G .most) T H S (G .sched) (R .visit) (R .listed)
+  there = component-there (G .most) T H S (G .sched) (R .passage) (R .listed)
 
   -- where it stands
   B : Present t S path s b (N b)
   B = present G O b there
 
   -- it is in that window
-  is-now : R .visit ≡ N b
-  is-now = go (B .others (R .visit) (in-own (R .listed)))
+  is-now : R .passage ≡ N b
+  is-now = go (B .others (R .passage) (in-own (R .listed)))
     where
-      f : Fits (componentOf T b) (R .visit)
-      f = fits-in (G .most) T H S (G .sched) (R .visit) (R .listed)
+      f : Fits (componentOf T b) (R .passage)
+      f = fits-in (G .most) T H S (G .sched) (R .passage) (R .listed)
 
-      go : (R .visit .end ≤ N b .entry .tick) ⊎ ((R .visit ≡ N b) ⊎ (N b .end ≤ R .visit .entry .tick)) → R .visit ≡ N b
+      go : (R .passage .end ≤ N b .entry .tick) ⊎ ((R .passage ≡ N b) ⊎ (N b .end ≤ R .passage .entry .tick)) → R .passage ≡ N b
       go (inl i) = absurd (omega (arith, B .since, A .before, R .later))
       go (inr (inl i)) = i
       go (inr (inr i)) = absurd (omega (arith, from-entry f, R .earlier, Z .ready, B .before))
 
   -- it hears the sender
   hears : mayHear T (N b) (N a) ≡ true
-  hears = subst (λ (x : Visit). mayHear T x (N a) ≡ true) is-now (R .hears)
+  hears = subst (λ (x : Passage). mayHear T x (N a) ≡ true) is-now (R .hears)
 
   -- it began before now
   begun : N b .ready ≤ s .tick
-  begun = subst (λ (x : Visit). x .ready ≤ s .tick) is-now (omega (arith, R .earlier, Z .ready))
+  begun = subst (λ (x : Passage). x .ready ≤ s .tick) is-now (omega (arith, R .earlier, Z .ready))
 
   -- it is a passage of the schedule
   yours : (N b ∈ S) × (N b .component ≡ b)
@@ -113,7 +113,7 @@ module _ {t : Read} {H : ℕ} {S : List Visit} (G : Given t H S) {path : List La
   named : names (arcOf (componentOf T b) (N b .edge)) (some (Z .channel)) ≡ true
   named =
       subst (λ (c : ℕ). names (arcOf (componentOf T c) (N b .edge)) (some (Z .channel)) ≡ true) (yours .1)
-      (ap (names (visitArc T (N b))) (sym (Z .sends)) ∙ hears-is T (N b) (N a) .0 hears .2)
+      (ap (names (passageArc T (N b))) (sym (Z .sends)) ∙ hears-is T (N b) (N a) .0 hears .2)
 
   -- the two are different
   differ : a ≡ b → ⊥
@@ -122,7 +122,7 @@ module _ {t : Read} {H : ℕ} {S : List Visit} (G : Given t H S) {path : List La
   -- ## It has taken nothing
 
   -- a send that it heard would be the sender's, which has yet to step in
-  not-spoken : (w : Taken) → w .edge ≡ N b .edge → Spoken T b (placeOf s b) (w .edge) (Z .channel) (start T) path (s .tick) → ⊥
+  not-spoken : (w : Taken) → w .edge ≡ N b .edge → Spoken T b (passageIn s b) (w .edge) (Z .channel) (start T) path (s .tick) → ⊥
   not-spoken w we p = go (K .passed (p .place) (p .listed))
     where
       c : ℕ
@@ -132,7 +132,7 @@ module _ {t : Read} {H : ℕ} {S : List Visit} (G : Given t H S) {path : List La
       K = present G O c (p .there)
 
       -- the passage that it was heard from
-      same : (y : Visit) → y ∈ own c S → Beside (p .place) y → N a ≡ y
+      same : (y : Passage) → y ∈ own c S → Beside (p .place) y → N a ≡ y
       same y m k =
           let o = own-in c S m in
           let f : Fits (componentOf T c) y = subst (λ (n : ℕ). Fits (componentOf T n) y) (o .1) (fits-in (G .most) T H S (G .sched) y (o .0)) in
@@ -147,25 +147,25 @@ module _ {t : Read} {H : ℕ} {S : List Visit} (G : Given t H S) {path : List La
           single-law T H S (G .checks) (N b) (N a) y (yours .0) (mine .0) (o .0) sends (n .0) hears (n .1)
 
       -- so that the two are one
-      one : (y : Visit) → y ∈ own c S → N a ≡ y → c ≡ a
-      one y m e = sym (own-in c S m .1) ∙ (ap (λ (x : Visit). x .component) (sym e) ∙ mine .1)
+      one : (y : Passage) → y ∈ own c S → N a ≡ y → c ≡ a
+      one y m e = sym (own-in c S m .1) ∙ (ap (λ (x : Passage). x .component) (sym e) ∙ mine .1)
 
-      go : (p .place ≡ placeOf s c) ⊎ ((y : Visit) × (y ∈ own c S) × Beside (p .place) y × (y .end ≤ N c .entry .tick)) → ⊥
+      go : (p .place ≡ passageIn s c) ⊎ ((y : Passage) × (y ∈ own c S) × Beside (p .place) y × (y .end ≤ N c .entry .tick)) → ⊥
       go (inl q) =
-          let e = one (N c) (K .listed) (same (N c) (K .listed) (subst (λ (x : Place). Beside x (N c)) (sym q) (K .beside))) in
-          some-clash (sym (ap (λ (n : ℕ). placeOf s n .waiting) (sym e) ∙ (ap (λ (x : Place). x .waiting) (sym q) ∙ p .waiting)) ∙ Z .free)
+          let e = one (N c) (K .listed) (same (N c) (K .listed) (subst (λ (x : PathPassage). Beside x (N c)) (sym q) (K .beside))) in
+          some-clash (sym (ap (λ (n : ℕ). passageIn s n .waiting) (sym e) ∙ (ap (λ (x : PathPassage). x .waiting) (sym q) ∙ p .waiting)) ∙ Z .free)
       go (inr y) =
           let e = same (y .0) (y .1) (y .2) in
           let n = one (y .0) (y .1) e in
           let i : N c ≡ y .0 = ap N n ∙ e in
           let f = K .fits in
-          omega (arith, y .3, ap (λ (x : Visit). x .end) i, from-entry f, f .window)
+          omega (arith, y .3, ap (λ (x : Passage). x .end) i, from-entry f, f .window)
 
   -- it is not waiting
-  free : placeOf s b .waiting ≡ none
-  free = go (placeOf s b .waiting) refl
+  free : passageIn s b .waiting ≡ none
+  free = go (passageIn s b .waiting) refl
     where
-      go : (o : Option Taken) → placeOf s b .waiting ≡ o → o ≡ none
+      go : (o : Option Taken) → passageIn s b .waiting ≡ o → o ≡ none
       go none e = refl
       go (some w) e = absurd (by (heard-from b there (sound-start T) (steps G O) w (Z .channel) e message listening))
         where
@@ -178,16 +178,16 @@ module _ {t : Read} {H : ℕ} {S : List Visit} (G : Given t H S) {path : List La
           listening : listens (arcOf (componentOf T b) (w .edge)) ≡ true
           listening = subst (λ (n : ℕ). listens (arcOf (componentOf T b) n) ≡ true) (sym (q .0)) receives
 
-          by : (placeOf (start T) b ≡ placeOf s b) ⊎ Spoken T b (placeOf s b) (w .edge) (Z .channel) (start T) path (s .tick) → ⊥
-          by (inl i) = some-clash (sym (ap (λ (x : Place). x .waiting) i ∙ e) ∙ start-free T b there)
+          by : (passageIn (start T) b ≡ passageIn s b) ⊎ Spoken T b (passageIn s b) (w .edge) (Z .channel) (start T) path (s .tick) → ⊥
+          by (inl i) = some-clash (sym (ap (λ (x : PathPassage). x .waiting) i ∙ e) ∙ start-free T b there)
           by (inr p) = not-spoken w (q .0) p
 
   -- ## The joint step
 
   -- a component in its window may step in
-  steps-in : (c : ℕ) → Present t S path s c (N c) → placeOf s c .waiting ≡ none → N c .ready ≤ s .tick → mayStepIn (componentOf T c) (s .tick) (placeOf s c) (N c .edge) ≡ true
+  steps-in : (c : ℕ) → Present t S path s c (N c) → passageIn s c .waiting ≡ none → N c .ready ≤ s .tick → mayStepIn (componentOf T c) (s .tick) (passageIn s c) (N c .edge) ≡ true
   steps-in c K w l =
-      subst (λ (p : Place). mayStepIn (componentOf T c) (s .tick) p (N c .edge) ≡ true) (sym (free-place (N c) (K .beside .entry) w)) (may-step-in (K .fits) (s .tick) (K .since) l (K .before))
+      subst (λ (p : PathPassage). mayStepIn (componentOf T c) (s .tick) p (N c .edge) ≡ true) (sym (free-place (N c) (K .beside .entry) w)) (may-step-in (K .fits) (s .tick) (K .since) l (K .before))
 
   -- the joint step is allowed
   allowed : mayMeet T S path s a b ≡ true
@@ -211,7 +211,7 @@ module _ {t : Read} {H : ℕ} {S : List Visit} (G : Given t H S) {path : List La
       k = channelOf (arcOf (componentOf T a) (N a .edge))
 
       after : State
-      after = withPlace (withPlace s a (waits (placeOf s a) (N a .edge) k)) c (waits (placeOf s c) (N c .edge) k)
+      after = withPassage (withPassage s a (waits (passageIn s a) (N a .edge) k)) c (waits (passageIn s c) (N c .edge) k)
 
       go : {u : State} → Step T s (together a (N a .edge) c (N c .edge)) u → c ≡ b
       go (joins {k = k} ha hc n ka kc ch li na) =
@@ -220,7 +220,7 @@ module _ {t : Read} {H : ℕ} {S : List Visit} (G : Given t H S) {path : List La
           let i = within-passage (K .fits) (K .beside .entry) refl (steps-within (sound G O .since c hc) kc none) in
           let m =
           hears-now (G .most) T H S (G .sched) (G .checks) (s .tick) a c k (N a) (N c) (mine .0) (o .0) (mine .1) (o .1) n ch li na (Z .ready) (A .before) (i .0) (i .1) (Z .below) in
-          sym (o .1) ∙ ap (λ (x : Visit). x .component) (R .unique (N c) (o .0) (m .1))
+          sym (o .1) ∙ ap (λ (x : Passage). x .component) (R .unique (N c) (o .0) (m .1))
 
   -- ## The path with it
 
@@ -229,49 +229,49 @@ module _ {t : Read} {H : ℕ} {S : List Visit} (G : Given t H S) {path : List La
   sent = channelOf (arcOf (componentOf T a) (N a .edge))
 
   -- the sender, stepped in
-  abbrev sender : Place
-  sender = waits (placeOf s a) (N a .edge) sent
+  abbrev sender : PathPassage
+  sender = waits (passageIn s a) (N a .edge) sent
 
   -- the receiver, stepped in
-  abbrev receiver : Place
-  receiver = waits (placeOf s b) (N b .edge) sent
+  abbrev receiver : PathPassage
+  receiver = waits (passageIn s b) (N b .edge) sent
 
   -- the state after the joint step
   abbrev after : State
-  after = withPlace (withPlace s a sender) b receiver
+  after = withPassage (withPassage s a sender) b receiver
 
   -- the step leads there
   leads : step T s (meet T S path a b) ≡ some after
   leads = joins-to T s a (N a .edge) b (N b .edge) allowed
 
   -- component c after the step passes as the schedule says, and misses no window
-  abbrev Kept : ℕ → Place → Type 0
+  abbrev Kept : ℕ → PathPassage → Type 0
   Kept c p = PassAs (leftOn T c (start T) path ++ (p ∷ [])) (own c S) × SteppedBefore (s .tick) (leftOn T c (start T) path ++ (p ∷ [])) (own c S)
 
   -- as it did before
-  as-before : (c : ℕ) → c < size T → Kept c (placeOf s c)
+  as-before : (c : ℕ) → c < size T → Kept c (passageIn s c)
   as-before c h =
       let e = passages-are T c (start T) path (O .valid) in
-      (subst (λ (ps : List Place). PassAs ps (own c S)) e (O .scheduled c h), subst (λ (ps : List Place). SteppedBefore (s .tick) ps (own c S)) e (O .kept c h))
+      (subst (λ (ps : List PathPassage). PassAs ps (own c S)) e (O .scheduled c h), subst (λ (ps : List PathPassage). SteppedBefore (s .tick) ps (own c S)) e (O .kept c h))
 
   -- stepped in on the schedule's edge, with the schedule's message
-  stepped : (c : ℕ) → c < size T → (m : Option ℕ) → m ≡ N c .message → Kept c (waits (placeOf s c) (N c .edge) m)
+  stepped : (c : ℕ) → c < size T → (m : Option ℕ) → m ≡ N c .message → Kept c (waits (passageIn s c) (N c .edge) m)
   stepped c h m e =
       let k = as-before c h in
       let left = leftOn T c (start T) path in
-      let q = waits (placeOf s c) (N c .edge) m in
-      let i : N c ≡ visitAt (own c S) (pred (length (left ++ (placeOf s c ∷ [])))) =
-      ap (λ (ps : List Place). visitAt (own c S) (pred (length ps))) (passages-are T c (start T) path (O .valid)) in (
-        pass-put left (placeOf s c) q (own c S) (k .0) refl (subst (TakenAs (q .waiting)) i (refl, e)),
-        stepped-put (s .tick) left (placeOf s c) q (own c S) (k .1) tt,
+      let q = waits (passageIn s c) (N c .edge) m in
+      let i : N c ≡ passageAt (own c S) (pred (length (left ++ (passageIn s c ∷ [])))) =
+      ap (λ (ps : List PathPassage). passageAt (own c S) (pred (length ps))) (passages-are T c (start T) path (O .valid)) in (
+        pass-put left (passageIn s c) q (own c S) (k .0) refl (subst (TakenAs (q .waiting)) i (refl, e)),
+        stepped-put (s .tick) left (passageIn s c) q (own c S) (k .1) tt,
       )
 
   -- so it is with every component
-  each-kept : (c : ℕ) → c < size T → Kept c (placeOf after c)
+  each-kept : (c : ℕ) → c < size T → Kept c (passageIn after c)
   each-kept c h = go (eqb c b) refl (eqb c a) refl
     where
-      long : b < length (withPlace s a sender .places)
-      long = subst (λ (n : ℕ). b < n) (sym (length-set (s .places) a sender ∙ sound G O .full)) there
+      long : b < length (withPassage s a sender .present)
+      long = subst (λ (n : ℕ). b < n) (sym (length-set (s .present) a sender ∙ sound G O .full)) there
 
       said : sent ≡ N a .message
       said = sym (A .fits .said (sends-only (arcOf (componentOf T a) (N a .edge)) (Z .channel) channel))
@@ -279,16 +279,16 @@ module _ {t : Read} {H : ℕ} {S : List Visit} (G : Given t H S) {path : List La
       heard : sent ≡ N b .message
       heard = channel ∙ (sym (Z .sends) ∙ sym (heard-message (G .most) T H S (G .sched) (G .checks) (N a) (N b) (mine .0) (yours .0) sends hears))
 
-      go : (x : Bool) → eqb c b ≡ x → (y : Bool) → eqb c a ≡ y → Kept c (placeOf after c)
+      go : (x : Bool) → eqb c b ≡ x → (y : Bool) → eqb c a ≡ y → Kept c (passageIn after c)
       go true q y r =
-          subst (λ (n : ℕ). Kept n (placeOf after n)) (sym (eqb-true c b q))
-          (subst (Kept b) (sym (put-same (withPlace s a sender) b receiver long)) (stepped b there sent heard))
+          subst (λ (n : ℕ). Kept n (passageIn after n)) (sym (eqb-true c b q))
+          (subst (Kept b) (sym (put-same (withPassage s a sender) b receiver long)) (stepped b there sent heard))
       go false q true r =
-          subst (λ (n : ℕ). Kept n (placeOf after n)) (sym (eqb-true c a r))
-          (subst (Kept a) (sym (put-other (withPlace s a sender) b receiver a differ ∙ put-same s a sender (omega (arith, sound G O .full, Z .there))))
+          subst (λ (n : ℕ). Kept n (passageIn after n)) (sym (eqb-true c a r))
+          (subst (Kept a) (sym (put-other (withPassage s a sender) b receiver a differ ∙ put-same s a sender (omega (arith, sound G O .full, Z .there))))
           (stepped a (Z .there) sent said))
       go false q false r =
-          subst (Kept c) (sym (put-other (withPlace s a sender) b receiver c (eqb-false c b q) ∙ put-other s a sender c (eqb-false c a r))) (as-before c h)
+          subst (Kept c) (sym (put-other (withPassage s a sender) b receiver c (eqb-false c b q) ∙ put-other s a sender c (eqb-false c a r))) (as-before c h)
 
   -- with the joint step the path keeps to the schedule
   keeps : OnSchedule T S (path ++ (meet T S path a b ∷ [])) after
@@ -296,8 +296,8 @@ module _ {t : Read} {H : ℕ} {S : List Visit} (G : Given t H S) {path : List La
       let e = passages-on T path s (O .valid) a (N a .edge) b (N b .edge) after leads in
       record {
         valid = leads-on T path s (O .valid) a (N a .edge) b (N b .edge) after leads;
-        scheduled = λ c h. subst (λ (ps : List Place). PassAs ps (own c S)) (sym (e c)) (each-kept c h .0);
-        kept = λ c h. subst (λ (ps : List Place). SteppedBefore (s .tick) ps (own c S)) (sym (e c)) (each-kept c h .1);
+        scheduled = λ c h. subst (λ (ps : List PathPassage). PassAs ps (own c S)) (sym (e c)) (each-kept c h .0);
+        kept = λ c h. subst (λ (ps : List PathPassage). SteppedBefore (s .tick) ps (own c S)) (sym (e c)) (each-kept c h .1);
       }
 
   -- and with no other one of the sender
@@ -308,20 +308,20 @@ module _ {t : Read} {H : ℕ} {S : List Visit} (G : Given t H S) {path : List La
       q = led-on T path s (O .valid) a e c f u (O₂ .valid)
 
       -- component d, stepped in, took the schedule's edge
-      edge : (d : ℕ) → d < size T → (w : Taken) → placeOf u d .waiting ≡ some w → w .edge ≡ N d .edge
+      edge : (d : ℕ) → d < size T → (w : Taken) → passageIn u d .waiting ≡ some w → w .edge ≡ N d .edge
       edge d h w i =
-          scheduled-edge T S path s (O .valid) d (placeOf u d) w i
-          (subst (λ (ps : List Place). PassAs ps (own d S)) (passages-on T path s (O .valid) a e c f u q d) (O₂ .scheduled d h))
+          scheduled-edge T S path s (O .valid) d (passageIn u d) w i
+          (subst (λ (ps : List PathPassage). PassAs ps (own d S)) (passages-on T path s (O .valid) a e c f u q d) (O₂ .scheduled d h))
 
       go : (w : State) → Step T s (together a e c f) w → u ≡ w → together a e c f ≡ meet T S path a b
       go w (joins {k = k} ha hc n ka kc ch li na) same =
-          let pa = waits (placeOf s a) e (some k) in
-          let pc = waits (placeOf s c) f (some k) in
-          let long : c < length (withPlace s a pa .places) = subst (λ (n : ℕ). c < n) (sym (length-set (s .places) a pa ∙ sound G O .full)) hc in
-          let at-a = ap (λ (x : State). placeOf x a) same ∙ put-other (withPlace s a pa) c pc a n ∙ put-same s a pa (omega (arith, sound G O .full, ha)) in
-          let at-c = ap (λ (x : State). placeOf x c) same ∙ put-same (withPlace s a pa) c pc long in
-          let i : e ≡ N a .edge = edge a ha (record { edge = e; message = some k }) (ap (λ (x : Place). x .waiting) at-a) in
-          let j : f ≡ N c .edge = edge c hc (record { edge = f; message = some k }) (ap (λ (x : Place). x .waiting) at-c) in
+          let pa = waits (passageIn s a) e (some k) in
+          let pc = waits (passageIn s c) f (some k) in
+          let long : c < length (withPassage s a pa .present) = subst (λ (n : ℕ). c < n) (sym (length-set (s .present) a pa ∙ sound G O .full)) hc in
+          let at-a = ap (λ (x : State). passageIn x a) same ∙ put-other (withPassage s a pa) c pc a n ∙ put-same s a pa (omega (arith, sound G O .full, ha)) in
+          let at-c = ap (λ (x : State). passageIn x c) same ∙ put-same (withPassage s a pa) c pc long in
+          let i : e ≡ N a .edge = edge a ha (record { edge = e; message = some k }) (ap (λ (x : PathPassage). x .waiting) at-a) in
+          let j : f ≡ N c .edge = edge c hc (record { edge = f; message = some k }) (ap (λ (x : PathPassage). x .waiting) at-c) in
           let m : mayMeet T S path s a c ≡ true =
           subst (λ (x : ℕ). mayJoin T s a x c (N c .edge) ≡ true) i (subst (λ (x : ℕ). mayJoin T s a e c x ≡ true) j (joined T path s (O .valid) a e c f u q)) in
           ap (λ (x : ℕ). together a x c f) i
@@ -332,7 +332,7 @@ module _ {t : Read} {H : ℕ} {S : List Visit} (G : Given t H S) {path : List La
   one-partner = record { partner = b; allowed = allowed; hears = hears; alone = only-one; keeps = (after, keeps); only = only-this }
 
 -- for every table in the limits that is accepted
-pub means : (t : Read) (S : List Visit) → InLimits t → planOf t ≡ accepted S → (path : List Label) (s : State) → OnSchedule (t .table) S path s
+pub means : (t : Read) (S : List Passage) → InLimits t → acceptedScheduleOf t ≡ accepted S → (path : List Label) (s : State) → OnSchedule (t .table) S path s
     → (a : ℕ) → Sending (t .table) (t .horizon) S path s a → OnePartner (t .table) S path s a
 means t S h e path s O a Z = one-partner (given t S h e) O Z
 

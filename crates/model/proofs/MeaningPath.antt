@@ -6,73 +6,73 @@ use Prim.Native.Nat.{ℕ, suc, _≤_, _<_}
 use native.Mathlib.Omega.{arith}
 use lib.ListN.{length, length-map, List·getD-map}
 use Rattle.model.specs.Table.{Component, Table, noComponent, size, componentOf}
-use Rattle.model.specs.Network.{State, Place, Taken, placeOf, stayed, pastIn, Label, startPlace, start, leftBy, step, onward, follow, passagesOn}
+use Rattle.model.specs.Network.{State, PathPassage, Taken, passageIn, stayed, pastIn, Label, startPassage, start, leftBy, step, onward, follow, passagesOn}
 use Rattle.model.proofs.NetRules.{Passes, Step, step-is}
 use Rattle.model.proofs.MeaningStep.{Change, grows, rests, alone, speaks, hears, goes, change, same-size}
 
 -- ## States
 
 -- a component that waits is in the window of its edge
-abbrev pub Inside : Component → ℕ → Place → Option Taken → Type 0
+abbrev pub Inside : Component → ℕ → PathPassage → Option Taken → Type 0
 Inside C now p none = Unit {0}
 Inside C now p (some w) = stayed now p < pastIn C p (w .edge)
 
 -- every component entered no later than now, and waits no longer than its end
 pub record Sound (T : Table) (s : State) : Type 0 where
-  pub full : length (s .places) ≡ size T
-  pub since : (c : ℕ) → c < size T → placeOf s c .entry .tick ≤ s .tick
-  pub inside : (c : ℕ) → c < size T → Inside (componentOf T c) (s .tick) (placeOf s c) (placeOf s c .waiting)
+  pub full : length (s .present) ≡ size T
+  pub since : (c : ℕ) → c < size T → passageIn s c .entry .tick ≤ s .tick
+  pub inside : (c : ℕ) → c < size T → Inside (componentOf T c) (s .tick) (passageIn s c) (passageIn s c .waiting)
 
 -- so at the start
 pub sound-start : (T : Table) → Sound T (start T)
 sound-start T =
     record {
-      full = length-map (T .components) startPlace;
-      since = λ c h. subst (λ (p : Place). p .entry .tick ≤ 0) (sym (List·getD-map startPlace (T .components) c noComponent)) (omega arith);
-      inside = λ c h. subst (λ (p : Place). Inside (componentOf T c) 0 p (p .waiting)) (sym (List·getD-map startPlace (T .components) c noComponent)) tt;
+      full = length-map (T .components) startPassage;
+      since = λ c h. subst (λ (p : PathPassage). p .entry .tick ≤ 0) (sym (List·getD-map startPassage (T .components) c noComponent)) (omega arith);
+      inside = λ c h. subst (λ (p : PathPassage). Inside (componentOf T c) 0 p (p .waiting)) (sym (List·getD-map startPassage (T .components) c noComponent)) tt;
     }
 
 -- nobody waits at the start
-pub start-free : (T : Table) (c : ℕ) → c < size T → placeOf (start T) c .waiting ≡ none
-start-free T c h = ap (λ (p : Place). p .waiting) (List·getD-map startPlace (T .components) c noComponent)
+pub start-free : (T : Table) (c : ℕ) → c < size T → passageIn (start T) c .waiting ≡ none
+start-free T c h = ap (λ (p : PathPassage). p .waiting) (List·getD-map startPassage (T .components) c noComponent)
 
 -- a place with its waiting told
-told : (C : Component) (now : ℕ) (p : Place) (o : Option Taken) → p .waiting ≡ o → Inside C now p o → Inside C now p (p .waiting)
+told : (C : Component) (now : ℕ) (p : PathPassage) (o : Option Taken) → p .waiting ≡ o → Inside C now p o → Inside C now p (p .waiting)
 told C now p o e i = subst (Inside C now p) (sym e) i
 
 -- one component stays in time
-step-sound : {T : Table} {s : State} {l : Label} {u : State} {c : ℕ} → placeOf s c .entry .tick ≤ s .tick → Inside (componentOf T c) (s .tick) (placeOf s c) (placeOf s c .waiting)
-    → Change T s l u c → (placeOf u c .entry .tick ≤ u .tick) × Inside (componentOf T c) (u .tick) (placeOf u c) (placeOf u c .waiting)
+step-sound : {T : Table} {s : State} {l : Label} {u : State} {c : ℕ} → passageIn s c .entry .tick ≤ s .tick → Inside (componentOf T c) (s .tick) (passageIn s c) (passageIn s c .waiting)
+    → Change T s l u c → (passageIn u c .entry .tick ≤ u .tick) × Inside (componentOf T c) (u .tick) (passageIn u c) (passageIn u c .waiting)
 step-sound {T} {s} {l} {u} {c} i k (grows e f p n) = (
-  subst (λ (x : Place). x .entry .tick ≤ u .tick) (sym e) (omega arith),
-  subst (λ (x : Place). Inside (componentOf T c) (u .tick) x (x .waiting)) (sym e)
-      (subst (λ (now : ℕ). Inside (componentOf T c) now (placeOf s c) (placeOf s c .waiting)) (sym f) (go (placeOf s c .waiting) p)),
+  subst (λ (x : PathPassage). x .entry .tick ≤ u .tick) (sym e) (omega arith),
+  subst (λ (x : PathPassage). Inside (componentOf T c) (u .tick) x (x .waiting)) (sym e)
+      (subst (λ (now : ℕ). Inside (componentOf T c) now (passageIn s c) (passageIn s c .waiting)) (sym f) (go (passageIn s c .waiting) p)),
 )
   where
-    go : (o : Option Taken) → Passes (componentOf T c) (s .tick) (placeOf s c) o → Inside (componentOf T c) (suc (s .tick)) (placeOf s c) o
+    go : (o : Option Taken) → Passes (componentOf T c) (s .tick) (passageIn s c) o → Inside (componentOf T c) (suc (s .tick)) (passageIn s c) o
     go none q = tt
     go (some w) q = omega arith
 step-sound {T} {s} {l} {u} {c} i k (rests e f n) = (
-  subst (λ (x : Place). x .entry .tick ≤ u .tick) (sym e) (omega arith),
-  subst (λ (x : Place). Inside (componentOf T c) (u .tick) x (x .waiting)) (sym e)
-      (subst (λ (now : ℕ). Inside (componentOf T c) now (placeOf s c) (placeOf s c .waiting)) (sym f) k),
+  subst (λ (x : PathPassage). x .entry .tick ≤ u .tick) (sym e) (omega arith),
+  subst (λ (x : PathPassage). Inside (componentOf T c) (u .tick) x (x .waiting)) (sym e)
+      (subst (λ (now : ℕ). Inside (componentOf T c) now (passageIn s c) (passageIn s c .waiting)) (sym f) k),
 )
 step-sound {T} {s} {l} {u} {c} i k (alone e h q f n) = (
-  subst (λ (x : Place). x .entry .tick ≤ u .tick) (sym q) (omega arith),
-  subst (λ (x : Place). Inside (componentOf T c) (u .tick) x (x .waiting)) (sym q)
-      (subst (λ (now : ℕ). stayed now (placeOf s c) < pastIn (componentOf T c) (placeOf s c) e) (sym f) (h .end)),
+  subst (λ (x : PathPassage). x .entry .tick ≤ u .tick) (sym q) (omega arith),
+  subst (λ (x : PathPassage). Inside (componentOf T c) (u .tick) x (x .waiting)) (sym q)
+      (subst (λ (now : ℕ). stayed now (passageIn s c) < pastIn (componentOf T c) (passageIn s c) e) (sym f) (h .end)),
 )
 step-sound {T} {s} {l} {u} {c} i k (speaks e m h ch q f n) = (
-  subst (λ (x : Place). x .entry .tick ≤ u .tick) (sym q) (omega arith),
-  subst (λ (x : Place). Inside (componentOf T c) (u .tick) x (x .waiting)) (sym q)
-      (subst (λ (now : ℕ). stayed now (placeOf s c) < pastIn (componentOf T c) (placeOf s c) e) (sym f) (h .end)),
+  subst (λ (x : PathPassage). x .entry .tick ≤ u .tick) (sym q) (omega arith),
+  subst (λ (x : PathPassage). Inside (componentOf T c) (u .tick) x (x .waiting)) (sym q)
+      (subst (λ (now : ℕ). stayed now (passageIn s c) < pastIn (componentOf T c) (passageIn s c) e) (sym f) (h .end)),
 )
 step-sound {T} {s} {l} {u} {c} i k (hears e m h g q f n) = (
-  subst (λ (x : Place). x .entry .tick ≤ u .tick) (sym q) (omega arith),
-  subst (λ (x : Place). Inside (componentOf T c) (u .tick) x (x .waiting)) (sym q)
-      (subst (λ (now : ℕ). stayed now (placeOf s c) < pastIn (componentOf T c) (placeOf s c) e) (sym f) (h .end)),
+  subst (λ (x : PathPassage). x .entry .tick ≤ u .tick) (sym q) (omega arith),
+  subst (λ (x : PathPassage). Inside (componentOf T c) (u .tick) x (x .waiting)) (sym q)
+      (subst (λ (now : ℕ). stayed now (passageIn s c) < pastIn (componentOf T c) (passageIn s c) e) (sym f) (h .end)),
 )
-step-sound {T} {s} {l} {u} {c} i k (goes w e f n) = (omega arith, told (componentOf T c) (u .tick) (placeOf u c) none w tt)
+step-sound {T} {s} {l} {u} {c} i k (goes w e f n) = (omega arith, told (componentOf T c) (u .tick) (passageIn u c) none w tt)
 
 -- all do
 pub sound-step : {T : Table} {s : State} {l : Label} {u : State} → Sound T s → Step T s l u → Sound T u

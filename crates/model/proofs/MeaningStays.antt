@@ -8,9 +8,9 @@ use native.Mathlib.Omega.{arith}
 use lib.ListN.{length, length-append}
 use Rattle.model.specs.Table.{Table, componentOf, arcOf}
 use Rattle.model.specs.Window.{channelOf}
-use Rattle.model.specs.Schedule.{Visit, own}
-use Rattle.model.specs.Checks.{visitAt}
-use Rattle.model.specs.Network.{State, Place, Taken, Label, together, placeOf, start, mayJoin, step, onward, follow, passagesOn, waits, withPlace}
+use Rattle.model.specs.Schedule.{Passage, own}
+use Rattle.model.specs.Checks.{passageAt}
+use Rattle.model.specs.Network.{State, PathPassage, Taken, Label, together, passageIn, start, mayJoin, step, onward, follow, passagesOn, waits, withPassage}
 use Rattle.model.specs.Demand3.{TakenAs, PassAs, IsStepped, SteppedBefore}
 use Rattle.model.specs.Progress.{presentOf}
 use Rattle.model.proofs.NetWays.{leftOn, follow-append, passages-append}
@@ -19,17 +19,17 @@ use Rattle.model.proofs.MeaningPass.{passages-are, Split, split, split-
 -- ## Lists of passages
 
 -- the last one in another place: it passes as the schedule says if that one does
-pub pass-put : (left : List Place) (q p : Place) (vs : List Visit) → PassAs (left ++ (q ∷ [])) vs → p .entry ≡ q .entry
-    → TakenAs (p .waiting) (visitAt vs (pred (length (left ++ (q ∷ []))))) → PassAs (left ++ (p ∷ [])) vs
+pub pass-put : (left : List PathPassage) (q p : PathPassage) (vs : List Passage) → PassAs (left ++ (q ∷ [])) vs → p .entry ≡ q .entry
+    → TakenAs (p .waiting) (passageAt vs (pred (length (left ++ (q ∷ []))))) → PassAs (left ++ (p ∷ [])) vs
 pass-put [] q p [] h e k = h
 pass-put [] q p (v ∷ vs) h e k = (e ∙ h .0, k, h .2)
 pass-put (x ∷ left) q p [] h e k = h
 pass-put (x ∷ left) q p (v ∷ vs) h e k =
     let n : pred (length (x ∷ (left ++ (q ∷ [])))) ≡ suc (pred (length (left ++ (q ∷ [])))) = omega (arith, length-append left (q ∷ [])) in
-    (h .0, h .1, pass-put left q p vs (h .2) e (subst (λ (i : ℕ). TakenAs (p .waiting) (visitAt (v ∷ vs) i)) n k))
+    (h .0, h .1, pass-put left q p vs (h .2) e (subst (λ (i : ℕ). TakenAs (p .waiting) (passageAt (v ∷ vs) i)) n k))
 
 -- and it misses no window if that one has stepped in
-pub stepped-put : (t : ℕ) (left : List Place) (q p : Place) (vs : List Visit) → SteppedBefore t (left ++ (q ∷ [])) vs → IsStepped (p .waiting) → SteppedBefore t (left ++ (p ∷ [])) vs
+pub stepped-put : (t : ℕ) (left : List PathPassage) (q p : PathPassage) (vs : List Passage) → SteppedBefore t (left ++ (q ∷ [])) vs → IsStepped (p .waiting) → SteppedBefore t (left ++ (p ∷ [])) vs
 stepped-put t [] q p [] h k = tt
 stepped-put t [] q p (v ∷ vs) h k = (λ l. k, h .1)
 stepped-put t (x ∷ left) q p [] h k = tt
@@ -53,11 +53,11 @@ module _ (T : Table) (path : List Label) (s : State) (valid : follow T (start T)
       go (some t) h = h
 
   -- the passages on it: nobody leaves one
-  pub passages-on : step T s (together a e b f) ≡ some u → (c : ℕ) → passagesOn T c (start T) (path ++ (together a e b f ∷ [])) ≡ leftOn T c (start T) path ++ (placeOf u c ∷ [])
+  pub passages-on : step T s (together a e b f) ≡ some u → (c : ℕ) → passagesOn T c (start T) (path ++ (together a e b f ∷ [])) ≡ leftOn T c (start T) path ++ (passageIn u c ∷ [])
   unfolding passagesOn
   passages-on q c =
       passages-append T c (start T) path (together a e b f ∷ []) valid
-      ∙ ap (λ (o : Option State). leftOn T c (start T) path ++ onward o (λ t. placeOf t c ∷ []) []) q
+      ∙ ap (λ (o : Option State). leftOn T c (start T) path ++ onward o (λ t. passageIn t c ∷ []) []) q
 
   -- the step was allowed
   pub joined : step T s (together a e b f) ≡ some u → mayJoin T s a e b f ≡ true
@@ -67,31 +67,31 @@ module _ (T : Table) (path : List Label) (s : State) (valid : follow T (start T)
       k : Option ℕ
       k = channelOf (arcOf (componentOf T a) e)
 
-      go : (x : Bool) → cond x (some (withPlace (withPlace s a (waits (placeOf s a) e k)) b (waits (placeOf s b) f k))) none ≡ some u → x ≡ true
+      go : (x : Bool) → cond x (some (withPassage (withPassage s a (waits (passageIn s a) e k)) b (waits (passageIn s b) f k))) none ≡ some u → x ≡ true
       go true h = refl
       go false h = let z : _≡_ {A = ℕ} 0 1 = cc in absurd (omega arith)
 
 -- one that is allowed is made
 pub joins-to : (T : Table) (s : State) (a e b f : ℕ) → mayJoin T s a e b f ≡ true
-    → step T s (together a e b f) ≡ some (withPlace (withPlace s a (waits (placeOf s a) e (channelOf (arcOf (componentOf T a) e)))) b (waits (placeOf s b) f (channelOf (arcOf (componentOf T a) e))))
+    → step T s (together a e b f) ≡ some (withPassage (withPassage s a (waits (passageIn s a) e (channelOf (arcOf (componentOf T a) e)))) b (waits (passageIn s b) f (channelOf (arcOf (componentOf T a) e))))
 unfolding step
 joins-to T s a e b f q =
     ap
-    (λ (x : Bool). cond x (some (withPlace (withPlace s a (waits (placeOf s a) e (channelOf (arcOf (componentOf T a) e)))) b (waits (placeOf s b) f (channelOf (arcOf (componentOf T a) e))))) none)
+    (λ (x : Bool). cond x (some (withPassage (withPassage s a (waits (passageIn s a) e (channelOf (arcOf (componentOf T a) e)))) b (waits (passageIn s b) f (channelOf (arcOf (componentOf T a) e))))) none)
     q
 
 -- who steps in on a path that still passes as the schedule says takes the schedule's edge
-pub scheduled-edge : (T : Table) (S : List Visit) (path : List Label) (s : State) → follow T (start T) path ≡ some s → (c : ℕ) (p : Place) (w : Taken) → p .waiting ≡ some w
+pub scheduled-edge : (T : Table) (S : List Passage) (path : List Label) (s : State) → follow T (start T) path ≡ some s → (c : ℕ) (p : PathPassage) (w : Taken) → p .waiting ≡ some w
     → PassAs (leftOn T c (start T) path ++ (p ∷ [])) (own c S) → w .edge ≡ presentOf T S path c .edge
 scheduled-edge T S path s valid c p w e h = go (split left p (own c S) h)
   where
-    left : List Place
+    left : List PathPassage
     left = leftOn T c (start T) path
 
     go : Split left p (own c S) → w .edge ≡ presentOf T S path c .edge
     go k =
         let q : TakenAs (some w) (k .now) = subst (λ (o : Option Taken). TakenAs o (k .now)) e (k .beside .taken) in
-        let n : pred (length (left ++ (placeOf s c ∷ []))) ≡ pred (length (left ++ (p ∷ []))) = omega (arith, length-append left (placeOf s c ∷ []), length-append left (p ∷ [])) in
+        let n : pred (length (left ++ (passageIn s c ∷ []))) ≡ pred (length (left ++ (p ∷ []))) = omega (arith, length-append left (passageIn s c ∷ []), length-append left (p ∷ [])) in
         let i : presentOf T S path c ≡ k .now =
-        ap (λ (ps : List Place). visitAt (own c S) (pred (length ps))) (passages-are T c (start T) path valid) ∙ (ap (visitAt (own c S)) n ∙ split-at k) in
-        q .0 ∙ ap (λ (v : Visit). v .edge) (sym i)
+        ap (λ (ps : List PathPassage). passageAt (own c S) (pred (length ps))) (passages-are T c (start T) path valid) ∙ (ap (passageAt (own c S)) n ∙ split-at k) in
+        q .0 ∙ ap (λ (v : Passage). v .edge) (sym i)

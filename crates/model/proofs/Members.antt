@@ -8,7 +8,7 @@ use Prim.Native.Nat.{ℕ, zero, suc, _+_, _≤_, _<_}
 use native.Mathlib.Omega.{arith}
 use lib.ListN.{length, getD}
 use Rattle.model.specs.Lists.{all, any, only, first, _∈_, here, there}
-use Rattle.model.specs.Schedule.{Visit, endsSooner, sooner, earliest}
+use Rattle.model.specs.Schedule.{Passage, endsSooner, sooner, earliest}
 use Rattle.model.proofs.Bools.{clash, and-is, neither}
 
 -- ## Members
@@ -295,18 +295,18 @@ module _ {A : Type 0} (p : A → Bool) (xs ys zs : List A) (before : NoneOf p xs
 
 -- ## The earliest passage
 
-module _ (p : Visit → Bool) where
+module _ (p : Passage → Bool) where
   -- the earliest of two lists, one after the other
-  pub earliest-append : (xs ys : List Visit) (b : Option Visit) → earliest p (xs ++ ys) b ≡ earliest p ys (earliest p xs b)
+  pub earliest-append : (xs ys : List Passage) (b : Option Passage) → earliest p (xs ++ ys) b ≡ earliest p ys (earliest p xs b)
   earliest-append [] ys b = refl
   earliest-append (x ∷ xs) ys b = earliest-append xs ys (cond (p x) (sooner b x) b)
 
   -- a list with none changes nothing
-  pub earliest-same : (S : List Visit) (b : Option Visit) → NoneOf p S → earliest p S b ≡ b
+  pub earliest-same : (S : List Passage) (b : Option Passage) → NoneOf p S → earliest p S b ≡ b
   earliest-same S b = passed-over p (λ l. earliest p l b) (λ y l e. rw e) S
 
   -- the earliest in a list is the earliest in the part that holds all of which p holds
-  pub earliest-within : (xs ys zs : List Visit) (b : Option Visit) → NoneOf p xs → NoneOf p zs → earliest p (xs ++ ys ++ zs) b ≡ earliest p ys b
+  pub earliest-within : (xs ys zs : List Passage) (b : Option Passage) → NoneOf p xs → NoneOf p zs → earliest p (xs ++ ys ++ zs) b ≡ earliest p ys b
   earliest-within xs ys zs b before after =
       earliest-append (xs ++ ys) zs b
       ∙ earliest-same zs (earliest p (xs ++ ys) b) after
@@ -314,27 +314,27 @@ module _ (p : Visit → Bool) where
       ∙ ap (earliest p ys) (earliest-same xs b before)
 
   -- only those of which p holds count
-  pub earliest-only : (S : List Visit) (b : Option Visit) → earliest p S b ≡ earliest (λ v. true) (only p S) b
+  pub earliest-only : (S : List Passage) (b : Option Passage) → earliest p S b ≡ earliest (λ v. true) (only p S) b
   earliest-only [] b = refl
   earliest-only (x ∷ S) b = go (λ c. earliest-only S c) (p x)
     where
-      go : ((c : Option Visit) → earliest p S c ≡ earliest (λ v. true) (only p S) c) → (t : Bool)
+      go : ((c : Option Passage) → earliest p S c ≡ earliest (λ v. true) (only p S) c) → (t : Bool)
           → earliest p S (cond t (sooner b x) b) ≡ earliest (λ v. true) (cond t (x ∷ only p S) (only p S)) b
       go ih true = ih (sooner b x)
       go ih false = ih b
 
   -- what is found is the one handed in, or a member of which p holds
-  pub earliest-some : (S : List Visit) (b : Option Visit) {s : Visit} → earliest p S b ≡ some s → (b ≡ some s) ⊎ ((s ∈ S) × (p s ≡ true))
+  pub earliest-some : (S : List Passage) (b : Option Passage) {s : Passage} → earliest p S b ≡ some s → (b ≡ some s) ⊎ ((s ∈ S) × (p s ≡ true))
   earliest-some [] b e = inl e
   earliest-some (x ∷ S) b {s} e = go (λ c k. earliest-some S c k) (p x) refl e
     where
-      Found : Option Visit → List Visit → Type 0
+      Found : Option Passage → List Passage → Type 0
       Found c l = (c ≡ some s) ⊎ ((s ∈ l) × (p s ≡ true))
 
-      later : {c : Option Visit} → Found c S → (c ≡ some s → Found b (x ∷ S)) → Found b (x ∷ S)
+      later : {c : Option Passage} → Found c S → (c ≡ some s → Found b (x ∷ S)) → Found b (x ∷ S)
       later f k = elim f [ inl h ↦ k h | inr h ↦ inr (there (h .0), h .1) ]
 
-      chosen : p x ≡ true → (c : Option Visit) → b ≡ c → sooner c x ≡ some s → Found b (x ∷ S)
+      chosen : p x ≡ true → (c : Option Passage) → b ≡ c → sooner c x ≡ some s → Found b (x ∷ S)
       chosen h none f k = let e : s ≡ x = cc in inr (here e, ap p e ∙ h)
       chosen h (some c) f k = either (endsSooner x c) k
         where
@@ -342,6 +342,6 @@ module _ (p : Visit → Bool) where
           either true g = let e : s ≡ x = cc in inr (here e, ap p e ∙ h)
           either false g = inl (f ∙ g)
 
-      go : ((c : Option Visit) → earliest p S c ≡ some s → Found c S) → (t : Bool) → p x ≡ t → earliest p S (cond t (sooner b x) b) ≡ some s → Found b (x ∷ S)
+      go : ((c : Option Passage) → earliest p S c ≡ some s → Found c S) → (t : Bool) → p x ≡ t → earliest p S (cond t (sooner b x) b) ≡ some s → Found b (x ∷ S)
       go ih true h k = later (ih (sooner b x) k) (λ g. chosen h b refl g)
       go ih false h k = later (ih b k) (λ g. inl g)

@@ -20,18 +20,18 @@ use Rattle.model.proofs.NetSteps.{tick-step, Alone, in-step, Joins, joi
 -- ## What happens to a lane
 
 -- a good lane that does not end now is good at the next tick
-pub good-later : {H τ : ℕ} {C : Component} {K : Lane} → Good H C τ K → τ < K .visit .end → Good H C (suc τ) K
+pub good-later : {H τ : ℕ} {C : Component} {K : Lane} → Good H C τ K → τ < K .passage .end → Good H C (suc τ) K
 good-later g h = record { linked = g .linked; since = omega (arith, g .since); before = h; begun = λ d. omega (arith, g .begun d) }
 
 -- a good lane whose work is finished is good, if it was ready
-pub good-finished : {H τ : ℕ} {C : Component} {K : Lane} → Good H C τ K → K .visit .ready ≤ τ → Good H C τ (finished K)
+pub good-finished : {H τ : ℕ} {C : Component} {K : Lane} → Good H C τ K → K .passage .ready ≤ τ → Good H C τ (finished K)
 good-finished g h = record { linked = g .linked; since = g .since; before = g .before; begun = λ d. h }
 
 -- below the horizon a settled lane ends later if it does so with its work unfinished
-pub ends-later : {H τ : ℕ} (K : Lane) → Settled H τ K → τ < H → (K .done ≡ false → τ < K .visit .end) → τ < K .visit .end
+pub ends-later : {H τ : ℕ} (K : Lane) → Settled H τ K → τ < H → (K .done ≡ false → τ < K .passage .end) → τ < K .passage .end
 ends-later {H} {τ} K w below h = go (K .done) refl
   where
-    go : (t : Bool) → K .done ≡ t → τ < K .visit .end
+    go : (t : Bool) → K .done ≡ t → τ < K .passage .end
     go true e = w e below
     go false e = h e
 
@@ -80,31 +80,31 @@ module _ (T : Table) (H : ℕ) where
 
   module _ (τ : ℕ) (L : List Lane) (count : length L ≡ size T) (gs : AllGood τ L) where
     -- a tick, where every present passage ends later
-    pub tick-event : ((c : ℕ) → c < size T → τ < laneAt L c .visit .end) → Event τ L (tick ∷ outs (suc τ) 0 L) (suc τ) L []
+    pub tick-event : ((c : ℕ) → c < size T → τ < laneAt L c .passage .end) → Event τ L (tick ∷ outs (suc τ) 0 L) (suc τ) L []
     tick-event hs = event τ (suc τ) L L tick count (λ c h. good-later (gs c h) (hs c h)) (tick-step T H τ L count gs hs) (λ c. refl)
 
     -- component c finishes its work alone, in its window
-    pub alone-event : (c : ℕ) → c < size T → laneAt L c .done ≡ false → laneAt L c .visit .ready ≤ τ → Alone (componentOf T c) τ (laneAt L c .visit)
-        → Event τ L (stepIn c (laneAt L c .visit .edge) ∷ outs τ 0 (finish L c)) τ (finish L c) (one c τ ∷ [])
+    pub alone-event : (c : ℕ) → c < size T → laneAt L c .done ≡ false → laneAt L c .passage .ready ≤ τ → Alone (componentOf T c) τ (laneAt L c .passage)
+        → Event τ L (stepIn c (laneAt L c .passage .edge) ∷ outs τ 0 (finish L c)) τ (finish L c) (one c τ ∷ [])
     alone-event c there undone ready a =
-        event τ τ L (finish L c) (stepIn c (laneAt L c .visit .edge)) (finish-count L c ∙ count)
+        event τ τ L (finish L c) (stepIn c (laneAt L c .passage .edge)) (finish-count L c ∙ count)
         (finish-each (λ d K. Good H (componentOf T d) τ K) (size T) L c (omega (arith, count)) (λ g. good-finished g ready) gs)
         (in-step T H τ L c there (gs c there) undone ready a)
         (λ d. refl)
 
     -- a send of component a and a receive of component b finish together, on channel k
     pub together-event : (a b k : ℕ) → Joins T τ L a b k
-        → Event τ L (together a (laneAt L a .visit .edge) b (laneAt L b .visit .edge) ∷ outs τ 0 (finish (finish L a) b)) τ (finish (finish L a) b) (two a b k τ ∷ [])
+        → Event τ L (together a (laneAt L a .passage .edge) b (laneAt L b .passage .edge) ∷ outs τ 0 (finish (finish L a) b)) τ (finish (finish L a) b) (two a b k τ ∷ [])
     together-event a b k j =
         subst (λ (x : Option ℕ). Event τ L ls τ (finish (finish L a) b) (two a b (channelNumber x) τ ∷ [])) (j .channel)
-        (event τ τ L (finish (finish L a) b) (together a (laneAt L a .visit .edge) b (laneAt L b .visit .edge)) (finish-count (finish L a) b ∙ finish-count L a ∙ count)
+        (event τ τ L (finish (finish L a) b) (together a (laneAt L a .passage .edge) b (laneAt L b .passage .edge)) (finish-count (finish L a) b ∙ finish-count L a ∙ count)
         (finish-each (λ d K. Good H (componentOf T d) τ K) (size T) (finish L a) b (omega (arith, j .receiver, finish-count L a, count)) (λ g. good-finished g ready)
         (finish-each (λ d K. Good H (componentOf T d) τ K) (size T) L a (omega (arith, j .sender, count)) (λ g. good-finished g (j .sendReady)) gs))
         (joint-step T H τ L a b k j (gs a (j .sender)) (gs b (j .receiver)))
         (λ d. refl))
       where
         ls : List Label
-        ls = together a (laneAt L a .visit .edge) b (laneAt L b .visit .edge) ∷ outs τ 0 (finish (finish L a) b)
+        ls = together a (laneAt L a .passage .edge) b (laneAt L b .passage .edge) ∷ outs τ 0 (finish (finish L a) b)
 
-        ready : laneAt (finish L a) b .visit .ready ≤ τ
-        ready = subst (λ (K : Lane). K .visit .ready ≤ τ) (sym (finish-other L a b (λ e. j .differ (sym e)))) (j .receiveReady)
+        ready : laneAt (finish L a) b .passage .ready ≤ τ
+        ready = subst (λ (K : Lane). K .passage .ready ≤ τ) (sym (finish-other L a b (λ e. j .differ (sym e)))) (j .receiveReady)

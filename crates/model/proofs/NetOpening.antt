@@ -5,17 +5,17 @@ use Prim.Native.Nat.{ℕ, pred, _+_, _≤_, _<_}
 use native.Mathlib.Omega.{arith}
 use Rattle.model.specs.Table.{Component, arcOf, locationOf}
 use Rattle.model.specs.Window.{Entry, pastOf, updated, channelOf, listens}
-use Rattle.model.specs.Schedule.{Visit, withMessage}
+use Rattle.model.specs.Schedule.{Passage, withMessage}
 use Rattle.model.specs.Chains.{Opens}
 use Rattle.model.proofs.Opening.{Opened, opened}
 use Rattle.model.proofs.NetPassage.{Fits}
 
 -- a passage that opens there, with the message of the schedule: its component and entry, and that it fits
-pub opens : (c : ℕ) (C : Component) (at : Entry) (w : Visit) → Opens c C at w → (listens (arcOf C (w .edge)) ≡ false → w .message ≡ channelOf (arcOf C (w .edge)))
+pub opens : (c : ℕ) (C : Component) (at : Entry) (w : Passage) → Opens c C at w → (listens (arcOf C (w .edge)) ≡ false → w .message ≡ channelOf (arcOf C (w .edge)))
     → (w .component ≡ c) × (w .entry ≡ at) × Fits C w
 opens c C at w e s = (opened c C at e .component, opened c C at e .entry, fits)
   where
-    v : Visit
+    v : Passage
     v = withMessage w (channelOf (arcOf C (w .edge)))
 
     o : Opened c C (w .entry) v

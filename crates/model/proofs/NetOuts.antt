@@ -9,14 +9,14 @@ use lib.Dec.{eqb}
 use lib.ListN.{length, getD, set, length-append}
 use lib.Seq.{append-snoc, set-at, getD-at, set-getD}
 use Rattle.model.specs.Table.{Table, size, componentOf}
-use Rattle.model.specs.Schedule.{Visit}
-use Rattle.model.specs.Network.{Place, placeOf, stepOut}
+use Rattle.model.specs.Schedule.{Passage}
+use Rattle.model.specs.Network.{PathPassage, passageIn, stepOut}
 use Rattle.model.proofs.NetPassage.{placeIn}
 use Rattle.model.proofs.NetWays.{Way, no-way, one-way, then-way, same-way}
 use Rattle.model.proofs.NetLanes.{Lane, lane, noLane, laneAt, stateOf, waited, settle, leaving, out, settleAll, outs, Turn, stays, moves, turn, Good, place-at, out-step}
 
 -- what component d leaves where component c leaves vs
-abbrev pub leftAt : ℕ → List Visit → ℕ → List Place
+abbrev pub leftAt : ℕ → List Passage → ℕ → List PathPassage
 leftAt c vs d = cond (eqb c d) (map waited vs) []
 
 module _ (T : Table) (H τ : ℕ) where
@@ -32,18 +32,18 @@ module _ (T : Table) (H τ : ℕ) where
       none-left true = refl
       none-left false = refl
 
-      one-left : (vs : List Visit) → vs ≡ K .visit ∷ [] → K .done ≡ true → (d : ℕ) (t : Bool) → eqb c d ≡ t
-          → cond t (placeOf (stateOf τ L) d ∷ []) [] ≡ cond t (map waited vs) []
+      one-left : (vs : List Passage) → vs ≡ K .passage ∷ [] → K .done ≡ true → (d : ℕ) (t : Bool) → eqb c d ≡ t
+          → cond t (passageIn (stateOf τ L) d ∷ []) [] ≡ cond t (map waited vs) []
       one-left vs e w d true h =
-          let i : placeOf (stateOf τ L) d ≡ placeIn (K .visit) true = ap (λ (j : ℕ). placeOf (stateOf τ L) j) (sym (eqb-true c d h)) ∙ place-at τ L c ∙ ap (λ (b : Bool). placeIn (K .visit) b) w in
-          ap (λ (p : Place). p ∷ []) i ∙ ap (map waited) (sym e)
+          let i : passageIn (stateOf τ L) d ≡ placeIn (K .passage) true = ap (λ (j : ℕ). passageIn (stateOf τ L) j) (sym (eqb-true c d h)) ∙ place-at τ L c ∙ ap (λ (b : Bool). placeIn (K .passage) b) w in
+          ap (λ (p : PathPassage). p ∷ []) i ∙ ap (map waited) (sym e)
       one-left vs e w d false h = refl
 
       go : Turn τ K → Way T (stateOf τ L) (out τ c K) (stateOf τ (set L c (settle τ K))) (leftAt c (leaving τ K)) []
       go (stays s l o h) =
           same-way T (no-way T (stateOf τ L)) (sym (o c))
           (ap (stateOf τ) (sym (set-getD L c noLane) ∙ ap (λ (M : Lane). set L c M) (sym s)))
-          (λ d. none-left (eqb c d) ∙ ap (λ (vs : List Visit). leftAt c vs d) (sym l))
+          (λ d. none-left (eqb c d) ∙ ap (λ (vs : List Passage). leftAt c vs d) (sym l))
           refl
       go (moves v vs d e n s l o) =
           same-way T (one-way T (stateOf τ L) (stepOut c) (stateOf τ (set L c (lane v false vs))) (out-step T H τ L c there g v vs d e n)) (sym (o c))
@@ -52,7 +52,7 @@ module _ (T : Table) (H τ : ℕ) where
           refl
 
   -- what component d leaves where the components from i on step out that are to
-  abbrev leftFrom : ℕ → List Lane → ℕ → List Place
+  abbrev leftFrom : ℕ → List Lane → ℕ → List PathPassage
   leftFrom i [] d = []
   leftFrom i (K ∷ L) d = leftAt i (leaving τ K) d ++ leftFrom (suc i) L d
 

@@ -9,13 +9,13 @@ use lib.ListN.{length}
 use Rattle.model.specs.Lists.{isNone}
 use Rattle.model.specs.Table.{Component, arcOf, locationOf}
 use Rattle.model.specs.Window.{clockAt, readyOf, pastOf, dataHolds, updated, channelOf, listens}
-use Rattle.model.specs.Schedule.{Visit}
-use Rattle.model.specs.Network.{Taken, Place, inWindow, beforeEnd, atEnd, mayTick, mayStepIn}
+use Rattle.model.specs.Schedule.{Passage}
+use Rattle.model.specs.Network.{Taken, PathPassage, inWindow, beforeEnd, atEnd, mayTick, mayStepIn}
 use Rattle.model.proofs.Interval.{invariant}
 
 -- Its edge is there and starts where it is, data bounds hold, updates stay in range, ready and end are those of the edge, and the window is
 -- more than one tick. The message of an edge that does not receive is its channel, if it sends.
-pub record Fits (C : Component) (v : Visit) : Type 0 where
+pub record Fits (C : Component) (v : Passage) : Type 0 where
   pub there : v .edge < length (C .arcs)
   pub source : arcOf C (v .edge) .edge .source ≡ v .entry .location
   pub bounds : dataHolds (arcOf C (v .edge) .dataGuards) (v .entry .values) ≡ true
@@ -26,19 +26,19 @@ pub record Fits (C : Component) (v : Visit) : Type 0 where
   pub said : listens (arcOf C (v .edge)) ≡ false → v .message ≡ channelOf (arcOf C (v .edge))
 
 -- what a component waits in, its work finished
-abbrev pub takenOf : Visit → Taken
+abbrev pub takenOf : Passage → Taken
 takenOf v = record { edge = v .edge; message = v .message }
 
 -- a component in passage v, waiting or not
-abbrev pub placeIn : Visit → Bool → Place
+abbrev pub placeIn : Passage → Bool → PathPassage
 placeIn v w = record { entry = v .entry; waiting = cond w (some (takenOf v)) none }
 
-module _ {C : Component} {v : Visit} (f : Fits C v) where
+module _ {C : Component} {v : Passage} (f : Fits C v) where
   -- a passage is ready at its entry or later
   pub from-entry : v .entry .tick ≤ v .ready
   from-entry = omega (arith, f .ready)
 
-module _ {C : Component} {v : Visit} (f : Fits C v) (τ : ℕ) (since : v .entry .tick ≤ τ) where
+module _ {C : Component} {v : Passage} (f : Fits C v) (τ : ℕ) (since : v .entry .tick ≤ τ) where
   -- from ready to end it is in its window
   pub in-window : (w : Bool) → v .ready ≤ τ → τ ≤ v .end → inWindow C τ (placeIn v w) (v .edge) ≡ true
   in-window w r e = rw (

@@ -10,7 +10,7 @@ use borrow.Author.Tests.{eqb-true, eqb-false, leb-true, leb-false}
 use lib.Dec.{leb, eqb}
 use Rattle.model.specs.Table.{Table, size, componentOf, arcOf}
 use Rattle.model.specs.Window.{channelOf, listens}
-use Rattle.model.specs.Schedule.{Visit, own, names}
+use Rattle.model.specs.Schedule.{Passage, own, names}
 use Rattle.model.specs.Chains.{IsSchedule}
 use Rattle.model.specs.Network.{Label, Work, one, two}
 use Rattle.model.proofs.NetLinks.{first-fits}
@@ -22,38 +22,38 @@ use Rattle.model.proofs.NetStart.{startLanes, start-ahead, reached-star
 
 -- At tick τ, on a path that passes as the schedule S says and misses no window, A c are the passages of component c whose work is unfinished,
 -- and ws are the works finished.
-pub record Passing (T : Table) (H : ℕ) (S : List Visit) (τ : ℕ) (A : ℕ → List Visit) (ws : List Work) : Type 0 where
+pub record Passing (T : Table) (H : ℕ) (S : List Passage) (τ : ℕ) (A : ℕ → List Passage) (ws : List Work) : Type 0 where
   pub path : List Label
   pub lanes : List Lane
   pub reached : Reached T H S path τ lanes ws
   pub aheads : (c : ℕ) → c < size T → ahead (laneAt lanes c) ≡ A c
 
 -- at the start all passages of the schedule are ahead
-pub passing-start : (limit : ℕ) (T : Table) (H : ℕ) (S : List Visit) → IsSchedule limit T H S → Passing T H S 0 (λ c. own c S) []
+pub passing-start : (limit : ℕ) (T : Table) (H : ℕ) (S : List Passage) → IsSchedule limit T H S → Passing T H S 0 (λ c. own c S) []
 passing-start limit T H S s =
     record { path = []; lanes = startLanes S (size T); reached = reached-start limit T H S s; aheads = start-ahead limit T H S s }
 
 -- a send and a receive that takes it: sender a in passage v, receiver b in passage w, channel k
-pub record Partners (T : Table) (a : ℕ) (v : Visit) (b : ℕ) (w : Visit) (k : ℕ) : Type 0 where
+pub record Partners (T : Table) (a : ℕ) (v : Passage) (b : ℕ) (w : Passage) (k : ℕ) : Type 0 where
   pub differ : a ≡ b → ⊥
   pub channel : channelOf (arcOf (componentOf T a) (v .edge)) ≡ some k
   pub receives : listens (arcOf (componentOf T b) (w .edge)) ≡ true
   pub named : names (arcOf (componentOf T b) (w .edge)) (some k) ≡ true
   pub message : w .message ≡ some k
 
-module _ (T : Table) (H : ℕ) (S : List Visit) {τ : ℕ} {A : ℕ → List Visit} {ws : List Work} (g : Passing T H S τ A ws) where
+module _ (T : Table) (H : ℕ) (S : List Passage) {τ : ℕ} {A : ℕ → List Passage} {ws : List Work} (g : Passing T H S τ A ws) where
   -- the lanes
   abbrev L : List Lane
   L = g .lanes
 
   -- the lane of a component that is in the window of the first passage ahead
-  here : (c : ℕ) → c < size T → (v : Visit) (vs : List Visit) → A c ≡ v ∷ vs → v .ready ≤ τ → laneAt L c ≡ lane v false vs
+  here : (c : ℕ) → c < size T → (v : Passage) (vs : List Passage) → A c ≡ v ∷ vs → v .ready ≤ τ → laneAt L c ≡ lane v false vs
   here c h v vs e ready = at-work (laneAt L c) (g .reached .stands c h .good) (g .reached .settled c h) v vs (g .aheads c h ∙ e) ready
 
   -- ## Events
 
   -- Below the horizon a tick passes if no passage ahead that is ready ends now.
-  pub passing-tick : τ < H → ((c : ℕ) → c < size T → (v : Visit) (vs : List Visit) → A c ≡ v ∷ vs → v .ready ≤ τ → τ < v .end) → Passing T H S (suc τ) A ws
+  pub passing-tick : τ < H → ((c : ℕ) → c < size T → (v : Passage) (vs : List Passage) → A c ≡ v ∷ vs → v .ready ≤ τ → τ < v .end) → Passing T H S (suc τ) A ws
   passing-tick below later =
       record {
         path = _;
@@ -62,30 +62,30 @@ module _ (T : Table) (H : ℕ) (S : List Visit) {τ : ℕ} {A : ℕ → List Vis
         aheads = λ c h. ap ahead (settled-at (suc τ) L c) ∙ settle-ahead (suc τ) (laneAt L c) ∙ g .aheads c h;
       }
     where
-      unfinished : (c : ℕ) → c < size T → laneAt L c .done ≡ false → τ < laneAt L c .visit .end
-      unfinished c h d = go (leb (K .visit .ready) τ) refl
+      unfinished : (c : ℕ) → c < size T → laneAt L c .done ≡ false → τ < laneAt L c .passage .end
+      unfinished c h d = go (leb (K .passage .ready) τ) refl
         where
           K : Lane
           K = laneAt L c
 
-          first : A c ≡ K .visit ∷ K .next
-          first = sym (g .aheads c h) ∙ ap (λ (t : Bool). aheadOf t (K .visit) (K .next)) d
+          first : A c ≡ K .passage ∷ K .next
+          first = sym (g .aheads c h) ∙ ap (λ (t : Bool). aheadOf t (K .passage) (K .next)) d
 
-          go : (t : Bool) → leb (K .visit .ready) τ ≡ t → τ < K .visit .end
-          go true e = later c h (K .visit) (K .next) first (leb-true (K .visit .ready) τ e)
-          go false e = omega (arith, leb-false (K .visit .ready) τ e, first-fits (g .reached .stands c h .good .linked) .window)
+          go : (t : Bool) → leb (K .passage .ready) τ ≡ t → τ < K .passage .end
+          go true e = later c h (K .passage) (K .next) first (leb-true (K .passage .ready) τ e)
+          go false e = omega (arith, leb-false (K .passage .ready) τ e, first-fits (g .reached .stands c h .good .linked) .window)
 
   -- Component c finishes alone the work of the first passage ahead, in its window: an internal edge, or a timeout.
-  pub passing-alone : (c : ℕ) → c < size T → (v : Visit) (vs : List Visit) → A c ≡ v ∷ vs → v .ready ≤ τ → Alone (componentOf T c) τ v
-      → (B : ℕ → List Visit) → B c ≡ vs → ((d : ℕ) → d < size T → (d ≡ c → ⊥) → B d ≡ A d) → Passing T H S τ B (ws ++ (one c τ ∷ []))
+  pub passing-alone : (c : ℕ) → c < size T → (v : Passage) (vs : List Passage) → A c ≡ v ∷ vs → v .ready ≤ τ → Alone (componentOf T c) τ v
+      → (B : ℕ → List Passage) → B c ≡ vs → ((d : ℕ) → d < size T → (d ≡ c → ⊥) → B d ≡ A d) → Passing T H S τ B (ws ++ (one c τ ∷ []))
   passing-alone c h v vs e ready a B this others =
       record {
         path = _;
         lanes = settleAll τ (finish L c);
         reached =
             reached-alone T H S (g .reached) c h (ap (λ (K : Lane). K .done) k)
-            (subst (λ (K : Lane). K .visit .ready ≤ τ) (sym k) ready)
-            (subst (λ (K : Lane). Alone (componentOf T c) τ (K .visit)) (sym k) a);
+            (subst (λ (K : Lane). K .passage .ready ≤ τ) (sym k) ready)
+            (subst (λ (K : Lane). Alone (componentOf T c) τ (K .passage)) (sym k) a);
         aheads = λ d i. ap ahead (settled-at τ (finish L c) d) ∙ settle-ahead τ (laneAt (finish L c) d) ∙ after d i (eqb d c) refl;
       }
     where
@@ -102,8 +102,8 @@ module _ (T : Table) (H : ℕ) (S : List Visit) {τ : ℕ} {A : ℕ → List Vis
           ap ahead (finish-other L c d n) ∙ g .aheads d i ∙ sym (others d i n)
 
   -- A send and a receive finish together the works of the first passages ahead of them, both in their windows.
-  pub passing-together : (a b k : ℕ) → a < size T → b < size T → (v w : Visit) (vs us : List Visit) → A a ≡ v ∷ vs → A b ≡ w ∷ us → v .ready ≤ τ → w .ready ≤ τ
-      → Partners T a v b w k → (B : ℕ → List Visit) → B a ≡ vs → B b ≡ us → ((d : ℕ) → d < size T → (d ≡ a → ⊥) → (d ≡ b → ⊥) → B d ≡ A d)
+  pub passing-together : (a b k : ℕ) → a < size T → b < size T → (v w : Passage) (vs us : List Passage) → A a ≡ v ∷ vs → A b ≡ w ∷ us → v .ready ≤ τ → w .ready ≤ τ
+      → Partners T a v b w k → (B : ℕ → List Passage) → B a ≡ vs → B b ≡ us → ((d : ℕ) → d < size T → (d ≡ a → ⊥) → (d ≡ b → ⊥) → B d ≡ A d)
       → Passing T H S τ B (ws ++ (two a b k τ ∷ []))
   passing-together a b k ha hb v w vs us ea eb ra rb p B thisA thisB others =
       record {
@@ -127,12 +127,12 @@ module _ (T : Table) (H : ℕ) (S : List Visit) {τ : ℕ} {A : ℕ → List Vis
             differ = p .differ;
             sendOpen = ap (λ (K : Lane). K .done) ka;
             receiveOpen = ap (λ (K : Lane). K .done) kb;
-            sendReady = subst (λ (K : Lane). K .visit .ready ≤ τ) (sym ka) ra;
-            receiveReady = subst (λ (K : Lane). K .visit .ready ≤ τ) (sym kb) rb;
-            channel = subst (λ (K : Lane). channelOf (arcOf (componentOf T a) (K .visit .edge)) ≡ some k) (sym ka) (p .channel);
-            receives = subst (λ (K : Lane). listens (arcOf (componentOf T b) (K .visit .edge)) ≡ true) (sym kb) (p .receives);
-            named = subst (λ (K : Lane). names (arcOf (componentOf T b) (K .visit .edge)) (some k) ≡ true) (sym kb) (p .named);
-            message = subst (λ (K : Lane). K .visit .message ≡ some k) (sym kb) (p .message);
+            sendReady = subst (λ (K : Lane). K .passage .ready ≤ τ) (sym ka) ra;
+            receiveReady = subst (λ (K : Lane). K .passage .ready ≤ τ) (sym kb) rb;
+            channel = subst (λ (K : Lane). channelOf (arcOf (componentOf T a) (K .passage .edge)) ≡ some k) (sym ka) (p .channel);
+            receives = subst (λ (K : Lane). listens (arcOf (componentOf T b) (K .passage .edge)) ≡ true) (sym kb) (p .receives);
+            named = subst (λ (K : Lane). names (arcOf (componentOf T b) (K .passage .edge)) (some k) ≡ true) (sym kb) (p .named);
+            message = subst (λ (K : Lane). K .passage .message ≡ some k) (sym kb) (p .message);
           }
 
       after : (d : ℕ) → d < size T → (t : Bool) → eqb d b ≡ t → (u : Bool) → eqb d a ≡ u → ahead (laneAt (finish (finish L a) b) d) ≡ B d

@@ -9,7 +9,7 @@ use lib.ListN.{length, length-map}
 use lib.Seq.{append-snoc}
 use Rattle.model.specs.Lists.{All, empty, more}
 use Rattle.model.specs.Table.{Component, Table, size, componentOf}
-use Rattle.model.specs.Schedule.{Visit, own}
+use Rattle.model.specs.Schedule.{Passage, own}
 use Rattle.model.specs.Network.{Label, tick, stepIn, together, start, Work, one, two}
 use Rattle.model.proofs.Words.{all-join}
 use Rattle.model.proofs.Own.{all-then}
@@ -23,16 +23,16 @@ use Rattle.model.proofs.NetEvents.{good-later, good-finished, ends-late
 -- ## The relation
 
 -- component C in lane K at tick τ: vs are its passages in the schedule, past those that it has left
-pub record Stands (H : ℕ) (C : Component) (vs : List Visit) (τ : ℕ) (past : List Visit) (K : Lane) : Type 0 where
-  pub whole : past ++ (K .visit ∷ K .next) ≡ vs
+pub record Stands (H : ℕ) (C : Component) (vs : List Passage) (τ : ℕ) (past : List Passage) (K : Lane) : Type 0 where
+  pub whole : past ++ (K .passage ∷ K .next) ≡ vs
   pub over : All (λ v. Fits C v × (v .end ≤ τ)) past
   pub good : Good H C τ K
 
 -- the path p leads from the start to the lanes L at tick τ; each component has left its first passages of the schedule, stepped in as the
 -- schedule says; ws are the works finished
-pub record Reached (T : Table) (H : ℕ) (S : List Visit) (p : List Label) (τ : ℕ) (L : List Lane) (ws : List Work) : Type 0 where
+pub record Reached (T : Table) (H : ℕ) (S : List Passage) (p : List Label) (τ : ℕ) (L : List Lane) (ws : List Work) : Type 0 where
   pub count : length L ≡ size T
-  pub past : ℕ → List Visit
+  pub past : ℕ → List Passage
   pub way : Way T (start T) p (stateOf τ L) (λ c. map waited (past c)) ws
   pub stands : (c : ℕ) → c < size T → Stands H (componentOf T c) (own c S) τ (past c) (laneAt L c)
   pub settled : (c : ℕ) → c < size T → Settled H τ (laneAt L c)
@@ -47,7 +47,7 @@ map-append f (x ∷ xs) ys = ap (λ (l : List _). f x ∷ l) (map-append f xs ys
 -- ## Those step out that are to
 
 -- one component
-settle-stands : {H : ℕ} {C : Component} {vs : List Visit} {τ : ℕ} {past : List Visit} (K : Lane) → Stands H C vs τ past K
+settle-stands : {H : ℕ} {C : Component} {vs : List Passage} {τ : ℕ} {past : List Passage} (K : Lane) → Stands H C vs τ past K
     → Stands H C vs τ (past ++ leaving τ K) (settle τ K)
 settle-stands {H} {C} {vs} {τ} {past} K s = go (turn τ K)
   where
@@ -56,29 +56,29 @@ settle-stands {H} {C} {vs} {τ} {past} K s = go (turn τ K)
 
     go : Turn τ K → Stands H C vs τ (past ++ leaving τ K) (settle τ K)
     go (stays e l o h) =
-        let x : past ++ leaving τ K ≡ past = ap (λ (y : List Visit). past ++ y) l ∙ append-nil past in
+        let x : past ++ leaving τ K ≡ past = ap (λ (y : List Passage). past ++ y) l ∙ append-nil past in
         record {
-          whole = ap (λ (M : Lane). (past ++ leaving τ K) ++ (M .visit ∷ M .next)) e ∙ ap (λ (y : List Visit). y ++ (K .visit ∷ K .next)) x ∙ s .whole;
-          over = subst (λ (y : List Visit). All (λ v. Fits C v × (v .end ≤ τ)) y) (sym x) (s .over);
+          whole = ap (λ (M : Lane). (past ++ leaving τ K) ++ (M .passage ∷ M .next)) e ∙ ap (λ (y : List Passage). y ++ (K .passage ∷ K .next)) x ∙ s .whole;
+          over = subst (λ (y : List Passage). All (λ v. Fits C v × (v .end ≤ τ)) y) (sym x) (s .over);
           good = good;
         }
     go (moves v ns d e n i l o) =
         record {
           whole =
-              ap (λ (M : Lane). (past ++ leaving τ K) ++ (M .visit ∷ M .next)) i
-              ∙ ap (λ (y : List Visit). (past ++ y) ++ (v ∷ ns)) l
-              ∙ append-snoc past (K .visit) (v ∷ ns)
-              ∙ ap (λ (y : List Visit). past ++ (K .visit ∷ y)) (sym n)
+              ap (λ (M : Lane). (past ++ leaving τ K) ++ (M .passage ∷ M .next)) i
+              ∙ ap (λ (y : List Passage). (past ++ y) ++ (v ∷ ns)) l
+              ∙ append-snoc past (K .passage) (v ∷ ns)
+              ∙ ap (λ (y : List Passage). past ++ (K .passage ∷ y)) (sym n)
               ∙ s .whole;
-          over = all-join (s .over) (subst (λ (y : List Visit). All (λ v. Fits C v × (v .end ≤ τ)) y) (sym l) (more (first-fits (s .good .linked), omega arith) empty));
+          over = all-join (s .over) (subst (λ (y : List Passage). All (λ v. Fits C v × (v .end ≤ τ)) y) (sym l) (more (first-fits (s .good .linked), omega arith) empty));
           good = good;
         }
 
 -- ## The events keep it
 
-module _ (T : Table) (H : ℕ) (S : List Visit) where
+module _ (T : Table) (H : ℕ) (S : List Passage) where
   -- the present passage of component d, at tick τ, with the passages left so far
-  abbrev StandsAt : (ℕ → List Visit) → ℕ → ℕ → Lane → Type 0
+  abbrev StandsAt : (ℕ → List Passage) → ℕ → ℕ → Lane → Type 0
   StandsAt past τ d K = Stands H (componentOf T d) (own d S) τ (past d) K
 
   -- after an event to lanes that stand
@@ -101,11 +101,11 @@ module _ (T : Table) (H : ℕ) (S : List Visit) where
     goods c h = r .stands c h .good
 
     -- a component whose work is finished stands as before, if it was ready
-    stands-finished : (past : ℕ → List Visit) (c : ℕ) (K : Lane) → K .visit .ready ≤ τ → StandsAt past τ c K → StandsAt past τ c (finished K)
+    stands-finished : (past : ℕ → List Passage) (c : ℕ) (K : Lane) → K .passage .ready ≤ τ → StandsAt past τ c K → StandsAt past τ c (finished K)
     stands-finished past c K ready s = record { whole = s .whole; over = s .over; good = good-finished (s .good) ready }
 
     -- Below the horizon, where no unfinished work ends now, a tick passes, and those step out that reach their end.
-    pub reached-tick : τ < H → ((c : ℕ) → c < size T → laneAt L c .done ≡ false → τ < laneAt L c .visit .end)
+    pub reached-tick : τ < H → ((c : ℕ) → c < size T → laneAt L c .done ≡ false → τ < laneAt L c .passage .end)
         → Reached T H S (p ++ (tick ∷ outs (suc τ) 0 L)) (suc τ) (settleAll (suc τ) L) ws
     reached-tick below unfinished =
         subst (λ (vs : List Work). Reached T H S (p ++ (tick ∷ outs (suc τ) 0 L)) (suc τ) (settleAll (suc τ) L) vs) (append-nil ws)
@@ -113,19 +113,19 @@ module _ (T : Table) (H : ℕ) (S : List Visit) where
         let s = r .stands c h in
         record { whole = s .whole; over = all-then (λ v k. (k .0, omega (arith, k .1))) (s .over); good = good-later (s .good) (later c h) }))
       where
-        later : (c : ℕ) → c < size T → τ < laneAt L c .visit .end
+        later : (c : ℕ) → c < size T → τ < laneAt L c .passage .end
         later c h = ends-later (laneAt L c) (r .settled c h) below (unfinished c h)
 
     -- A component finishes its work alone, in its window; then it steps out if its end is now.
-    pub reached-alone : (c : ℕ) → c < size T → laneAt L c .done ≡ false → laneAt L c .visit .ready ≤ τ → Alone (componentOf T c) τ (laneAt L c .visit)
-        → Reached T H S (p ++ (stepIn c (laneAt L c .visit .edge) ∷ outs τ 0 (finish L c))) τ (settleAll τ (finish L c)) (ws ++ (one c τ ∷ []))
+    pub reached-alone : (c : ℕ) → c < size T → laneAt L c .done ≡ false → laneAt L c .passage .ready ≤ τ → Alone (componentOf T c) τ (laneAt L c .passage)
+        → Reached T H S (p ++ (stepIn c (laneAt L c .passage .edge) ∷ outs τ 0 (finish L c))) τ (settleAll τ (finish L c)) (ws ++ (one c τ ∷ []))
     reached-alone c there undone ready a =
         further (finish L c) r (alone-event T H τ L (r .count) goods c there undone ready a) (finish-count L c ∙ r .count)
         (finish-each (StandsAt (r .past) τ) (size T) L c (omega (arith, r .count)) (stands-finished (r .past) c (laneAt L c) ready) (r .stands))
 
     -- A send and a receive that takes it finish together; then those step out whose end is now.
     pub reached-together : (a b k : ℕ) → Joins T τ L a b k
-        → Reached T H S (p ++ (together a (laneAt L a .visit .edge) b (laneAt L b .visit .edge) ∷ outs τ 0 (finish (finish L a) b))) τ
+        → Reached T H S (p ++ (together a (laneAt L a .passage .edge) b (laneAt L b .passage .edge) ∷ outs τ 0 (finish (finish L a) b))) τ
         (settleAll τ (finish (finish L a) b))
         (ws ++ (two a b k τ ∷ []))
     reached-together a b k j =
@@ -133,5 +133,5 @@ module _ (T : Table) (H : ℕ) (S : List Visit) where
         (finish-each (StandsAt (r .past) τ) (size T) (finish L a) b (omega (arith, j .receiver, finish-count L a, r .count)) (stands-finished (r .past) b (laneAt (finish L a) b) ready)
         (finish-each (StandsAt (r .past) τ) (size T) L a (omega (arith, j .sender, r .count)) (stands-finished (r .past) a (laneAt L a) (j .sendReady)) (r .stands)))
       where
-        ready : laneAt (finish L a) b .visit .ready ≤ τ
-        ready = subst (λ (K : Lane). K .visit .ready ≤ τ) (sym (finish-other L a b (λ e. j .differ (sym e)))) (j .receiveReady)
+        ready : laneAt (finish L a) b .passage .ready ≤ τ
+        ready = subst (λ (K : Lane). K .passage .ready ≤ τ) (sym (finish-other L a b (λ e. j .differ (sym e)))) (j .receiveReady)

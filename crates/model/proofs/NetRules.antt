@@ -16,7 +16,7 @@ use Rattle.model.specs.Lists.{isNone}
 use Rattle.model.specs.Table.{Arc, Component, Table, size, componentOf, noComponent, arcOf, locationOf}
 use Rattle.model.specs.Window.{clockAt, readyOf, dataHolds, updated, channelOf, listens, leaves}
 use Rattle.model.specs.Schedule.{names}
-use Rattle.model.specs.Network.{State, Place, Taken, noPlace, placeOf, stayed, pastIn, inWindow, atEnd, Label, tick, stepIn, together, stepOut, present, mayTick, allMayTick, mayStepIn, waits, alone, hearsOn, withPlace, entersAt, outOf, mayJoin, step}
+use Rattle.model.specs.Network.{State, PathPassage, Taken, noPathPassage, passageIn, stayed, pastIn, inWindow, atEnd, Label, tick, stepIn, together, stepOut, present, mayTick, allMayTick, mayStepIn, waits, alone, hearsOn, withPassage, entersAt, outOf, mayJoin, step}
 pub use Rattle.model.specs.NetworkRules.{Passes, StepsIn, ByItself, internally, timesOut, Step, ticks, enters, joins, leavesIt}
 use Rattle.model.proofs.Bools.{clash, and-is}
 
@@ -47,7 +47,7 @@ cond-is true s u = (λ e. (refl, cc), λ h. ap some (h .1))
 cond-is false s u = (λ e. let z : _≡_ {A = ℕ} 0 1 = cc in absurd (omega arith), λ h. clash (h .0))
 
 -- a component lets the tick pass
-passes-is : (C : Component) (now : ℕ) (p : Place) (o : Option Taken) → (mayTick C now p o ≡ true) ↔ Passes C now p o
+passes-is : (C : Component) (now : ℕ) (p : PathPassage) (o : Option Taken) → (mayTick C now p o ≡ true) ↔ Passes C now p o
 passes-is C now p none =
     let x = clockAt (p .entry .clocks) (locationOf C (p .entry .location) .clock) in
     let q = locationOf C (p .entry .location) .bound in
@@ -55,8 +55,8 @@ passes-is C now p none =
 passes-is C now p (some w) = (ltb-true (suc (stayed now p)) (pastIn C p (w .edge)), lt-ltb (suc (stayed now p)) (pastIn C p (w .edge)))
 
 -- all do
-all-pass : (now : ℕ) (Cs : List Component) (ps : List Place) → (allMayTick now Cs ps ≡ true)
-    ↔ ((c : ℕ) → c < length Cs → (c < length ps) × Passes (getD Cs c noComponent) now (getD ps c noPlace) (getD ps c noPlace .waiting))
+all-pass : (now : ℕ) (Cs : List Component) (ps : List PathPassage) → (allMayTick now Cs ps ≡ true)
+    ↔ ((c : ℕ) → c < length Cs → (c < length ps) × Passes (getD Cs c noComponent) now (getD ps c noPathPassage) (getD ps c noPathPassage .waiting))
 unfolding allMayTick
 all-pass now [] ps = (λ e c h. absurd (omega arith), λ h. refl)
 all-pass now (C ∷ Cs) [] = (λ e. clash e, λ h. absurd (omega (arith, h 0 (omega arith) .0)))
@@ -72,13 +72,13 @@ all-pass now (C ∷ Cs) (p ∷ ps) =
           ),
     )
   where
-    each : Passes C now p (p .waiting) → ((c : ℕ) → c < length Cs → (c < length ps) × Passes (getD Cs c noComponent) now (getD ps c noPlace) (getD ps c noPlace .waiting))
-        → (c : ℕ) → c < length (C ∷ Cs) → (c < length (p ∷ ps)) × Passes (getD (C ∷ Cs) c noComponent) now (getD (p ∷ ps) c noPlace) (getD (p ∷ ps) c noPlace .waiting)
+    each : Passes C now p (p .waiting) → ((c : ℕ) → c < length Cs → (c < length ps) × Passes (getD Cs c noComponent) now (getD ps c noPathPassage) (getD ps c noPathPassage .waiting))
+        → (c : ℕ) → c < length (C ∷ Cs) → (c < length (p ∷ ps)) × Passes (getD (C ∷ Cs) c noComponent) now (getD (p ∷ ps) c noPathPassage) (getD (p ∷ ps) c noPathPassage .waiting)
     each a b zero h = (omega arith, a)
     each a b (suc c) h = let g = b c (omega arith) in (omega (arith, g .0), g .1)
 
 -- a component may step in
-steps-in-is : (C : Component) (now : ℕ) (p : Place) (e : ℕ) → (mayStepIn C now p e ≡ true) ↔ StepsIn C now p e
+steps-in-is : (C : Component) (now : ℕ) (p : PathPassage) (e : ℕ) → (mayStepIn C now p e ≡ true) ↔ StepsIn C now p e
 unfolding mayStepIn
 steps-in-is C now p e = (
   λ h.
@@ -120,7 +120,7 @@ steps-in-is C now p e = (
         (inWindow C now p e)
 
 -- a component may step in by itself
-by-itself-is : (C : Component) (now : ℕ) (p : Place) (e : ℕ) (x : Action) → (alone C now p e x ≡ true) ↔ ByItself C now p e x
+by-itself-is : (C : Component) (now : ℕ) (p : PathPassage) (e : ℕ) (x : Action) → (alone C now p e x ≡ true) ↔ ByItself C now p e x
 by-itself-is C now p e Internal = (λ h. internally, λ k. refl)
 by-itself-is C now p e (Send k) = (λ h. clash h, elim [ ])
 by-itself-is C now p e Receive = (λ h. timesOut (eqb-true (suc (stayed now p)) (pastIn C p e) h), λ k. elim k [ timesOut i ↦ eq-eqb (suc (stayed now p)) (pastIn C p e) i ])
@@ -134,37 +134,37 @@ hears-on-is a k = and-is (listens a) (names a (some k))
 module _ (T : Table) (s : State) where
   -- the tests of a joint step
   joins-is : (a f b g : ℕ) → (mayJoin T s a f b g ≡ true)
-      ↔ (present T a ≡ true) × (present T b ≡ true) × (not (eqb a b) ≡ true) × (mayStepIn (componentOf T a) (s .tick) (placeOf s a) f ≡ true)
-      × (mayStepIn (componentOf T b) (s .tick) (placeOf s b) g ≡ true) × (hearsOn (arcOf (componentOf T b) g) (channelOf (arcOf (componentOf T a) f)) ≡ true)
-  joins-is a f b g = six-is (present T a) (present T b) (not (eqb a b)) (mayStepIn (componentOf T a) (s .tick) (placeOf s a) f)
-      (mayStepIn (componentOf T b) (s .tick) (placeOf s b) g)
+      ↔ (present T a ≡ true) × (present T b ≡ true) × (not (eqb a b) ≡ true) × (mayStepIn (componentOf T a) (s .tick) (passageIn s a) f ≡ true)
+      × (mayStepIn (componentOf T b) (s .tick) (passageIn s b) g ≡ true) × (hearsOn (arcOf (componentOf T b) g) (channelOf (arcOf (componentOf T a) f)) ≡ true)
+  joins-is a f b g = six-is (present T a) (present T b) (not (eqb a b)) (mayStepIn (componentOf T a) (s .tick) (passageIn s a) f)
+      (mayStepIn (componentOf T b) (s .tick) (passageIn s b) g)
       (hearsOn (arcOf (componentOf T b) g) (channelOf (arcOf (componentOf T a) f)))
 
   -- what `step` allows follows the rules
   follows-rules : (l : Label) (t : State) → step T s l ≡ some t → Step T s l t
   unfolding step
   follows-rules tick t e =
-      let h = cond-is (allMayTick (s .tick) (T .components) (s .places)) (record { tick = suc (s .tick); places = s .places }) t .0 e in
-      subst (Step T s tick) (h .1) (ticks (all-pass (s .tick) (T .components) (s .places) .0 (h .0)))
+      let h = cond-is (allMayTick (s .tick) (T .components) (s .present)) (record { tick = suc (s .tick); present = s .present }) t .0 e in
+      subst (Step T s tick) (h .1) (ticks (all-pass (s .tick) (T .components) (s .present) .0 (h .0)))
   follows-rules (stepIn c f) t e =
       let x = arcOf (componentOf T c) f .edge .action in
-      let in′ = mayStepIn (componentOf T c) (s .tick) (placeOf s c) f in
-      let by = alone (componentOf T c) (s .tick) (placeOf s c) f x in
-      let h = cond-is (present T c && in′ && by) (withPlace s c (waits (placeOf s c) f none)) t .0 e in
+      let in′ = mayStepIn (componentOf T c) (s .tick) (passageIn s c) f in
+      let by = alone (componentOf T c) (s .tick) (passageIn s c) f x in
+      let h = cond-is (present T c && in′ && by) (withPassage s c (waits (passageIn s c) f none)) t .0 e in
       let i = and-is (present T c && in′) by .0 (h .0) in
       let j = and-is (present T c) in′ .0 (i .0) in
       subst (Step T s (stepIn c f)) (h .1)
-      (enters (ltb-true c (size T) (j .0)) (steps-in-is (componentOf T c) (s .tick) (placeOf s c) f .0 (j .1)) (by-itself-is (componentOf T c) (s .tick) (placeOf s c) f x .0 (i .1)))
+      (enters (ltb-true c (size T) (j .0)) (steps-in-is (componentOf T c) (s .tick) (passageIn s c) f .0 (j .1)) (by-itself-is (componentOf T c) (s .tick) (passageIn s c) f x .0 (i .1)))
   follows-rules (together a f b g) t e = go (channelOf (arcOf (componentOf T a) f)) refl
     where
       after : Option ℕ → State
-      after o = withPlace (withPlace s a (waits (placeOf s a) f o)) b (waits (placeOf s b) g o)
+      after o = withPassage (withPassage s a (waits (passageIn s a) f o)) b (waits (passageIn s b) g o)
 
       h : (mayJoin T s a f b g ≡ true) × (after (channelOf (arcOf (componentOf T a) f)) ≡ t)
       h = cond-is (mayJoin T s a f b g) (after (channelOf (arcOf (componentOf T a) f))) t .0 e
 
-      i : (present T a ≡ true) × (present T b ≡ true) × (not (eqb a b) ≡ true) × (mayStepIn (componentOf T a) (s .tick) (placeOf s a) f ≡ true)
-          × (mayStepIn (componentOf T b) (s .tick) (placeOf s b) g ≡ true) × (hearsOn (arcOf (componentOf T b) g) (channelOf (arcOf (componentOf T a) f)) ≡ true)
+      i : (present T a ≡ true) × (present T b ≡ true) × (not (eqb a b) ≡ true) × (mayStepIn (componentOf T a) (s .tick) (passageIn s a) f ≡ true)
+          × (mayStepIn (componentOf T b) (s .tick) (passageIn s b) g ≡ true) × (hearsOn (arcOf (componentOf T b) g) (channelOf (arcOf (componentOf T a) f)) ≡ true)
       i = joins-is a f b g .0 (h .0)
 
       go : (o : Option ℕ) → channelOf (arcOf (componentOf T a) f) ≡ o → Step T s (together a f b g) t
@@ -173,34 +173,34 @@ module _ (T : Table) (s : State) where
           let n = hears-on-is (arcOf (componentOf T b) g) k .0 (subst (λ (o : Option ℕ). hearsOn (arcOf (componentOf T b) g) o ≡ true) q (i .5)) in
           subst (Step T s (together a f b g)) (ap after (sym q) ∙ h .1)
           (joins (ltb-true a (size T) (i .0)) (ltb-true b (size T) (i .1)) (eqb-false a b (not-true (eqb a b) (i .2)))
-          (steps-in-is (componentOf T a) (s .tick) (placeOf s a) f .0 (i .3))
-          (steps-in-is (componentOf T b) (s .tick) (placeOf s b) g .0 (i .4))
+          (steps-in-is (componentOf T a) (s .tick) (passageIn s a) f .0 (i .3))
+          (steps-in-is (componentOf T b) (s .tick) (passageIn s b) g .0 (i .4))
           q
           (n .0)
           (n .1))
-  follows-rules (stepOut c) t e = go (present T c) refl (placeOf s c .waiting) refl e
+  follows-rules (stepOut c) t e = go (present T c) refl (passageIn s c .waiting) refl e
     where
-      go : (u : Bool) → present T c ≡ u → (o : Option Taken) → placeOf s c .waiting ≡ o → cond u (outOf (componentOf T c) s c (placeOf s c) o) none ≡ some t
+      go : (u : Bool) → present T c ≡ u → (o : Option Taken) → passageIn s c .waiting ≡ o → cond u (outOf (componentOf T c) s c (passageIn s c) o) none ≡ some t
           → Step T s (stepOut c) t
       go false q o r h = let z : _≡_ {A = ℕ} 0 1 = cc in absurd (omega arith)
       go true q none r h = let z : _≡_ {A = ℕ} 0 1 = cc in absurd (omega arith)
       go true q (some w) r h =
-          let k = cond-is (atEnd (componentOf T c) (s .tick) (placeOf s c) (w .edge)) (out w) t .0 h in
+          let k = cond-is (atEnd (componentOf T c) (s .tick) (passageIn s c) (w .edge)) (out w) t .0 h in
           subst (Step T s (stepOut c)) (k .1)
-          (leavesIt (ltb-true c (size T) q) r (eqb-true (suc (stayed (s .tick) (placeOf s c))) (pastIn (componentOf T c) (placeOf s c) (w .edge)) (k .0)))
+          (leavesIt (ltb-true c (size T) q) r (eqb-true (suc (stayed (s .tick) (passageIn s c))) (pastIn (componentOf T c) (passageIn s c) (w .edge)) (k .0)))
         where
           out : Taken → State
-          out w = withPlace s c (entersAt (leaves (arcOf (componentOf T c) (w .edge)) (w .message) (s .tick) (placeOf s c .entry)))
+          out w = withPassage s c (entersAt (leaves (arcOf (componentOf T c) (w .edge)) (w .message) (s .tick) (passageIn s c .entry)))
 
   -- what the rules allow, `step` allows
   allows : (l : Label) (t : State) → Step T s l t → step T s l ≡ some t
   unfolding step
-  allows tick t (ticks h) = rw (all-pass (s .tick) (T .components) (s .places) .1 h)
+  allows tick t (ticks h) = rw (all-pass (s .tick) (T .components) (s .present) .1 h)
   allows (stepIn c f) t (enters h k x) =
       rw (
         lt-ltb c (size T) h,
-        steps-in-is (componentOf T c) (s .tick) (placeOf s c) f .1 k,
-        by-itself-is (componentOf T c) (s .tick) (placeOf s c) f (arcOf (componentOf T c) f .edge .action) .1 x,
+        steps-in-is (componentOf T c) (s .tick) (passageIn s c) f .1 k,
+        by-itself-is (componentOf T c) (s .tick) (passageIn s c) f (arcOf (componentOf T c) f .edge .action) .1 x,
       )
   allows (together a f b g) t (joins {k = k} ha hb n ka kb ch li na) =
       cond-is (mayJoin T s a f b g) (after (channelOf (arcOf (componentOf T a) f))) (after (some k)) .1 (
@@ -208,18 +208,18 @@ module _ (T : Table) (s : State) where
           lt-ltb a (size T) ha,
           lt-ltb b (size T) hb,
           rw (ne-eqb a b n),
-          steps-in-is (componentOf T a) (s .tick) (placeOf s a) f .1 ka,
-          steps-in-is (componentOf T b) (s .tick) (placeOf s b) g .1 kb,
+          steps-in-is (componentOf T a) (s .tick) (passageIn s a) f .1 ka,
+          steps-in-is (componentOf T b) (s .tick) (passageIn s b) g .1 kb,
           ap (hearsOn (arcOf (componentOf T b) g)) ch ∙ hears-on-is (arcOf (componentOf T b) g) k .1 (li, na),
         ),
         ap after ch,
       )
     where
       after : Option ℕ → State
-      after o = withPlace (withPlace s a (waits (placeOf s a) f o)) b (waits (placeOf s b) g o)
+      after o = withPassage (withPassage s a (waits (passageIn s a) f o)) b (waits (passageIn s b) g o)
   allows (stepOut c) t (leavesIt {w = w} h r x) =
-      ap (λ (o : Option Taken). cond (present T c) (outOf (componentOf T c) s c (placeOf s c) o) none) r
-      ∙ rw (lt-ltb c (size T) h, eq-eqb (suc (stayed (s .tick) (placeOf s c))) (pastIn (componentOf T c) (placeOf s c) (w .edge)) x)
+      ap (λ (o : Option Taken). cond (present T c) (outOf (componentOf T c) s c (passageIn s c) o) none) r
+      ∙ rw (lt-ltb c (size T) h, eq-eqb (suc (stayed (s .tick) (passageIn s c))) (pastIn (componentOf T c) (passageIn s c) (w .edge)) x)
 
   -- a step is allowed, to where it leads, exactly if a rule says so
   pub step-is : (l : Label) (t : State) → (step T s l ≡ some t) ↔ Step T s l t

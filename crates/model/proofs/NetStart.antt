@@ -9,9 +9,9 @@ use lib.Seq.{ext-getD}
 use Rattle.model.specs.Lists.{below, empty}
 use Rattle.model.specs.Table.{Table, size, componentOf, noComponent}
 use Rattle.model.specs.Window.{Entry}
-use Rattle.model.specs.Schedule.{Visit, own}
+use Rattle.model.specs.Schedule.{Passage, own}
 use Rattle.model.specs.Chains.{IsSchedule}
-use Rattle.model.specs.Network.{State, Place, noPlace, start, startPlace, entersAt}
+use Rattle.model.specs.Network.{State, PathPassage, noPathPassage, start, startPassage, entersAt}
 use Rattle.model.proofs.Bools.{clash}
 use Rattle.model.proofs.ProgramSize.{length-from, at-from}
 use Rattle.model.proofs.NetLinks.{Linked, schedule-linked}
@@ -20,15 +20,15 @@ use Rattle.model.proofs.NetLanes.{Lane, lane, noLane, laneAt, place, st
 use Rattle.model.proofs.NetReached.{Stands, Reached}
 
 -- a component at the first of its passages
-abbrev pub laneFrom : List Visit → Lane
+abbrev pub laneFrom : List Passage → Lane
 laneFrom [] = noLane
 laneFrom (v ∷ vs) = lane v false vs
 
 -- all of them
-abbrev pub startLanes : List Visit → ℕ → List Lane
+abbrev pub startLanes : List Passage → ℕ → List Lane
 startLanes S n = map (λ c. laneFrom (own c S)) (below n)
 
-module _ (limit : ℕ) (T : Table) (H : ℕ) (S : List Visit) (sched : IsSchedule limit T H S) where
+module _ (limit : ℕ) (T : Table) (H : ℕ) (S : List Passage) (sched : IsSchedule limit T H S) where
   -- the lanes at the start
   abbrev L : List Lane
   L = startLanes S (size T)
@@ -49,18 +49,18 @@ module _ (limit : ℕ) (T : Table) (H : ℕ) (S : List Visit) (sched : IsSchedul
 
   -- where the network starts
   pub start-state : start T ≡ stateOf 0 L
-  start-state = ap (λ (ps : List Place). let s : State = record { tick = 0; places = ps } in s)
-      (ext-getD noPlace (map startPlace (T .components)) (map place L) sizes same)
+  start-state = ap (λ (ps : List PathPassage). let s : State = record { tick = 0; present = ps } in s)
+      (ext-getD noPathPassage (map startPassage (T .components)) (map place L) sizes same)
     where
-      sizes : length (map startPlace (T .components)) ≡ length (map place L)
-      sizes = length-map (T .components) startPlace ∙ sym (length-map L place ∙ start-count)
+      sizes : length (map startPassage (T .components)) ≡ length (map place L)
+      sizes = length-map (T .components) startPassage ∙ sym (length-map L place ∙ start-count)
 
-      same : (c : ℕ) → c < length (map startPlace (T .components)) → getD (map startPlace (T .components)) c noPlace ≡ getD (map place L) c noPlace
+      same : (c : ℕ) → c < length (map startPassage (T .components)) → getD (map startPassage (T .components)) c noPathPassage ≡ getD (map place L) c noPathPassage
       same c h =
-          let i : c < size T = omega (arith, length-map (T .components) startPlace) in
+          let i : c < size T = omega (arith, length-map (T .components) startPassage) in
           let k = schedule-linked limit T H S sched c i in
-          let e : place (laneAt L c) ≡ startPlace (componentOf T c) = ap place (start-lane c i k) ∙ ap entersAt (k .starts) in
-          List·getD-map startPlace (T .components) c noComponent ∙ sym (place-at 0 L c ∙ e)
+          let e : place (laneAt L c) ≡ startPassage (componentOf T c) = ap place (start-lane c i k) ∙ ap entersAt (k .starts) in
+          List·getD-map startPassage (T .components) c noComponent ∙ sym (place-at 0 L c ∙ e)
 
   -- from the start no step leads to the first passage of each component
   pub reached-start : Reached T H S [] 0 L []

@@ -4,17 +4,17 @@ use mathlib.Core.List.{List, [], _∷_, _++_, append-assoc, append-nil}
 use mathlib.Core.Option.{Option, none, some}
 use Prim.Native.Nat.{ℕ}
 use Rattle.model.specs.Table.{Table}
-use Rattle.model.specs.Network.{State, Place, Label, step, onward, follow, placeOf, leftBy, passagesOn, Work, workBy, worksOn}
+use Rattle.model.specs.Network.{State, PathPassage, Label, step, onward, follow, passageIn, leftBy, passagesOn, Work, workBy, worksOn}
 use Rattle.model.proofs.Parts.{some-clash}
 
 -- the passages that component c leaves along a list of steps
-unfoldable pub leftOn : Table → ℕ → State → List Label → List Place
+unfoldable pub leftOn : Table → ℕ → State → List Label → List PathPassage
 unfolding step
 leftOn T c s [] = []
 leftOn T c s (l ∷ ls) = leftBy s c l ++ onward (step T s l) (λ t. leftOn T c t ls) []
 
 -- steps that lead from s to t: each component leaves the passages named, and the works named are finished
-pub record Way (T : Table) (s : State) (ls : List Label) (t : State) (left : ℕ → List Place) (ws : List Work) : Type 0 where
+pub record Way (T : Table) (s : State) (ls : List Label) (t : State) (left : ℕ → List PathPassage) (ws : List Work) : Type 0 where
   pub goes : follow T s ls ≡ some t
   pub leaves : (c : ℕ) → leftOn T c s ls ≡ left c
   pub works : worksOn T s ls ≡ ws
@@ -43,7 +43,7 @@ left-append T c s (l ∷ ls) ms {t} e = go (step T s l) (λ u h. left-append T c
         → onward o (λ u. follow T u ls) none ≡ some t
         → leftBy s c l ++ onward o (λ u. leftOn T c u (ls ++ ms)) [] ≡ (leftBy s c l ++ onward o (λ u. leftOn T c u ls) []) ++ leftOn T c t ms
     go none ih h = some-clash (sym h)
-    go (some u) ih h = ap (λ (x : List Place). leftBy s c l ++ x) (ih u h) ∙ sym (append-assoc (leftBy s c l) (leftOn T c u ls) (leftOn T c t ms))
+    go (some u) ih h = ap (λ (x : List PathPassage). leftBy s c l ++ x) (ih u h) ∙ sym (append-assoc (leftBy s c l) (leftOn T c u ls) (leftOn T c t ms))
 
 -- the works of the first, then those of the second
 pub works-append : (T : Table) (s : State) (ls ms : List Label) {t : State} → follow T s ls ≡ some t → worksOn T s (ls ++ ms) ≡ worksOn T s ls ++ worksOn T t ms
@@ -68,7 +68,7 @@ passages-append T c s (l ∷ ls) ms {t} e = go (step T s l) (λ u h. passages-ap
         → onward o (λ u. follow T u ls) none ≡ some t
         → leftBy s c l ++ onward o (λ u. passagesOn T c u (ls ++ ms)) [] ≡ (leftBy s c l ++ onward o (λ u. leftOn T c u ls) []) ++ passagesOn T c t ms
     go none ih h = some-clash (sym h)
-    go (some u) ih h = ap (λ (x : List Place). leftBy s c l ++ x) (ih u h) ∙ sym (append-assoc (leftBy s c l) (leftOn T c u ls) (passagesOn T c t ms))
+    go (some u) ih h = ap (λ (x : List PathPassage). leftBy s c l ++ x) (ih u h) ∙ sym (append-assoc (leftBy s c l) (leftOn T c u ls) (passagesOn T c t ms))
 
 -- ## Ways
 
@@ -84,17 +84,17 @@ module _ (T : Table) where
   one-way s l t e = record { goes = rw e; leaves = λ c. rw e (append-nil (leftBy s c l)); works = rw e (append-nil (workBy T s l)) }
 
   -- one way after another
-  pub then-way : {s t u : State} {ls ms : List Label} {f g : ℕ → List Place} {ws vs : List Work} → Way T s ls t f ws → Way T t ms u g vs
+  pub then-way : {s t u : State} {ls ms : List Label} {f g : ℕ → List PathPassage} {ws vs : List Work} → Way T s ls t f ws → Way T t ms u g vs
       → Way T s (ls ++ ms) u (λ c. f c ++ g c) (ws ++ vs)
   then-way {s} {t} {u} {ls} {ms} a b =
       record {
         goes = follow-append T s ls ms (a .goes) ∙ b .goes;
-        leaves = λ c. left-append T c s ls ms (a .goes) ∙ ap₂ (λ (x y : List Place). x ++ y) (a .leaves c) (b .leaves c);
+        leaves = λ c. left-append T c s ls ms (a .goes) ∙ ap₂ (λ (x y : List PathPassage). x ++ y) (a .leaves c) (b .leaves c);
         works = works-append T s ls ms (a .goes) ∙ ap₂ (λ (x y : List Work). x ++ y) (a .works) (b .works);
       }
 
   -- the same way, told otherwise
-  pub same-way : {s t t′ : State} {ls ms : List Label} {f g : ℕ → List Place} {ws vs : List Work} → Way T s ls t f ws → ls ≡ ms → t ≡ t′ → ((c : ℕ) → f c ≡ g c)
+  pub same-way : {s t t′ : State} {ls ms : List Label} {f g : ℕ → List PathPassage} {ws vs : List Work} → Way T s ls t f ws → ls ≡ ms → t ≡ t′ → ((c : ℕ) → f c ≡ g c)
       → ws ≡ vs → Way T s ms t′ g vs
   same-way {s} {g = g} a el et eg ew =
       record {
@@ -104,10 +104,10 @@ module _ (T : Table) where
       }
 
   -- the passages on a path that goes on: those left, then the present one
-  pub way-passages : {s t : State} {ls : List Label} {f : ℕ → List Place} {ws : List Work} → Way T s ls t f ws → (c : ℕ)
-      → passagesOn T c s ls ≡ f c ++ (placeOf t c ∷ [])
+  pub way-passages : {s t : State} {ls : List Label} {f : ℕ → List PathPassage} {ws : List Work} → Way T s ls t f ws → (c : ℕ)
+      → passagesOn T c s ls ≡ f c ++ (passageIn t c ∷ [])
   unfolding passagesOn
   way-passages {s} {t} {ls} {f} a c =
       ap (λ (x : List Label). passagesOn T c s x) (sym (append-nil ls))
       ∙ passages-append T c s ls [] (a .goes)
-      ∙ ap (λ (x : List Place). x ++ (placeOf t c ∷ [])) (a .leaves c)
+      ∙ ap (λ (x : List PathPassage). x ++ (passageIn t c ∷ [])) (a .leaves c)

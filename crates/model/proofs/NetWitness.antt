@@ -8,7 +8,7 @@ use native.Mathlib.Omega.{arith}
 use lib.Seq.{append-snoc}
 use Rattle.model.specs.Lists.{All, empty, more}
 use Rattle.model.specs.Table.{Table, size, componentOf}
-use Rattle.model.specs.Schedule.{Visit, own}
+use Rattle.model.specs.Schedule.{Passage, own}
 use Rattle.model.specs.Network.{State, Label, start, follow, passagesOn, Work, worksOn, Observation, observationsOn}
 use Rattle.model.specs.Demand3.{PassAs, SteppedBefore, Begins}
 use Rattle.model.proofs.Words.{all-join}
@@ -20,12 +20,12 @@ use Rattle.model.proofs.NetSays.{seen, reached-valid, reached-works, re
 use Rattle.model.proofs.NetPassing.{Passing}
 
 -- what the path shows of component c, up to the tick, with the schedule's edge where it has yet to step in
-abbrev pub shownOn : Table → List Visit → List Label → ℕ → ℕ → List Observation
+abbrev pub shownOn : Table → List Passage → List Label → ℕ → ℕ → List Observation
 shownOn T S p τ c = observationsOn (componentOf T c) c τ (passagesOn T c (start T) p) (map (λ v. v .edge) (own c S))
 
 -- the path that demand 3 asks for: fields `path` to `kept`, its works, and the observations of the passages whose work is finished (and of
 -- the one in work) as its first
-pub record Witness (T : Table) (S : List Visit) (τ : ℕ) (A : ℕ → List Visit) (ws : List Work) : Type 0 where
+pub record Witness (T : Table) (S : List Passage) (τ : ℕ) (A : ℕ → List Passage) (ws : List Work) : Type 0 where
   pub path : List Label
   pub last : State
   pub valid : follow T (start T) path ≡ some last
@@ -33,11 +33,11 @@ pub record Witness (T : Table) (S : List Visit) (τ : ℕ) (A : ℕ → List Vis
   pub scheduled : (c : ℕ) → c < size T → PassAs (passagesOn T c (start T) path) (own c S)
   pub kept : (c : ℕ) → c < size T → SteppedBefore (last .tick) (passagesOn T c (start T) path) (own c S)
   pub works : worksOn T (start T) path ≡ ws
-  pub showsFinished : (c : ℕ) → c < size T → (fin : List Visit) → fin ++ A c ≡ own c S → Begins (map (seen (componentOf T c) c) fin) (shownOn T S path (last .tick) c)
-  pub showsReady : (c : ℕ) → c < size T → (fin : List Visit) (v : Visit) (vs : List Visit) → A c ≡ v ∷ vs → v .ready ≤ τ → fin ++ (v ∷ vs) ≡ own c S
+  pub showsFinished : (c : ℕ) → c < size T → (fin : List Passage) → fin ++ A c ≡ own c S → Begins (map (seen (componentOf T c) c) fin) (shownOn T S path (last .tick) c)
+  pub showsReady : (c : ℕ) → c < size T → (fin : List Passage) (v : Passage) (vs : List Passage) → A c ≡ v ∷ vs → v .ready ≤ τ → fin ++ (v ∷ vs) ≡ own c S
       → Begins (map (seen (componentOf T c) c) (fin ++ (v ∷ []))) (shownOn T S path (last .tick) c)
 
-module _ (T : Table) (H : ℕ) (S : List Visit) {τ : ℕ} {A : ℕ → List Visit} {ws : List Work} (g : Passing T H S τ A ws) where
+module _ (T : Table) (H : ℕ) (S : List Passage) {τ : ℕ} {A : ℕ → List Passage} {ws : List Work} (g : Passing T H S τ A ws) where
   -- a passing has such a path
   pub passing-witness : Witness T S τ A ws
   passing-witness =
@@ -50,7 +50,7 @@ module _ (T : Table) (H : ℕ) (S : List Visit) {τ : ℕ} {A : ℕ → List Vis
         kept = reached-kept T H S (g .path) τ (g .lanes) ws (g .reached);
         works = reached-works T H S (g .path) τ (g .lanes) ws (g .reached);
         showsFinished = λ c h fin e.
-            reached-shows-finished T H S (g .path) τ (g .lanes) ws (g .reached) c h fin (ap (λ (x : List Visit). fin ++ x) (g .aheads c h) ∙ e);
+            reached-shows-finished T H S (g .path) τ (g .lanes) ws (g .reached) c h fin (ap (λ (x : List Passage). fin ++ x) (g .aheads c h) ∙ e);
         showsReady = λ c h fin v vs a r e.
             record {
               rest = [];
@@ -61,7 +61,7 @@ module _ (T : Table) (H : ℕ) (S : List Visit) {τ : ℕ} {A : ℕ → List Vis
       }
 
   -- no passage ahead ends before now
-  pub ahead-before : (c : ℕ) → c < size T → (v : Visit) (vs : List Visit) → A c ≡ v ∷ vs → τ ≤ v .end
+  pub ahead-before : (c : ℕ) → c < size T → (v : Passage) (vs : List Passage) → A c ≡ v ∷ vs → τ ≤ v .end
   ahead-before c h v vs e = go (K .done) refl (g .aheads c h ∙ e)
     where
       K : Lane
@@ -70,37 +70,37 @@ module _ (T : Table) (H : ℕ) (S : List Visit) {τ : ℕ} {A : ℕ → List Vis
       k : Good H (componentOf T c) τ K
       k = g .reached .stands c h .good
 
-      go : (t : Bool) → K .done ≡ t → aheadOf t (K .visit) (K .next) ≡ v ∷ vs → τ ≤ v .end
+      go : (t : Bool) → K .done ≡ t → aheadOf t (K .passage) (K .next) ≡ v ∷ vs → τ ≤ v .end
       go true d i =
-          let l = next-later (subst (λ (ns : List Visit). Links H (componentOf T c) (K .visit) ns) i (k .linked)) in
+          let l = next-later (subst (λ (ns : List Passage). Links H (componentOf T c) (K .passage) ns) i (k .linked)) in
           omega (arith, k .before)
-      go false d i = let j : K .visit ≡ v = cc in omega (arith, k .before, ap (λ (x : Visit). x .end) j)
+      go false d i = let j : K .passage ≡ v = cc in omega (arith, k .before, ap (λ (x : Passage). x .end) j)
 
   -- what is ahead is linked
-  pub ahead-linked : (c : ℕ) → c < size T → (v : Visit) (vs : List Visit) → A c ≡ v ∷ vs → Links H (componentOf T c) v vs
+  pub ahead-linked : (c : ℕ) → c < size T → (v : Passage) (vs : List Passage) → A c ≡ v ∷ vs → Links H (componentOf T c) v vs
   ahead-linked c h v vs e = go (K .done) refl (g .aheads c h ∙ e)
     where
       K : Lane
       K = laneAt (g .lanes) c
 
-      k : Links H (componentOf T c) (K .visit) (K .next)
+      k : Links H (componentOf T c) (K .passage) (K .next)
       k = g .reached .stands c h .good .linked
 
-      go : (t : Bool) → K .done ≡ t → aheadOf t (K .visit) (K .next) ≡ v ∷ vs → Links H (componentOf T c) v vs
-      go true d i = next-links (subst (λ (ns : List Visit). Links H (componentOf T c) (K .visit) ns) i k)
+      go : (t : Bool) → K .done ≡ t → aheadOf t (K .passage) (K .next) ≡ v ∷ vs → Links H (componentOf T c) v vs
+      go true d i = next-links (subst (λ (ns : List Passage). Links H (componentOf T c) (K .passage) ns) i k)
       go false d i =
-          let a : K .visit ≡ v = cc in
+          let a : K .passage ≡ v = cc in
           let b : K .next ≡ vs = cc in
-          subst (λ (x : Visit). Links H (componentOf T c) x vs) a (subst (λ (ns : List Visit). Links H (componentOf T c) (K .visit) ns) b k)
+          subst (λ (x : Passage). Links H (componentOf T c) x vs) a (subst (λ (ns : List Passage). Links H (componentOf T c) (K .passage) ns) b k)
 
   -- what is ahead is the rest of the schedule; the passages whose work is finished were ready
-  pub ahead-rest : (c : ℕ) → c < size T → (fin : List Visit) × (fin ++ A c ≡ own c S) × All (λ v. v .ready ≤ τ) fin
+  pub ahead-rest : (c : ℕ) → c < size T → (fin : List Passage) × (fin ++ A c ≡ own c S) × All (λ v. v .ready ≤ τ) fin
   ahead-rest c h = go (K .done) refl (g .aheads c h)
     where
       K : Lane
       K = laneAt (g .lanes) c
 
-      past : List Visit
+      past : List Passage
       past = g .reached .past c
 
       s : Stands H (componentOf T c) (own c S) τ past K
@@ -109,10 +109,10 @@ module _ (T : Table) (H : ℕ) (S : List Visit) {τ : ℕ} {A : ℕ → List Vis
       ready : All (λ v. v .ready ≤ τ) past
       ready = all-then (λ v k. omega (arith, k .0 .window, k .1)) (s .over)
 
-      go : (t : Bool) → K .done ≡ t → aheadOf t (K .visit) (K .next) ≡ A c → (fin : List Visit) × (fin ++ A c ≡ own c S) × All (λ v. v .ready ≤ τ) fin
+      go : (t : Bool) → K .done ≡ t → aheadOf t (K .passage) (K .next) ≡ A c → (fin : List Passage) × (fin ++ A c ≡ own c S) × All (λ v. v .ready ≤ τ) fin
       go true d i = (
-        past ++ (K .visit ∷ []),
-        ap (λ (x : List Visit). (past ++ (K .visit ∷ [])) ++ x) (sym i) ∙ append-snoc past (K .visit) (K .next) ∙ s .whole,
+        past ++ (K .passage ∷ []),
+        ap (λ (x : List Passage). (past ++ (K .passage ∷ [])) ++ x) (sym i) ∙ append-snoc past (K .passage) (K .next) ∙ s .whole,
         all-join ready (more (s .good .begun d) empty),
       )
-      go false d i = (past, ap (λ (x : List Visit). past ++ x) (sym i) ∙ s .whole, ready)
+      go false d i = (past, ap (λ (x : List Passage). past ++ x) (sym i) ∙ s .whole, ready)

@@ -10,7 +10,7 @@ use lib.Dec.{ltb}
 use Rattle.model.specs.declared.Update.{Update}
 use Rattle.model.specs.Table.{Component, arcOf}
 use Rattle.model.specs.Window.{Entry, Pick}
-use Rattle.model.specs.Schedule.{Visit}
+use Rattle.model.specs.Schedule.{Passage}
 use Rattle.model.specs.Program.{Statement, sleep, setTo, addTo, done, send, listen, age, reset, enter, trial, low, high, dataLow, dataHigh, keep, takeEdge, choose, updateOf}
 use Rattle.model.specs.Machine.{Node, exec, takes}
 use Rattle.model.specs.Run.{Setting, Stand, sleeping, sending, listening, finishing, adding, working, taking, elsewhere, nowhere, stand, standAt, standOf, windowEnd, overdue, late}
@@ -176,7 +176,7 @@ late-way g now c r taking e = refl
 late-way g now c r elsewhere e = refl
 late-way g now c r nowhere e = clash e
 
-lateIn-work : (vs : List Visit) (now : ℕ) (r : Node) (s : Stand) → isWork s ≡ true → lateIn vs now r s ≡ endBefore vs (pred (r .sleeps)) now
+lateIn-work : (vs : List Passage) (now : ℕ) (r : Node) (s : Stand) → isWork s ≡ true → lateIn vs now r s ≡ endBefore vs (pred (r .sleeps)) now
 lateIn-work vs now r sleeping e = clash e
 lateIn-work vs now r (sending k) e = refl
 lateIn-work vs now r (listening qs) e = refl
@@ -187,7 +187,7 @@ lateIn-work vs now r taking e = clash e
 lateIn-work vs now r elsewhere e = clash e
 lateIn-work vs now r nowhere e = clash e
 
-lateIn-way : (vs : List Visit) (now : ℕ) (r : Node) (s : Stand) → isWay s ≡ true → lateIn vs now r s ≡ readyBefore vs (r .sleeps) now
+lateIn-way : (vs : List Passage) (now : ℕ) (r : Node) (s : Stand) → isWay s ≡ true → lateIn vs now r s ≡ readyBefore vs (r .sleeps) now
 lateIn-way vs now r sleeping e = clash e
 lateIn-way vs now r (sending k) e = clash e
 lateIn-way vs now r (listening qs) e = clash e
@@ -212,7 +212,7 @@ module _ {C : Component} {i : ℕ} {at : Entry} {r : Node} (s : Setting) (now c 
   working-late g = late-work s now c r (standOf r) (working-stand g) ∙ ap (λ (n : ℕ). ltb n now) (working-end g)
 
 -- the same in the words of the schedule
-module _ {C : Component} {i : ℕ} {at : Entry} {r : Node} (vs : List Visit) (now : ℕ) where
+module _ {C : Component} {i : ℕ} {at : Entry} {r : Node} (vs : List Passage) (now : ℕ) where
   -- on the way to a sleep: where passage i is ready before now
   pub heading-late-in : Heading C i at r → lateIn vs now r (standOf r) ≡ readyBefore vs i now
   heading-late-in g = lateIn-way vs now r (standOf r) (heading-stand g) ∙ ap (λ (n : ℕ). readyBefore vs n now) (heading-sleeps g)

@@ -10,7 +10,7 @@ use Rattle.model.specs.Table.{Component, arcOf}
 use Rattle.model.specs.Limits.{ComponentIn}
 use Rattle.model.specs.Reader.{byte}
 use Rattle.model.specs.Window.{Entry, Pick, choice, readyOf, updated, channelOf, leaves}
-use Rattle.model.specs.Schedule.{Visit, withMessage, startEntry}
+use Rattle.model.specs.Schedule.{Passage, withMessage, startEntry}
 use Rattle.model.specs.Program.{locationBlock}
 use Rattle.model.specs.Network.{Observation, observation}
 use Rattle.model.specs.Machine.{Node, noTrial, startNode, finish, locationCode}
@@ -57,23 +57,23 @@ same-pick : {o : Option Pick} {j k : Pick} → o ≡ some j → o ≡ some k →
 same-pick e f = cc
 
 -- the node's registers are those of passage w: t its ready, t + d its end
-pub record InPassage (w : Visit) (r : Node) : Type 0 where
+pub record InPassage (w : Passage) (r : Node) : Type 0 where
   pub ready : r .t ≡ w .ready
   pub end : windowEnd r ≡ w .end
   pub edge : r .edge ≡ w .edge
 
 -- passage w is the one that component c opens at the entry, whatever its message
-pub record Begins (c : ℕ) (C : Component) (at : Entry) (w : Visit) : Type 0 where
+pub record Begins (c : ℕ) (C : Component) (at : Entry) (w : Passage) : Type 0 where
   pub opens : Opened c C at (withMessage w (channelOf (arcOf C (w .edge))))
 
-module _ {c : ℕ} {C : Component} {at : Entry} {w : Visit} (b : Begins c C at w) where
+module _ {c : ℕ} {C : Component} {at : Entry} {w : Passage} (b : Begins c C at w) where
   -- the window chosen is the one of the passage that the schedule opens there
   pub passage-pick : {j : Pick} → choice C at ≡ some j → (w .edge ≡ j .edge) × (w .ready ≡ at .tick + j .ready) × (w .end ≡ at .tick + j .end)
   passage-pick {j} e =
       let k : b .opens .pick ≡ j = same-pick (b .opens .taken) e in (
-        ap (λ (v : Visit). v .edge) (b .opens .is) ∙ ap (λ (x : Pick). x .edge) k,
-        ap (λ (v : Visit). v .ready) (b .opens .is) ∙ ap (λ (x : Pick). at .tick + x .ready) k,
-        ap (λ (v : Visit). v .end) (b .opens .is) ∙ ap (λ (x : Pick). at .tick + x .end) k,
+        ap (λ (v : Passage). v .edge) (b .opens .is) ∙ ap (λ (x : Pick). x .edge) k,
+        ap (λ (v : Passage). v .ready) (b .opens .is) ∙ ap (λ (x : Pick). at .tick + x .ready) k,
+        ap (λ (v : Passage). v .end) (b .opens .is) ∙ ap (λ (x : Pick). at .tick + x .end) k,
       )
 
   -- asleep where the schedule opens passage w
@@ -120,7 +120,7 @@ observes-is {C} {i} {at} {k} {r} c tick e g =
     ready = choice-picked C at (g .chosen) .ready
 
 -- the same, of the schedule's passage
-pub observes-passage : {C : Component} {i : ℕ} {at : Entry} {w : Visit} {j : Pick} {r : Node} (c tick : ℕ) → Begins c C at w → tick ≡ r .t → Asleep C i at j r
+pub observes-passage : {C : Component} {i : ℕ} {at : Entry} {w : Passage} {j : Pick} {r : Node} (c tick : ℕ) → Begins c C at w → tick ≡ r .t → Asleep C i at j r
     → observes c tick r ≡ observation C c (w .entry) (w .edge)
 observes-passage {C} {i} {at} {w} {j} {r} c tick b e g =
     observes-is c tick e g ∙ ap₂ (observation C c) (sym (b .opens .entry)) (sym (passage-pick b (g .chosen) .0))

@@ -10,7 +10,7 @@ use lib.ListN.{length}
 use Rattle.model.specs.declared.Action.the-variants.{Receive}
 use Rattle.model.specs.Table.{Component, Read}
 use Rattle.model.specs.Window.{Entry, Pick}
-use Rattle.model.specs.Schedule.{Visit, own}
+use Rattle.model.specs.Schedule.{Passage, own}
 use Rattle.model.specs.Machine.{Node}
 use Rattle.model.specs.Run.{Setting, settingOf, readyOfNth, taking, standOf, windowEnd, overdue, late}
 use Rattle.model.specs.Demand3.{endBefore, readyBefore, lateIn, readyIs, endIs, DueIn, NotDueIn}
@@ -24,75 +24,75 @@ use Rattle.model.proofs.NodePassage.{Begins, asleep-passage, working-pa
 -- ## Passage number i
 
 -- w is passage number i of these
-pub record Nth (vs : List Visit) (i : ℕ) (w : Visit) : Type 0 where
-  pub past : List Visit
-  pub rest : List Visit
+pub record Nth (vs : List Passage) (i : ℕ) (w : Passage) : Type 0 where
+  pub past : List Passage
+  pub rest : List Passage
   pub is : vs ≡ past ++ (w ∷ rest)
   pub number : length past ≡ i
 
-module _ (w : Visit) (rest : List Visit) (now : ℕ) where
-  end-before-at : (past : List Visit) → endBefore (past ++ (w ∷ rest)) (length past) now ≡ ltb (w .end) now
+module _ (w : Passage) (rest : List Passage) (now : ℕ) where
+  end-before-at : (past : List Passage) → endBefore (past ++ (w ∷ rest)) (length past) now ≡ ltb (w .end) now
   end-before-at [] = refl
   end-before-at (v ∷ past) = end-before-at past
 
-  ready-before-at : (past : List Visit) → readyBefore (past ++ (w ∷ rest)) (length past) now ≡ ltb (w .ready) now
+  ready-before-at : (past : List Passage) → readyBefore (past ++ (w ∷ rest)) (length past) now ≡ ltb (w .ready) now
   ready-before-at [] = refl
   ready-before-at (v ∷ past) = ready-before-at past
 
-  ready-is-at : (past : List Visit) → readyIs (past ++ (w ∷ rest)) (length past) now ≡ (w .ready ≡ now)
+  ready-is-at : (past : List Passage) → readyIs (past ++ (w ∷ rest)) (length past) now ≡ (w .ready ≡ now)
   ready-is-at [] = refl
   ready-is-at (v ∷ past) = ready-is-at past
 
-  end-is-at : (past : List Visit) → endIs (past ++ (w ∷ rest)) (length past) now ≡ (w .end ≡ now)
+  end-is-at : (past : List Passage) → endIs (past ++ (w ∷ rest)) (length past) now ≡ (w .end ≡ now)
   end-is-at [] = refl
   end-is-at (v ∷ past) = end-is-at past
 
-module _ {vs : List Visit} {i : ℕ} {w : Visit} (m : Nth vs i w) (now : ℕ) where
+module _ {vs : List Passage} {i : ℕ} {w : Passage} (m : Nth vs i w) (now : ℕ) where
   -- its end lies before now
   pub end-before-nth : endBefore vs i now ≡ ltb (w .end) now
   end-before-nth =
-      ap (λ (l : List Visit). endBefore l i now) (m .is)
+      ap (λ (l : List Passage). endBefore l i now) (m .is)
       ∙ (ap (λ (n : ℕ). endBefore (m .past ++ (w ∷ m .rest)) n now) (sym (m .number)) ∙ end-before-at w (m .rest) now (m .past))
 
   -- its ready is now
   pub ready-is-nth : readyIs vs i now ≡ (w .ready ≡ now)
   ready-is-nth =
-      ap (λ (l : List Visit). readyIs l i now) (m .is)
+      ap (λ (l : List Passage). readyIs l i now) (m .is)
       ∙ (ap (λ (n : ℕ). readyIs (m .past ++ (w ∷ m .rest)) n now) (sym (m .number)) ∙ ready-is-at w (m .rest) now (m .past))
 
   -- its end is now
   pub end-is-nth : endIs vs i now ≡ (w .end ≡ now)
   end-is-nth =
-      ap (λ (l : List Visit). endIs l i now) (m .is)
+      ap (λ (l : List Passage). endIs l i now) (m .is)
       ∙ (ap (λ (n : ℕ). endIs (m .past ++ (w ∷ m .rest)) n now) (sym (m .number)) ∙ end-is-at w (m .rest) now (m .past))
 
   -- its ready lies before now
   pub ready-before-nth : readyBefore vs i now ≡ ltb (w .ready) now
   ready-before-nth =
-      ap (λ (l : List Visit). readyBefore l i now) (m .is)
+      ap (λ (l : List Passage). readyBefore l i now) (m .is)
       ∙ (ap (λ (n : ℕ). readyBefore (m .past ++ (w ∷ m .rest)) n now) (sym (m .number)) ∙ ready-before-at w (m .rest) now (m .past))
 
 -- beyond the last passage nothing is ready
-pub no-ready : (vs : List Visit) (i now : ℕ) → length vs ≤ i → readyIs vs i now → ⊥
+pub no-ready : (vs : List Passage) (i now : ℕ) → length vs ≤ i → readyIs vs i now → ⊥
 no-ready [] i now h e = e
 no-ready (v ∷ vs) zero now h e = omega arith
 no-ready (v ∷ vs) (suc i) now h e = no-ready vs i now (omega arith) e
 
 -- the run's test on the ready of the next passage is the schedule's
-pub overdue-is : (s : Setting) (vs : List Visit) (i now : ℕ) → overdue s (readyOfNth vs i) now ≡ readyBefore vs i now
+pub overdue-is : (s : Setting) (vs : List Passage) (i now : ℕ) → overdue s (readyOfNth vs i) now ≡ readyBefore vs i now
 overdue-is s [] i now = refl
 overdue-is s (v ∷ vs) zero now = refl
 overdue-is s (v ∷ vs) (suc i) now = overdue-is s vs i now
 
 -- ## Late
 
-module _ {C : Component} {i : ℕ} {at : Entry} {r : Node} (t : Read) (S : List Visit) (now c : ℕ) where
+module _ {C : Component} {i : ℕ} {at : Entry} {r : Node} (t : Read) (S : List Passage) (now c : ℕ) where
   -- on the way to a sleep
   pub heading-late-same : Heading C i at r → late (settingOf t S) now c r (standOf r) ≡ lateIn (own c S) now r (standOf r)
   heading-late-same g = heading-late (settingOf t S) now c g ∙ (overdue-is (settingOf t S) (own c S) i now ∙ sym (heading-late-in (own c S) now g))
 
   -- at work in passage i
-  pub working-late-same : {j : Pick} {w : Visit} → Begins c C at w → Nth (own c S) i w → Working C i at j r
+  pub working-late-same : {j : Pick} {w : Passage} → Begins c C at w → Nth (own c S) i w → Working C i at j r
       → late (settingOf t S) now c r (standOf r) ≡ lateIn (own c S) now r (standOf r)
   working-late-same {j} {w} b m g =
       working-late (settingOf t S) now c g
@@ -101,16 +101,16 @@ module _ {C : Component} {i : ℕ} {at : Entry} {r : Node} (t : Read) (S : List 
 
 -- ## Due
 
-module _ {C : Component} {i : ℕ} {at : Entry} {r : Node} (vs : List Visit) (now : ℕ) where
+module _ {C : Component} {i : ℕ} {at : Entry} {r : Node} (vs : List Passage) (now : ℕ) where
   -- a sleep that is due, by the schedule
-  pub asleep-due-in : {c : ℕ} {j : Pick} {w : Visit} → Begins c C at w → Nth vs i w → Asleep C i at j r → eqb now (r .t) ≡ true → DueIn vs now r (standOf r)
+  pub asleep-due-in : {c : ℕ} {j : Pick} {w : Passage} → Begins c C at w → Nth vs i w → Asleep C i at j r → eqb now (r .t) ≡ true → DueIn vs now r (standOf r)
   asleep-due-in {c} {j} {w} b m g e =
       subst (DueIn vs now r) (sym (asleep-sleeping g))
       (subst (λ (n : ℕ). readyIs vs n now) (sym (g .sleeps))
       (subst (λ (A : Type 0). A) (sym (ready-is-nth m now)) (sym (asleep-passage b g .ready) ∙ sym (eqb-true now (r .t) e))))
 
   -- a sleep that is not due, in passage i
-  pub asleep-not-due-in : {c : ℕ} {j : Pick} {w : Visit} → Begins c C at w → Nth vs i w → Asleep C i at j r → eqb now (r .t) ≡ false → NotDueIn vs now r (standOf r)
+  pub asleep-not-due-in : {c : ℕ} {j : Pick} {w : Passage} → Begins c C at w → Nth vs i w → Asleep C i at j r → eqb now (r .t) ≡ false → NotDueIn vs now r (standOf r)
   asleep-not-due-in {c} {j} {w} b m g e =
       subst (NotDueIn vs now r) (sym (asleep-sleeping g))
       (λ h.
@@ -122,7 +122,7 @@ module _ {C : Component} {i : ℕ} {at : Entry} {r : Node} (vs : List Visit) (no
   asleep-beyond-in l g = subst (NotDueIn vs now r) (sym (asleep-sleeping g)) (λ h. no-ready vs i now l (subst (λ (n : ℕ). readyIs vs n now) (g .sleeps) h))
 
   -- a listen that is due
-  pub listening-due-in : {c : ℕ} {j : Pick} {w : Visit} → Begins c C at w → Nth vs i w → (g : Working C i at j r) → actionOf C j ≡ Receive → eqb now (windowEnd r) ≡ true
+  pub listening-due-in : {c : ℕ} {j : Pick} {w : Passage} → Begins c C at w → Nth vs i w → (g : Working C i at j r) → actionOf C j ≡ Receive → eqb now (windowEnd r) ≡ true
       → DueIn vs now r (standOf r)
   listening-due-in {c} {j} {w} b m g act e =
       subst (DueIn vs now r) (sym (stands-listening g act))
@@ -130,7 +130,7 @@ module _ {C : Component} {i : ℕ} {at : Entry} {r : Node} (vs : List Visit) (no
       (subst (λ (A : Type 0). A) (sym (end-is-nth m now)) (sym (working-passage b g .end) ∙ sym (eqb-true now (windowEnd r) e))))
 
   -- a listen that is not due
-  pub listening-not-due-in : {c : ℕ} {j : Pick} {w : Visit} → Begins c C at w → Nth vs i w → (g : Working C i at j r) → actionOf C j ≡ Receive
+  pub listening-not-due-in : {c : ℕ} {j : Pick} {w : Passage} → Begins c C at w → Nth vs i w → (g : Working C i at j r) → actionOf C j ≡ Receive
       → eqb now (windowEnd r) ≡ false → NotDueIn vs now r (standOf r)
   listening-not-due-in {c} {j} {w} b m g act e =
       subst (NotDueIn vs now r) (sym (stands-listening g act))

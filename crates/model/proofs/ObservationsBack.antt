@@ -16,9 +16,9 @@ use Rattle.model.specs.Table.{Component, Read, noLocation, size, compone
 use Rattle.model.specs.Limits.{Int16}
 use Rattle.model.specs.Reader.{readTable}
 use Rattle.model.specs.Window.{Entry, inRange, readyOf}
-use Rattle.model.specs.Schedule.{Visit, own}
-use Rattle.model.specs.Checks.{planOf}
-use Rattle.model.specs.Network.{Place, Taken, Observation, observation, takenOr, observationsOn, passagesOn, start}
+use Rattle.model.specs.Schedule.{Passage, own}
+use Rattle.model.specs.Checks.{acceptedScheduleOf}
+use Rattle.model.specs.Network.{PathPassage, Taken, Observation, observation, takenOr, observationsOn, passagesOn, start}
 use Rattle.model.specs.Run.{settingOf, run, observationBytes}
 use Rattle.model.specs.Demand3.{TakenAs, PassAs}
 use Rattle.model.specs.Calls.{RunCall, notRun, ran, runWith, runCall, runPlanned, runRead}
@@ -51,10 +51,10 @@ small-tick : {n H : ℕ} → H ≤ 60000 → (n ≡ 0) ⊎ (n < H) → n ≤ 600
 small-tick h (inl e) = omega arith
 small-tick h (inr e) = omega arith
 
-module _ {t : Read} {S : List Visit} (G : Given t (t .horizon) S) where
+module _ {t : Read} {S : List Passage} (G : Given t (t .horizon) S) where
   -- what a passage of component c shows fits its bytes
-  visit-fits : (c : ℕ) → c < size (t .table) → (v : Visit) → Entered (t .horizon) c (componentOf (t .table) c) v → Fits (t .table) (seen (componentOf (t .table) c) c v)
-  visit-fits c h v k =
+  passage-fits : (c : ℕ) → c < size (t .table) → (v : Passage) → Entered (t .horizon) c (componentOf (t .table) c) v → Fits (t .table) (seen (componentOf (t .table) c) c v)
+  passage-fits c h v k =
       let C = componentOf (t .table) c in
       let i = component-in G c h in
       let o = k .opened in
@@ -76,17 +76,17 @@ module _ {t : Read} {S : List Visit} (G : Given t (t .horizon) S) where
 
   -- so do those of a component's passages
   own-fit : (c : ℕ) → c < size (t .table) → All (λ v. Fits (t .table) (seen (componentOf (t .table) c) c v)) (own c S)
-  own-fit c h = in-all (own c S) (λ v i. (let j = own-in c S i in visit-fits c h v (subst (λ n. Entered (t .horizon) n (componentOf (t .table) n) v) (j .1) (all-in (entered (G .sched)) (j .0)))))
+  own-fit c h = in-all (own c S) (λ v i. (let j = own-in c S i in passage-fits c h v (subst (λ n. Entered (t .horizon) n (componentOf (t .table) n) v) (j .1) (all-in (entered (G .sched)) (j .0)))))
 
 -- ## What a path shows
 
 -- the edge that counts as taken is the schedule's
-edge-taken : (w : Option Taken) (v : Visit) → TakenAs w v → takenOr w (v .edge) ≡ v .edge
+edge-taken : (w : Option Taken) (v : Passage) → TakenAs w v → takenOr w (v .edge) ≡ v .edge
 edge-taken none v h = refl
 edge-taken (some w) v h = h .0
 
 -- what holds of all that the schedule's passages show holds of all that the path's show
-shown-all : (P : Observation → Type 0) (C : Component) (c last : ℕ) (ps : List Place) (vs : List Visit) → PassAs ps vs → All (λ v. P (seen C c v)) vs
+shown-all : (P : Observation → Type 0) (C : Component) (c last : ℕ) (ps : List PathPassage) (vs : List Passage) → PassAs ps vs → All (λ v. P (seen C c v)) vs
     → All P (observationsOn C c last ps (map (λ v. v .edge) vs))
 unfolding observationsOn
 shown-all P C c last [] vs h a = empty
@@ -105,7 +105,7 @@ shown-all P C c last (p ∷ ps) (v ∷ vs) h (more q a) = go (leb (o .tick) last
 
 -- ## What a run shows
 
-module _ (bytes : List ℕ) (t : Read) (S : List Visit) (r : readTable bytes ≡ accepted t) (e : planOf t ≡ accepted S) (cs : List ℕ) where
+module _ (bytes : List ℕ) (t : Read) (S : List Passage) (r : readTable bytes ≡ accepted t) (e : acceptedScheduleOf t ≡ accepted S) (cs : List ℕ) where
   -- the observations of the run
   abbrev os : List Observation
   os = run (settingOf t S) cs .state .observations
@@ -143,7 +143,7 @@ observations-read table choices lent t S r e = subst Back (sym same) (go (ltb (l
     Back c = c .verdict ≡ Accepted → readObservations (t .table) (c .size) (c .lent) ≡ shown
 
     same : runCall table choices lent ≡ runWith t S choices lent
-    same = ap (λ (x : Answer Read). runRead x choices lent) r ∙ ap (λ (x : Answer (List Visit)). runPlanned t x choices lent) e
+    same = ap (λ (x : Answer Read). runRead x choices lent) r ∙ ap (λ (x : Answer (List Passage)). runPlanned t x choices lent) e
 
     go : (x y : Bool) → Back (cond x (notRun 13 255 lent) (cond y (notRun 14 255 lent) (ran (run (settingOf t S) choices) lent)))
     go true y v = absurd (let z : _≡_ {A = ℕ} 0 1 = cc in omega arith)

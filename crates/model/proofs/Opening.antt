@@ -11,16 +11,16 @@ use lib.ListN.{length}
 use Rattle.model.specs.Lists.{accepted, refused}
 use Rattle.model.specs.Table.{Component, arcOf, locationOf}
 use Rattle.model.specs.Window.{Entry, Pick, IsWindow, readyOf, pastOf, dataHolds, choice, updated, channelOf}
-use Rattle.model.specs.Schedule.{Visit, visitOf, ranged, picked, opening}
+use Rattle.model.specs.Schedule.{Passage, passageOf, ranged, picked, opening}
 use Rattle.model.proofs.Parts.{refused-clash, accepted-same}
 use Rattle.model.proofs.Interval.{is-window, invariant}
 use Rattle.model.proofs.Choice.{Picked, choice-taken, choice-picked}
 
 -- v is the passage that component c opens as it enters there
-pub record Opened (c : ℕ) (C : Component) (at : Entry) (v : Visit) : Type 0 where
+pub record Opened (c : ℕ) (C : Component) (at : Entry) (v : Passage) : Type 0 where
   pub pick : Pick
   pub taken : choice C at ≡ some pick
-  pub is : v ≡ visitOf c at pick (channelOf (arcOf C (v .edge)))
+  pub is : v ≡ passageOf c at pick (channelOf (arcOf C (v .edge)))
   pub component : v .component ≡ c
   pub entry : v .entry ≡ at
   pub there : v .edge < length (C .arcs)
@@ -40,7 +40,7 @@ pub record Opened (c : ℕ) (C : Component) (at : Entry) (v : Visit) : Type 0 wh
 module _ (c : ℕ) (C : Component) (at : Entry) where
   -- the passage of a pick
   of-pick : (p : Pick) (ys : List ℤ) → choice C at ≡ some p → updated (arcOf C (p .edge) .updates) (at .values) ≡ some ys
-      → Opened c C at (visitOf c at p (channelOf (arcOf C (p .edge))))
+      → Opened c C at (passageOf c at p (channelOf (arcOf C (p .edge))))
   of-pick p ys k u =
       record {
         pick = p;
@@ -66,12 +66,12 @@ module _ (c : ℕ) (C : Component) (at : Entry) where
       k′ = choice-picked C at k
 
   -- an accepted opening
-  pub opened : {v : Visit} → opening c C at ≡ accepted v → Opened c C at v
+  pub opened : {v : Passage} → opening c C at ≡ accepted v → Opened c C at v
   unfolding opening
   opened {v} e = go (choice C at) refl e
     where
       ok : (p : Pick) → choice C at ≡ some p → (o : Option (List ℤ)) → updated (arcOf C (p .edge) .updates) (at .values) ≡ o
-          → ranged c o (visitOf c at p (channelOf (arcOf C (p .edge)))) ≡ accepted v → Opened c C at v
+          → ranged c o (passageOf c at p (channelOf (arcOf C (p .edge)))) ≡ accepted v → Opened c C at v
       ok p k none u q = refused-clash 9 c v q
       ok p k (some ys) u q = subst (Opened c C at) (accepted-same q) (of-pick p ys k u)
 
@@ -80,17 +80,17 @@ module _ (c : ℕ) (C : Component) (at : Entry) where
       go (some p) k q = ok p k (updated (arcOf C (p .edge) .updates) (at .values)) refl q
 
   -- a passage that is the one opened there is accepted
-  pub opened-accepted : {v : Visit} → Opened c C at v → opening c C at ≡ accepted v
+  pub opened-accepted : {v : Passage} → Opened c C at v → opening c C at ≡ accepted v
   unfolding opening
   opened-accepted {v} o =
-      ap (picked c C at) (o .taken) ∙ ap (λ u. ranged c u (visitOf c at (o .pick) (channelOf (arcOf C (o .pick .edge))))) (ap (λ e. updated (arcOf C e .updates) (at .values)) edge ∙ o .updates)
-      ∙ ap accepted (ap (λ e. visitOf c at (o .pick) (channelOf (arcOf C e))) edge ∙ sym (o .is))
+      ap (picked c C at) (o .taken) ∙ ap (λ u. ranged c u (passageOf c at (o .pick) (channelOf (arcOf C (o .pick .edge))))) (ap (λ e. updated (arcOf C e .updates) (at .values)) edge ∙ o .updates)
+      ∙ ap accepted (ap (λ e. passageOf c at (o .pick) (channelOf (arcOf C e))) edge ∙ sym (o .is))
     where
       edge : o .pick .edge ≡ v .edge
-      edge = sym (ap (λ (x : Visit). x .edge) (o .is))
+      edge = sym (ap (λ (x : Passage). x .edge) (o .is))
 
   -- an opening is accepted exactly if the passage is the one opened there
-  pub opening-is : {v : Visit} → (opening c C at ≡ accepted v) ↔ Opened c C at v
+  pub opening-is : {v : Passage} → (opening c C at ≡ accepted v) ↔ Opened c C at v
   opening-is = (opened, opened-accepted)
 
   -- 8. no candidate
@@ -101,10 +101,10 @@ module _ (c : ℕ) (C : Component) (at : Entry) where
   -- 9. an update leaves the range
   pub opening-9 : (p : Pick) → choice C at ≡ some p → updated (arcOf C (p .edge) .updates) (at .values) ≡ none → opening c C at ≡ refused 9 c
   unfolding opening
-  opening-9 p e u = ap (picked c C at) e ∙ ap (λ x. ranged c x (visitOf c at p (channelOf (arcOf C (p .edge))))) u
+  opening-9 p e u = ap (picked c C at) e ∙ ap (λ x. ranged c x (passageOf c at p (channelOf (arcOf C (p .edge))))) u
 
   -- a passage ends no later than the invariant's bound after its entry
-  pub end-bounded : {v : Visit} → Opened c C at v → v .end ≤ at .tick + locationOf C (at .location) .bound
+  pub end-bounded : {v : Passage} → Opened c C at v → v .end ≤ at .tick + locationOf C (at .location) .bound
   end-bounded {v} o =
       let gs = arcOf C (v .edge) .clockGuards in
       let q = pastOf (locationOf C (at .location)) gs (at .clocks) in

@@ -13,8 +13,8 @@ use Rattle.model.specs.declared.Update.{Update}
 use Rattle.model.specs.Lists.{All, empty, more, orElse}
 use Rattle.model.specs.Table.{Arc, Component, Table, size, componentOf, arcOf}
 use Rattle.model.specs.Window.{Entry, inRange, newValue, updated, masked, aged, channelOf, leaves}
-use Rattle.model.specs.Schedule.{Visit, own, withMessage, startEntry}
-use Rattle.model.specs.Checks.{noVisit, visitAt}
+use Rattle.model.specs.Schedule.{Passage, own, withMessage, startEntry}
+use Rattle.model.specs.Checks.{noPassage, passageAt}
 use Rattle.model.specs.Chains.{Opens, Chain, last, link, Chained, Before, Ordered, IsSchedule}
 use Rattle.model.specs.Chains.{none as no-passage, more as first-passage}
 use Rattle.model.proofs.Parts.{some-clash}
@@ -102,7 +102,7 @@ leaves-in {C} a m end {at} l h =
 -- ## Each passage
 
 -- what holds of a passage of component c, up to the horizon H
-pub record Entered (H c : ℕ) (C : Component) (v : Visit) : Type 0 where
+pub record Entered (H c : ℕ) (C : Component) (v : Passage) : Type 0 where
   pub component : v .component ≡ c
   pub opens : Opens c C (v .entry) v
   pub opened : Opened c C (v .entry) (withMessage v (channelOf (arcOf C (v .edge))))
@@ -112,7 +112,7 @@ pub record Entered (H c : ℕ) (C : Component) (v : Visit) : Type 0 where
   pub tick : (v .entry .tick ≡ 0) ⊎ (v .entry .tick < H)
 
 -- b is the passage after a, of component c
-pub record Follows (H c : ℕ) (C : Component) (a b : Visit) : Type 0 where
+pub record Follows (H c : ℕ) (C : Component) (a b : Passage) : Type 0 where
   pub below : a .end < H
   pub component : b .component ≡ c
   pub entry : b .entry ≡ leaves (arcOf C (a .edge)) (a .message) (a .end) (a .entry)
@@ -120,7 +120,7 @@ pub record Follows (H c : ℕ) (C : Component) (a b : Visit) : Type 0 where
 
 module _ (H c : ℕ) (C : Component) where
   -- a passage opened at an entry
-  enters : {at : Entry} {v : Visit} → Opens c C at v → EntryIn C at → (at .tick ≡ 0) ⊎ (at .tick < H) → Entered H c C v
+  enters : {at : Entry} {v : Passage} → Opens c C at v → EntryIn C at → (at .tick ≡ 0) ⊎ (at .tick < H) → Entered H c C v
   enters {at} {v} o i t = go (opened c C at o)
     where
       go : Opened c C at (withMessage v (channelOf (arcOf C (v .edge)))) → Entered H c C v
@@ -138,27 +138,27 @@ module _ (H c : ℕ) (C : Component) where
           }
 
   -- the passages of a chain
-  chain-entered : {v : Visit} {ws : List Visit} → Entered H c C v → Chain H c C v ws → All (Entered H c C) (v ∷ ws)
+  chain-entered : {v : Passage} {ws : List Passage} → Entered H c C v → Chain H c C v ws → All (Entered H c C) (v ∷ ws)
   unfolding leaves
   chain-entered e (last h) = more e empty
   chain-entered {v} e (link {w = w} h o k) =
       more e (chain-entered (enters {v = w} o (leaves-in (arcOf C (v .edge)) (v .message) (v .end) (omega (arith, e .early, e .wide)) (e .entry)) (inr h)) k)
 
   -- a passage that opens where v leads to follows v
-  pub opens-follows : (v w : Visit) → v .end < H → Opens c C (leaves (arcOf C (v .edge)) (v .message) (v .end) (v .entry)) w → Follows H c C v w
+  pub opens-follows : (v w : Passage) → v .end < H → Opens c C (leaves (arcOf C (v .edge)) (v .message) (v .end) (v .entry)) w → Follows H c C v w
   unfolding leaves
   opens-follows v w h o =
       let k = opened c C (leaves (arcOf C (v .edge)) (v .message) (v .end) (v .entry)) o in
       record { below = h; component = k .component; entry = k .entry; tick = ap (λ (x : Entry). x .tick) (k .entry) }
 
   -- each follows the one before
-  chain-follows : {v : Visit} {ws : List Visit} → Chain H c C v ws → (i : ℕ) → suc i < length (v ∷ ws) → Follows H c C (visitAt (v ∷ ws) i) (visitAt (v ∷ ws) (suc i))
+  chain-follows : {v : Passage} {ws : List Passage} → Chain H c C v ws → (i : ℕ) → suc i < length (v ∷ ws) → Follows H c C (passageAt (v ∷ ws) i) (passageAt (v ∷ ws) (suc i))
   chain-follows (last h) i k = absurd (omega arith)
   chain-follows {v} (link {w = w} h o l) zero k = opens-follows v w h o
   chain-follows (link h o l) (suc i) k = chain-follows l i (omega arith)
 
   -- the last reaches the horizon
-  chain-reaches : {v : Visit} {ws : List Visit} → Chain H c C v ws → (i : ℕ) → suc i ≡ length (v ∷ ws) → H ≤ visitAt (v ∷ ws) i .end
+  chain-reaches : {v : Passage} {ws : List Passage} → Chain H c C v ws → (i : ℕ) → suc i ≡ length (v ∷ ws) → H ≤ passageAt (v ∷ ws) i .end
   chain-reaches (last h) zero e = h
   chain-reaches (last h) (suc i) e = absurd (omega arith)
   chain-reaches (link h o l) zero e = absurd (omega arith)
@@ -167,18 +167,18 @@ module _ (H c : ℕ) (C : Component) where
 -- ## The laws
 
 -- what opens before is entered no later
-pub before-tick : (v w : Visit) → Before v w → v .entry .tick ≤ w .entry .tick
+pub before-tick : (v w : Passage) → Before v w → v .entry .tick ≤ w .entry .tick
 before-tick v w (inl q) = omega arith
 before-tick v w (inr q) = omega (arith, q .0)
 
 -- passage i opens before passage j
-pub ordered-at : {S : List Visit} → Ordered S → (i j : ℕ) → i < j → j < length S → Before (visitAt S i) (visitAt S j)
+pub ordered-at : {S : List Passage} → Ordered S → (i j : ℕ) → i < j → j < length S → Before (passageAt S i) (passageAt S j)
 ordered-at no-passage i j h k = absurd (omega arith)
 ordered-at (first-passage a o) i zero h k = absurd (omega arith)
-ordered-at (first-passage a o) zero (suc j) h k = all-at noVisit a j (omega arith)
+ordered-at (first-passage a o) zero (suc j) h k = all-at noPassage a j (omega arith)
 ordered-at (first-passage a o) (suc i) (suc j) h k = ordered-at o i j (omega arith) (omega arith)
 
-module _ {limit : ℕ} {T : Table} {H : ℕ} {S : List Visit} (s : IsSchedule limit T H S) where
+module _ {limit : ℕ} {T : Table} {H : ℕ} {S : List Passage} (s : IsSchedule limit T H S) where
   -- what holds of each passage
   pub entered : All (λ v. Entered H (v .component) (componentOf T (v .component)) v) S
   entered = in-all S (λ v i. all-in (mine (v .component) (s .chains (v .component) (all-in (s .present) i))) (in-own i))
@@ -188,24 +188,24 @@ module _ {limit : ℕ} {T : Table} {H : ℕ} {S : List Visit} (s : IsSchedule li
           (chain-entered H c (componentOf T c) (enters H c (componentOf T c) {v = k .head} (k .starts) (start-in (componentOf T c)) (inl refl)) (k .chain))
 
   -- entry ticks never fall
-  pub never-falls : (i j : ℕ) → i ≤ j → j < length S → visitAt S i .entry .tick ≤ visitAt S j .entry .tick
-  never-falls i j h k = by-cases (ℕ-discrete i j) (λ e. subst (λ n. visitAt S i .entry .tick ≤ visitAt S n .entry .tick) e (omega arith)) (λ n. before-tick (visitAt S i) (visitAt S j) (ordered-at (s .order) i j (omega arith) k))
+  pub never-falls : (i j : ℕ) → i ≤ j → j < length S → passageAt S i .entry .tick ≤ passageAt S j .entry .tick
+  never-falls i j h k = by-cases (ℕ-discrete i j) (λ e. subst (λ n. passageAt S i .entry .tick ≤ passageAt S n .entry .tick) e (omega arith)) (λ n. before-tick (passageAt S i) (passageAt S j) (ordered-at (s .order) i j (omega arith) k))
 
   module _ (c : ℕ) (h : c < size T) where
     -- a component's first passage starts as the component does
-    pub first-entry : (0 < length (own c S)) × (visitAt (own c S) 0 .entry ≡ startEntry (componentOf T c))
+    pub first-entry : (0 < length (own c S)) × (passageAt (own c S) 0 .entry ≡ startEntry (componentOf T c))
     first-entry =
         let k = s .chains c h in
-        (omega (arith, ap length (k .is)), ap (λ l. visitAt l 0 .entry) (k .is) ∙ opened c (componentOf T c) (startEntry (componentOf T c)) (k .starts) .entry)
+        (omega (arith, ap length (k .is)), ap (λ l. passageAt l 0 .entry) (k .is) ∙ opened c (componentOf T c) (startEntry (componentOf T c)) (k .starts) .entry)
 
     -- a component's next passage is entered where the one before leads to, at its end
-    pub next-follows : (i : ℕ) → suc i < length (own c S) → Follows H c (componentOf T c) (visitAt (own c S) i) (visitAt (own c S) (suc i))
+    pub next-follows : (i : ℕ) → suc i < length (own c S) → Follows H c (componentOf T c) (passageAt (own c S) i) (passageAt (own c S) (suc i))
     next-follows i =
         let k = s .chains c h in
-        subst (λ l. suc i < length l → Follows H c (componentOf T c) (visitAt l i) (visitAt l (suc i))) (sym (k .is)) (chain-follows H c (componentOf T c) (k .chain) i)
+        subst (λ l. suc i < length l → Follows H c (componentOf T c) (passageAt l i) (passageAt l (suc i))) (sym (k .is)) (chain-follows H c (componentOf T c) (k .chain) i)
 
     -- a component's last passage reaches the horizon
-    pub last-reaches : (i : ℕ) → suc i ≡ length (own c S) → H ≤ visitAt (own c S) i .end
+    pub last-reaches : (i : ℕ) → suc i ≡ length (own c S) → H ≤ passageAt (own c S) i .end
     last-reaches i =
         let k = s .chains c h in
-        subst (λ l. suc i ≡ length l → H ≤ visitAt l i .end) (sym (k .is)) (chain-reaches H c (componentOf T c) (k .chain) i)
+        subst (λ l. suc i ≡ length l → H ≤ passageAt l i .end) (sym (k .is)) (chain-reaches H c (componentOf T c) (k .chain) i)

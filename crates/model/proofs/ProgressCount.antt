@@ -6,7 +6,7 @@ use native.Mathlib.Omega.{arith}
 use lib.Dec.{ltb}
 use lib.ListN.{length}
 use Rattle.model.specs.Table.{Read, size, componentOf, locationOf}
-use Rattle.model.specs.Schedule.{Visit, own}
+use Rattle.model.specs.Schedule.{Passage, own}
 use Rattle.model.specs.Program.{locationBlock}
 use Rattle.model.specs.Machine.{Node}
 use Rattle.model.specs.Run.{settingTo, nodeOf, startRun, run}
@@ -26,13 +26,13 @@ use Rattle.model.proofs.ProgressRun.{uses}
 -- ## Sums
 
 -- the passages of the components below n, counted one component after the other
-own-counted : (n : ℕ) (S : List Visit) → total n (λ c. length (own c S)) ≡ length (under (λ (v : Visit). v .component) n S)
-own-counted zero S = omega (arith, none-under (λ (v : Visit). v .component) S)
-own-counted (suc n) S = omega (arith, own-counted n S, one-on (λ (v : Visit). v .component) n S)
+own-counted : (n : ℕ) (S : List Passage) → total n (λ c. length (own c S)) ≡ length (under (λ (v : Passage). v .component) n S)
+own-counted zero S = omega (arith, none-under (λ (v : Passage). v .component) S)
+own-counted (suc n) S = omega (arith, own-counted n S, one-on (λ (v : Passage). v .component) n S)
 
 -- they are no more than all
-own-few : (n : ℕ) (S : List Visit) → total n (λ c. length (own c S)) ≤ length S
-own-few n S = omega (arith, own-counted n S, only-few (λ (v : Visit). ltb (v .component) n) S)
+own-few : (n : ℕ) (S : List Passage) → total n (λ c. length (own c S)) ≤ length S
+own-few n S = omega (arith, own-counted n S, only-few (λ (v : Passage). ltb (v .component) n) S)
 
 -- so much for each of each, and so much for each besides
 total-times : (n : ℕ) (f : ℕ → ℕ) → total n (λ c. f c * 626 + 1235) ≡ total n f * 626 + n * 1235
@@ -41,7 +41,7 @@ total-times (suc n) f = omega (arith, total-times n f)
 
 -- ## The start
 
-module _ {t : Read} {H : ℕ} {S : List Visit} (G : Given t H S) where
+module _ {t : Read} {H : ℕ} {S : List Passage} (G : Given t H S) where
   -- the start lies before the horizon
   pub start-live : Live G (startRun (settingTo t H S))
   start-live = record { tied = tied-start G; below = omega (arith, G .least) }

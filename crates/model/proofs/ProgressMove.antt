@@ -13,7 +13,7 @@ use lib.Seq.{getD-set-same, getD-set-other}
 use Rattle.model.specs.Lists.{isNone, below, _∈_, here}
 use Rattle.model.specs.Table.{Read, size}
 use Rattle.model.specs.Window.{inRange, valueAt}
-use Rattle.model.specs.Schedule.{Visit, own}
+use Rattle.model.specs.Schedule.{Passage, own}
 use Rattle.model.specs.Program.{programBytes}
 use Rattle.model.specs.Machine.{Node, partBytes}
 use Rattle.model.specs.Run.{Setting, settingTo, Run, noNode, nodeOf, Stand, sleeping, sending, listening, finishing, adding, working, taking, elsewhere, nowhere, standOf, windowEnd, names, hears, listeners, takesMessage, Outcome, forbidden, on, finished, sent, finishes, choose1}
@@ -133,14 +133,14 @@ put-at P l i q d h f o = go (eqb d i) refl
     go false e = subst P (sym (getD-set-other l i d q noNode (eqb-false d i e))) o
 
 -- what node d has yet to do
-abbrev pub toilAt : List Visit → Run → ℕ → ℕ
+abbrev pub toilAt : List Passage → Run → ℕ → ℕ
 toilAt S s d = toil (length (own d S)) (nodeOf s d)
 
 -- what all have yet to do
-abbrev pub toilOf : Read → List Visit → Run → ℕ
+abbrev pub toilOf : Read → List Passage → Run → ℕ
 toilOf t S s = total (size (t .table)) (toilAt S s)
 
-module _ {t : Read} {H : ℕ} {S : List Visit} (G : Given t H S) {s : Run} (k : Tied G s) where
+module _ {t : Read} {H : ℕ} {S : List Passage} (G : Given t H S) {s : Run} (k : Tied G s) where
   -- the nodes of a choice carried out
   pub carried : (c : ℕ) → c < size (t .table) → (u : Run) → choose1 (settingTo t H S) s c ≡ on u → Carried (settingTo t H S) s c u
   unfolding choose1

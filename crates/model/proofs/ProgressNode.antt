@@ -10,7 +10,7 @@ use Rattle.model.specs.Lists.{all, isNone}
 use Rattle.model.specs.Table.{Component, Read, size, componentOf, arcOf}
 use Rattle.model.specs.Limits.{ComponentIn}
 use Rattle.model.specs.Window.{Entry, Pick, choice}
-use Rattle.model.specs.Schedule.{Visit, own}
+use Rattle.model.specs.Schedule.{Passage, own}
 use Rattle.model.specs.Program.{Statement, sleep, done, send, listen, enter, takeEdge, choose, updateOf, ageing, edgeBlock, programBytes}
 use Rattle.model.specs.Network.{Observation}
 use Rattle.model.specs.Machine.{Node, finish, partBytes}
@@ -96,7 +96,7 @@ module _ {p : List ℕ} {channels : ℕ} {C : Component} (codes : Coded p C) (fi
 -- ## One node
 
 -- node c of a state that is the schedule's has less to do after its statement
-pub node-falls : {t : Read} {H : ℕ} {S : List Visit} (G : Given t H S) {c τ : ℕ} {r : Node} {os : List Observation} {ahead : List Visit} → c < size (t .table)
+pub node-falls : {t : Read} {H : ℕ} {S : List Passage} (G : Given t H S) {c τ : ℕ} {r : Node} {os : List Observation} {ahead : List Passage} → c < size (t .table)
     → Tie (t .table) H S c τ r os ahead → (standOf r ≡ taking → isNone (r .kept) ≡ false)
     → toil (length (own c S)) (finish (partBytes (programBytes t) c) r (r .rest)) < toil (length (own c S)) r
 node-falls {t} {H} {S} G {c} {τ} {r} {os} {ahead} h k kept = go (k .held)

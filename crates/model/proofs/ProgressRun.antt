@@ -10,7 +10,7 @@ use lib.Dec.{eqb}
 use lib.ListN.{length}
 use Rattle.model.specs.Lists.{empty, more, Bytes}
 use Rattle.model.specs.Table.{Read, size}
-use Rattle.model.specs.Schedule.{Visit}
+use Rattle.model.specs.Schedule.{Passage}
 use Rattle.model.specs.Run.{settingTo, Run, ends, Outcome, forbidden, on, over, ticked, continue, choose1, runFrom}
 use Rattle.model.proofs.Bools.{clash}
 use Rattle.model.proofs.WholeTied.{Given, Tied}
@@ -19,7 +19,7 @@ use Rattle.model.proofs.WholeSend.{choice-leads}
 use Rattle.model.proofs.ProgressMove.{toilOf, whose, choice-falls}
 use Rattle.model.proofs.ProgressTick.{none-late, tick-allowed, tick-is}
 
-module _ {t : Read} {H : ℕ} {S : List Visit} (G : Given t H S) where
+module _ {t : Read} {H : ℕ} {S : List Passage} (G : Given t H S) where
   -- ## One choice
 
   -- what is left until the horizon

@@ -12,8 +12,8 @@ use lib.Seq.{append-snoc}
 use Rattle.model.specs.Lists.{only, All, empty, more, accepted}
 use Rattle.model.specs.Table.{Read, size, componentOf}
 use Rattle.model.specs.Limits.{InLimits}
-use Rattle.model.specs.Schedule.{Visit, own}
-use Rattle.model.specs.Checks.{limit, planOf}
+use Rattle.model.specs.Schedule.{Passage, own}
+use Rattle.model.specs.Checks.{limit, acceptedScheduleOf}
 use Rattle.model.specs.Run.{settingTo, Run, Result, nodeOf, ticked, run, startRun}
 use Rattle.model.specs.Calls.{runCall}
 use Rattle.model.specs.Demand3.{observationsOf}
@@ -52,7 +52,7 @@ only-front p xs ys zs e a h =
 
 -- ## The observations at the horizon
 
-module _ {t : Read} {H : ℕ} {S : List Visit} (G : Given t H S) {s : Run} (k : Live G s) (p : Tied G (ticked s)) (e : suc (s .tick) ≡ H) (c : ℕ) (h : c < size (t .table)) where
+module _ {t : Read} {H : ℕ} {S : List Passage} (G : Given t H S) {s : Run} (k : Live G s) (p : Tied G (ticked s)) (e : suc (s .tick) ≡ H) (c : ℕ) (h : c < size (t .table)) where
   -- the node's tie before the last tick
   abbrev K : Tie (t .table) H S c (s .tick) (nodeOf s c) (shownBy c (s .observations)) (k .tied .ahead c)
   K = k .tied .ties c h
@@ -65,23 +65,23 @@ module _ {t : Read} {H : ℕ} {S : List Visit} (G : Given t H S) {s : Run} (k : 
       subst (All (λ v. ltb (v .ready) H ≡ true)) same (all-then (λ v i. lt-ltb (v .ready) H (omega arith)) (r .2))
 
   -- those that were observed: the first of the schedule, all ready before the horizon
-  front : (rest : List Visit) × ((K .fin ++ K .more) ++ rest ≡ own c S) × All (λ v. ltb (v .ready) H ≡ true) (K .fin ++ K .more)
+  front : (rest : List Passage) × ((K .fin ++ K .more) ++ rest ≡ own c S) × All (λ v. ltb (v .ready) H ≡ true) (K .fin ++ K .more)
   front = go (K .held)
     where
-      Front : List Visit → Type 0
-      Front m = (rest : List Visit) × ((K .fin ++ m) ++ rest ≡ own c S) × All (λ v. ltb (v .ready) H ≡ true) (K .fin ++ m)
+      Front : List Passage → Type 0
+      Front m = (rest : List Passage) × ((K .fin ++ m) ++ rest ≡ own c S) × All (λ v. ltb (v .ready) H ≡ true) (K .fin ++ m)
 
       none : K .more ≡ [] → Front (K .more)
       none m =
           subst Front (sym m)
-          (k .tied .ahead c, ap (λ (l : List Visit). l ++ k .tied .ahead c) (append-nil (K .fin)) ∙ K .whole, all-join fin-ready empty)
+          (k .tied .ahead c, ap (λ (l : List Passage). l ++ k .tied .ahead c) (append-nil (K .fin)) ∙ K .whole, all-join fin-ready empty)
 
       go : Held H (componentOf (t .table) c) (s .tick) (K .count) (nodeOf s c) (k .tied .ahead c) (K .more) → Front (K .more)
       go (coming v vs a m l q) = none m
       go (waiting v vs a m l j q) = none m
       go (busy v vs a m l b j q) =
           subst Front (sym m)
-          (vs, append-snoc (K .fin) v vs ∙ (ap (λ (l : List Visit). K .fin ++ l) (sym a) ∙ K .whole), all-join fin-ready (more (lt-ltb (v .ready) H b) empty))
+          (vs, append-snoc (K .fin) v vs ∙ (ap (λ (l : List Passage). K .fin ++ l) (sym a) ∙ K .whole), all-join fin-ready (more (lt-ltb (v .ready) H b) empty))
       go (leaving at a m l q) = none m
       go (resting at a m l j q) = none m
 
@@ -99,7 +99,7 @@ module _ {t : Read} {H : ℕ} {S : List Visit} (G : Given t H S) {s : Run} (k : 
 
 -- ## The law
 
-module _ {t : Read} {H : ℕ} {S : List Visit} (G : Given t H S) where
+module _ {t : Read} {H : ℕ} {S : List Passage} (G : Given t H S) where
   -- an arrival from the start
   reaches-by : (A : Arrival G (startRun (settingTo t H S))) → ReachesBy t H S (A .choices)
   unfolding run
@@ -122,15 +122,15 @@ module _ {t : Read} {H : ℕ} {S : List Visit} (G : Given t H S) where
   go-on cs e = let a = arrive-after G cs (start-live G) e in (a .more, subst (ReachesBy t H S) (a .is) (reaches-by (a .arrival)))
 
 -- every accepted table reaches its horizon
-pub reaches : (t : Read) (S : List Visit) → InLimits t → planOf t ≡ accepted S → Reaches t (t .horizon) S
+pub reaches : (t : Read) (S : List Passage) → InLimits t → acceptedScheduleOf t ≡ accepted S → Reaches t (t .horizon) S
 reaches t S l a = reach (given t S l a)
 
 -- and no run of it gets stuck
-pub continues : (t : Read) (S : List Visit) → InLimits t → planOf t ≡ accepted S → Continues t (t .horizon) S
+pub continues : (t : Read) (S : List Passage) → InLimits t → acceptedScheduleOf t ≡ accepted S → Continues t (t .horizon) S
 continues t S l a = go-on (given t S l a)
 
 -- and no run of it carries out more than 710,904 choices
-pub uses-at-most : (t : Read) (S : List Visit) → InLimits t → planOf t ≡ accepted S → UsesAtMost 710904 t (t .horizon) S
+pub uses-at-most : (t : Read) (S : List Passage) → InLimits t → acceptedScheduleOf t ≡ accepted S → UsesAtMost 710904 t (t .horizon) S
 uses-at-most t S l a cs = omega (arith, carried-few (given t S l a) cs, schedule-at (t .table) (t .horizon) limit S a .0 .few, l .mostComponents, l .mostHorizon)
 
 -- all three, for every list of numbers that is read as a table and accepted

@@ -7,7 +7,7 @@ use native.Mathlib.Omega.{arith}
 use borrow.Author.Tests.{le-ltb, ltb-false}
 use lib.Dec.{eqb}
 use Rattle.model.specs.Table.{Read, size}
-use Rattle.model.specs.Schedule.{Visit, own}
+use Rattle.model.specs.Schedule.{Passage, own}
 use Rattle.model.specs.Machine.{Node}
 use Rattle.model.specs.Run.{settingTo, Run, nodeOf, Stand, sleeping, sending, listening, finishing, adding, working, taking, elsewhere, nowhere, standOf, forbidden, on, over, ticked, someDue, lateNodes, afterTick, choose1}
 use Rattle.model.specs.Demand3.{endBefore, lateIn, endIs, DueIn, NotDueIn, isLate}
@@ -20,7 +20,7 @@ use Rattle.model.proofs.WholePath.{nobody-late}
 -- ## One node
 
 -- due and not due exclude each other
-due-clash : (vs : List Visit) (now : ℕ) (r : Node) (x : Stand) → DueIn vs now r x → NotDueIn vs now r x → ⊥
+due-clash : (vs : List Passage) (now : ℕ) (r : Node) (x : Stand) → DueIn vs now r x → NotDueIn vs now r x → ⊥
 due-clash vs now r sleeping d n = n d
 due-clash vs now r (sending k) d n = d
 due-clash vs now r (listening qs) d n = n d
@@ -32,13 +32,13 @@ due-clash vs now r elsewhere d n = d
 due-clash vs now r nowhere d n = d
 
 -- a passage that ends neither before now nor now does not end before the next tick
-end-later : (vs : List Visit) (k now : ℕ) → endBefore vs k now ≡ false → (endIs vs k now → ⊥) → endBefore vs k (suc now) ≡ false
+end-later : (vs : List Passage) (k now : ℕ) → endBefore vs k now ≡ false → (endIs vs k now → ⊥) → endBefore vs k (suc now) ≡ false
 end-later [] k now e n = refl
 end-later (v ∷ vs) zero now e n = le-ltb (v .end) (suc now) (omega (arith, ltb-false (v .end) now e, n))
 end-later (v ∷ vs) (suc k) now e n = end-later vs k now e n
 
 -- a node that is not late and not due, where nothing but waiting is left to it, is not late by a tick
-late-never : (vs : List Visit) (now : ℕ) (r : Node) (x : Stand) → NotDueIn vs now r x → lateIn vs now r x ≡ false → lateIn vs (suc now) r x ≡ false
+late-never : (vs : List Passage) (now : ℕ) (r : Node) (x : Stand) → NotDueIn vs now r x → lateIn vs now r x ≡ false → lateIn vs (suc now) r x ≡ false
 late-never vs now r sleeping n l = refl
 late-never vs now r (sending k) n l = absurd n
 late-never vs now r (listening qs) n l = end-later vs (pred (r .sleeps)) now l n
@@ -51,7 +51,7 @@ late-never vs now r nowhere n l = absurd n
 
 -- ## All nodes
 
-module _ {t : Read} {H : ℕ} {S : List Visit} (G : Given t H S) {s : Run} (k : Live G s) (still : (c : ℕ) → c < size (t .table) → choose1 (settingTo t H S) s c ≡ forbidden) where
+module _ {t : Read} {H : ℕ} {S : List Passage} (G : Given t H S) {s : Run} (k : Live G s) (still : (c : ℕ) → c < size (t .table) → choose1 (settingTo t H S) s c ≡ forbidden) where
   -- no node is due
   not-due : (c : ℕ) → c < size (t .table) → NotDueIn (own c S) (s .tick) (nodeOf s c) (standOf (nodeOf s c))
   not-due c h = go (why-not G k c (still c h))
@@ -75,7 +75,7 @@ module _ {t : Read} {H : ℕ} {S : List Visit} (G : Given t H S) {s : Run} (k : 
       go (tickDue i d j n) = due-clash (own d S) (s .tick) (nodeOf s d) (standOf (nodeOf s d)) n (not-due d j)
 
 -- a tick changes no node
-pub tick-is : (t : Read) (H : ℕ) (S : List Visit) (s u : Run) → choose1 (settingTo t H S) s 255 ≡ on u → u ≡ ticked s
+pub tick-is : (t : Read) (H : ℕ) (S : List Passage) (s u : Run) → choose1 (settingTo t H S) s 255 ≡ on u → u ≡ ticked s
 unfolding choose1
 tick-is t H S s u e = go (someDue (settingTo t H S) (s .tick) 0 (s .nodes)) (lateNodes (settingTo t H S) (suc (s .tick)) 0 (s .nodes)) e
   where

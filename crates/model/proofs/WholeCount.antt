@@ -9,7 +9,7 @@ use lib.Dec.{ltb, eqb}
 use lib.ListN.{length, length-append, length-map}
 use Rattle.model.specs.Lists.{only}
 use Rattle.model.specs.Table.{Component, Read, size, componentOf}
-use Rattle.model.specs.Schedule.{Visit, own}
+use Rattle.model.specs.Schedule.{Passage, own}
 use Rattle.model.specs.Network.{Work, Observation}
 use Rattle.model.specs.Machine.{Node}
 use Rattle.model.specs.Run.{settingTo, standOf, due}
@@ -28,7 +28,7 @@ use Rattle.model.proofs.WholeNode.{nth-ahead}
 -- ## Counting
 
 -- the passages that were ready before now
-abbrev pub readied : ℕ → List Visit → List Visit
+abbrev pub readied : ℕ → List Passage → List Passage
 readied now vs = only (λ v. ltb (v .ready) now) vs
 
 -- no more than all
@@ -41,17 +41,17 @@ only-few p (x ∷ xs) = go (only-few p xs) (p x)
     go h false = omega arith
 
 -- one more at most
-one-more : (now : ℕ) (v : Visit) (vs : List Visit) → length (readied now (v ∷ vs)) ≤ suc (length (readied now vs))
+one-more : (now : ℕ) (v : Passage) (vs : List Passage) → length (readied now (v ∷ vs)) ≤ suc (length (readied now vs))
 one-more now v vs = go (ltb (v .ready) now)
   where
     go : (t : Bool) → length (cond t (v ∷ readied now vs) (readied now vs)) ≤ suc (length (readied now vs))
     go true = omega arith
     go false = omega arith
 
-module _ {H : ℕ} {C : Component} (now : ℕ) {v : Visit} {vs : List Visit} (k : Links H C v vs) where
+module _ {H : ℕ} {C : Component} (now : ℕ) {v : Passage} {vs : List Passage} (k : Links H C v vs) where
   -- before the end of a passage none after it was ready
   none-after : now ≤ v .end → length (readied now vs) ≤ 0
-  none-after h = omega (arith, ap length (only-none (λ (w : Visit). ltb (w .ready) now) vs .1 (λ w m. le-ltb (w .ready) now (omega (arith, later-ready k w m)))))
+  none-after h = omega (arith, ap length (only-none (λ (w : Passage). ltb (w .ready) now) vs .1 (λ w m. le-ltb (w .ready) now (omega (arith, later-ready k w m)))))
 
   -- so one at most, with it
   one-most : now ≤ v .end → length (readied now (v ∷ vs)) ≤ 1
@@ -65,10 +65,10 @@ module _ {H : ℕ} {C : Component} (now : ℕ) {v : Visit} {vs : List Visit} (k 
       go t e l = subst (λ (x : Bool). length (cond x (v ∷ readied now vs) (readied now vs)) ≤ 0) (sym e) l
 
 -- one tick after the end of a passage: it and the next one at most
-two-most : {H : ℕ} {C : Component} (τ : ℕ) {v : Visit} {vs : List Visit} → Links H C v vs → τ ≤ v .end → length (readied (suc τ) (v ∷ vs)) ≤ 2
+two-most : {H : ℕ} {C : Component} (τ : ℕ) {v : Passage} {vs : List Passage} → Links H C v vs → τ ≤ v .end → length (readied (suc τ) (v ∷ vs)) ≤ 2
 two-most {H} {C} τ {v} {vs} k h = go vs k
   where
-    go : (us : List Visit) → Links H C v us → length (readied (suc τ) (v ∷ us)) ≤ 2
+    go : (us : List Passage) → Links H C v us → length (readied (suc τ) (v ∷ us)) ≤ 2
     go [] l = omega (arith, one-more (suc τ) v [])
     go (w ∷ us) l =
         let n = next-later l in
@@ -77,7 +77,7 @@ two-most {H} {C} τ {v} {vs} k h = go vs k
 
 -- ## One node
 
-module _ {t : Read} {H : ℕ} {S : List Visit} (G : Given t H S) {τ : ℕ} {A : ℕ → List Visit} {ws : List Work} (g : Along G τ A ws) (c : ℕ) (h : c < size (t .table)) {r : Node}
+module _ {t : Read} {H : ℕ} {S : List Passage} (G : Given t H S) {τ : ℕ} {A : ℕ → List Passage} {ws : List Work} (g : Along G τ A ws) (c : ℕ) (h : c < size (t .table)) {r : Node}
     {os : List Observation} (k : Tie (t .table) H S c τ r os (A c)) where
   -- as many observations as passages whose sleep is finished
   shown-count : length os ≡ length (k .fin) + length (k .more)
@@ -88,23 +88,23 @@ module _ {t : Read} {H : ℕ} {S : List Visit} (G : Given t H S) {τ : ℕ} {A :
   by-ahead now n l =
       omega (
         arith,
-        ap (λ (x : List Visit). length (readied now x)) (k .whole),
-        ap length (only-append (λ (v : Visit). ltb (v .ready) now) (k .fin) (A c)),
+        ap (λ (x : List Passage). length (readied now x)) (k .whole),
+        ap length (only-append (λ (v : Passage). ltb (v .ready) now) (k .fin) (A c)),
         length-append (readied now (k .fin)) (readied now (A c)),
-        only-few (λ (v : Visit). ltb (v .ready) now) (k .fin),
+        only-few (λ (v : Passage). ltb (v .ready) now) (k .fin),
         shown-count,
       )
 
   -- what is ahead is linked
-  links : (v : Visit) (vs : List Visit) → A c ≡ v ∷ vs → Links H (componentOf (t .table) c) v vs
+  links : (v : Passage) (vs : List Passage) → A c ≡ v ∷ vs → Links H (componentOf (t .table) c) v vs
   links v vs e = ahead-linked (t .table) H S (g .passing) c h v vs e
 
   -- no observation that is due is missing
   pub none-missing : length (readied τ (own c S)) ≤ length os + 0
   none-missing = by-ahead τ 0 (go (k .held))
     where
-      put : (x y : List Visit) → A c ≡ x → k .more ≡ y → length (readied τ x) ≤ length y → length (readied τ (A c)) ≤ length (k .more) + 0
-      put x y e m l = omega (arith, ap (λ (z : List Visit). length (readied τ z)) e, ap length m)
+      put : (x y : List Passage) → A c ≡ x → k .more ≡ y → length (readied τ x) ≤ length y → length (readied τ (A c)) ≤ length (k .more) + 0
+      put x y e m l = omega (arith, ap (λ (z : List Passage). length (readied τ z)) e, ap length m)
 
       go : Held H (componentOf (t .table) c) τ (k .count) r (A c) (k .more) → length (readied τ (A c)) ≤ length (k .more) + 0
       go (coming v vs e m l p) = put (v ∷ vs) [] e m (none-yet τ (links v vs e) l)
@@ -117,22 +117,22 @@ module _ {t : Read} {H : ℕ} {S : List Visit} (G : Given t H S) {τ : ℕ} {A :
   pub none-missing-then : due (settingTo t H S) τ r (standOf r) ≡ false → length (readied (suc τ) (own c S)) ≤ length os + cond (lateIn (own c S) (suc τ) r (standOf r)) 1 0
   none-missing-then d = by-ahead (suc τ) (cond (lateIn (own c S) (suc τ) r (standOf r)) 1 0) (go (k .held))
     where
-      put : (x y : List Visit) (n : ℕ) → A c ≡ x → k .more ≡ y → length (readied (suc τ) x) ≤ length y + n → length (readied (suc τ) (A c)) ≤ length (k .more) + n
-      put x y n e m l = omega (arith, ap (λ (z : List Visit). length (readied (suc τ) z)) e, ap length m)
+      put : (x y : List Passage) (n : ℕ) → A c ≡ x → k .more ≡ y → length (readied (suc τ) x) ≤ length y + n → length (readied (suc τ) (A c)) ≤ length (k .more) + n
+      put x y n e m l = omega (arith, ap (λ (z : List Passage). length (readied (suc τ) z)) e, ap length m)
 
       -- by whether it is late
       split : (x : Bool) → lateIn (own c S) (suc τ) r (standOf r) ≡ x → length (readied (suc τ) (A c)) ≤ length (k .more) + cond x 1 0
           → length (readied (suc τ) (A c)) ≤ length (k .more) + cond (lateIn (own c S) (suc τ) r (standOf r)) 1 0
       split x e l = subst (λ (y : Bool). length (readied (suc τ) (A c)) ≤ length (k .more) + cond y 1 0) (sym e) l
 
-      before : (v : Visit) (vs : List Visit) → A c ≡ v ∷ vs → τ ≤ v .end
+      before : (v : Passage) (vs : List Passage) → A c ≡ v ∷ vs → τ ≤ v .end
       before v vs e = ahead-before (t .table) H S (g .passing) c h v vs e
 
-      comes : (v : Visit) (vs : List Visit) (e : A c ≡ v ∷ vs) → τ ≤ v .ready → (x : Bool) → ltb (v .ready) (suc τ) ≡ x → length (readied (suc τ) (v ∷ vs)) ≤ 0 + cond x 1 0
+      comes : (v : Passage) (vs : List Passage) (e : A c ≡ v ∷ vs) → τ ≤ v .ready → (x : Bool) → ltb (v .ready) (suc τ) ≡ x → length (readied (suc τ) (v ∷ vs)) ≤ 0 + cond x 1 0
       comes v vs e l true q = omega (arith, one-most (suc τ) (links v vs e) (omega (arith, first-fits (links v vs e) .window)))
       comes v vs e l false q = omega (arith, none-yet (suc τ) (links v vs e) (ltb-false (v .ready) (suc τ) q))
 
-      works : (v : Visit) (vs : List Visit) (e : A c ≡ v ∷ vs) → (x : Bool) → ltb (v .end) (suc τ) ≡ x → length (readied (suc τ) (v ∷ vs)) ≤ 1 + cond x 1 0
+      works : (v : Passage) (vs : List Passage) (e : A c ≡ v ∷ vs) → (x : Bool) → ltb (v .end) (suc τ) ≡ x → length (readied (suc τ) (v ∷ vs)) ≤ 1 + cond x 1 0
       works v vs e true q = omega (arith, two-most τ (links v vs e) (before v vs e))
       works v vs e false q = omega (arith, one-most (suc τ) (links v vs e) (ltb-false (v .end) (suc τ) q))
 
@@ -156,17 +156,17 @@ module _ {t : Read} {H : ℕ} {S : List Visit} (G : Given t H S) {τ : ℕ} {A :
   pub shows : (w : Witness (t .table) S τ A ws) → Begins os (shownOn (t .table) S (w .path) (w .last .tick) c)
   shows w = subst (λ (x : List Observation). Begins x (shownOn (t .table) S (w .path) (w .last .tick) c)) (sym (k .shown)) (go (k .held))
     where
-      Goal : List Visit → Type 0
+      Goal : List Passage → Type 0
       Goal x = Begins (map (seen (componentOf (t .table) c) c) x) (shownOn (t .table) S (w .path) (w .last .tick) c)
 
       alone : k .more ≡ [] → Goal (k .fin ++ k .more)
-      alone m = subst Goal (sym (ap (λ (l : List Visit). k .fin ++ l) m ∙ append-nil (k .fin))) (w .showsFinished c h (k .fin) (k .whole))
+      alone m = subst Goal (sym (ap (λ (l : List Passage). k .fin ++ l) m ∙ append-nil (k .fin))) (w .showsFinished c h (k .fin) (k .whole))
 
       go : Held H (componentOf (t .table) c) τ (k .count) r (A c) (k .more) → Goal (k .fin ++ k .more)
       go (coming v vs e m l p) = alone m
       go (waiting v vs e m l j p) = alone m
       go (busy v vs e m l b j p) =
-          subst Goal (sym (ap (λ (l : List Visit). k .fin ++ l) m))
-          (w .showsReady c h (k .fin) v vs e l (ap (λ (l : List Visit). k .fin ++ l) (sym e) ∙ k .whole))
+          subst Goal (sym (ap (λ (l : List Passage). k .fin ++ l) m))
+          (w .showsReady c h (k .fin) v vs e l (ap (λ (l : List Passage). k .fin ++ l) (sym e) ∙ k .whole))
       go (leaving at e m l p) = alone m
       go (resting at e m l j p) = alone m

@@ -11,7 +11,7 @@ use lib.ListN.{length}
 use Rattle.model.specs.declared.Action.the-variants.{Send}
 use Rattle.model.specs.Table.{Component, Read, size, componentOf, arcOf}
 use Rattle.model.specs.Window.{Entry, Pick, listens}
-use Rattle.model.specs.Schedule.{Visit, own}
+use Rattle.model.specs.Schedule.{Passage, own}
 use Rattle.model.specs.Machine.{Node}
 use Rattle.model.specs.Run.{settingTo, Run, nodeOf, Stand, sleeping, sending, listening, finishing, adding, working, taking, elsewhere, nowhere, standOf, windowEnd, listeners, forbidden, on, over, ticked, finishes, due, someDue, lateNodes, afterTick, choose1}
 use Rattle.model.specs.Demand3.{DueIn, NotDueIn, EarlyIn, Barred, absent, early, pending}
@@ -48,7 +48,7 @@ heading-idle {r = r} p w = way-no-work (standOf r) (heading-stand p) (working-st
 asleep-idle : {C : Component} {i : ℕ} {at at′ : Entry} {j k : Pick} {r : Node} → Asleep C i at k r → Working C i at′ j r → ⊥
 asleep-idle p w = clash (sym (ap isWork (asleep-sleeping p)) ∙ working-stand w)
 
-module _ {t : Read} {H : ℕ} {S : List Visit} (G : Given t H S) {s : Run} (k : Live G s) where
+module _ {t : Read} {H : ℕ} {S : List Passage} (G : Given t H S) {s : Run} (k : Live G s) where
   module _ (c : ℕ) (h : c < size (t .table)) where
     -- its component
     abbrev C : Component
@@ -66,7 +66,7 @@ module _ {t : Read} {H : ℕ} {S : List Visit} (G : Given t H S) {s : Run} (k : 
     due-in : due (settingTo t H S) (s .tick) r (standOf r) ≡ true → DueIn (own c S) (s .tick) r (standOf r)
     due-in d = go (K .held)
       where
-        listen : (v : Visit) (vs : List Visit) → k .tied .ahead c ≡ v ∷ vs → (j : Pick) → Working C (K .count) (v .entry) j r → (x : Bool) → listens (arcOf C (j .edge)) ≡ x
+        listen : (v : Passage) (vs : List Passage) → k .tied .ahead c ≡ v ∷ vs → (j : Pick) → Working C (K .count) (v .entry) j r → (x : Bool) → listens (arcOf C (j .edge)) ≡ x
             → cond x (eqb (s .tick) (v .entry .tick + j .end)) false ≡ true → DueIn (own c S) (s .tick) r (standOf r)
         listen v vs e j p true l f =
             listening-due-in (own c S) (s .tick) (opened-first G (k .tied .going) c h v vs e) (nth-ahead G (k .tied .going) c h K v vs e) p
@@ -92,7 +92,7 @@ module _ {t : Read} {H : ℕ} {S : List Visit} (G : Given t H S) {s : Run} (k : 
         why at p = not-allowed (settingTo t H S) s c (coded G c h) (component-in G c h) p f
 
         -- in a passage
-        within : (v : Visit) (vs : List Visit) → k .tied .ahead c ≡ v ∷ vs
+        within : (v : Passage) (vs : List Passage) → k .tied .ahead c ≡ v ∷ vs
             → ((j : Pick) (a : ℕ) → Working C (K .count) (v .entry) j r → actionOf C j ≡ Send a → listeners s c a ≡ [] → ⊥)
             → NotAllowed C (K .count) (v .entry) s c → NotDueIn (own c S) (s .tick) r (standOf r)
         within v vs e heard (earlySleep j p x) =
@@ -113,7 +113,7 @@ module _ {t : Read} {H : ℕ} {S : List Visit} (G : Given t H S) {s : Run} (k : 
         beyond at e idle (nothingKept p x n) = taking-not-due-in (own c S) (s .tick) (none-ahead G (k .tied .going) c h K e) p x
         beyond at e idle (unheard j a p act l) = absurd (idle j p)
 
-        listener : (v : Visit) (vs : List Visit) → k .tied .ahead c ≡ v ∷ vs → v .ready ≤ s .tick → (j : Pick) (a : ℕ) → Working C (K .count) (v .entry) j r → actionOf C j ≡ Send a
+        listener : (v : Passage) (vs : List Passage) → k .tied .ahead c ≡ v ∷ vs → v .ready ≤ s .tick → (j : Pick) (a : ℕ) → Working C (K .count) (v .entry) j r → actionOf C j ≡ Send a
             → listeners s c a ≡ [] → ⊥
         listener v vs e l j a p act n =
             let z : [] ≡ _ ∷ [] = sym n ∙ listeners-are G k c h v vs e l p a act in

@@ -12,9 +12,9 @@ use Rattle.model.specs.Lists.{only, isNone, All, empty, more, accepted}
 use Rattle.model.specs.Table.{Component, Read, size, componentOf}
 use Rattle.model.specs.Reader.{readTable}
 use Rattle.model.specs.Window.{valueAt, inRange}
-use Rattle.model.specs.Schedule.{Visit, own}
-use Rattle.model.specs.Checks.{planOf}
-use Rattle.model.specs.Network.{Place, Work, Observation, observation, takenOr, observationsOn, passagesOn, start}
+use Rattle.model.specs.Schedule.{Passage, own}
+use Rattle.model.specs.Checks.{acceptedScheduleOf}
+use Rattle.model.specs.Network.{PathPassage, Work, Observation, observation, takenOr, observationsOn, passagesOn, start}
 use Rattle.model.specs.Machine.{Node}
 use Rattle.model.specs.Run.{Setting, settingTo, settingOf, Run, Outcome, forbidden, on, over, Stand, sleeping, sending, listening, finishing, adding, working, taking, elsewhere, nowhere, standOf, nodeOf, windowEnd, ownTick, moved, ticked, sent, listeners, finishes, someDue, lateNodes, afterTick, choose1, continue, runFrom, run}
 use Rattle.model.specs.Demand3.{PassAs, Begins, observationsOf, Demand3}
@@ -136,7 +136,7 @@ begins-few : {A : Type 0} {xs ys : List A} → Begins xs ys → length xs ≤ le
 begins-few {xs = xs} b = omega (arith, length-append xs (b .rest), ap length (b .is))
 
 -- one passage is shown once at most
-shown-few : (C : Component) (c last : ℕ) (ps : List Place) (es : List ℕ) → length (observationsOn C c last ps es) ≤ length ps
+shown-few : (C : Component) (c last : ℕ) (ps : List PathPassage) (es : List ℕ) → length (observationsOn C c last ps es) ≤ length ps
 unfolding observationsOn
 shown-few C c last [] es = omega arith
 shown-few C c last (p ∷ ps) [] = omega arith
@@ -148,34 +148,34 @@ shown-few C c last (p ∷ ps) (e ∷ es) = go (shown-few C c last ps es) (leb (o
     go h false = omega arith
 
 -- the passages on a path are no more than those of the schedule
-pass-few : (ps : List Place) (vs : List Visit) → PassAs ps vs → length ps ≤ length vs
+pass-few : (ps : List PathPassage) (vs : List Passage) → PassAs ps vs → length ps ≤ length vs
 pass-few [] vs h = omega arith
 pass-few (p ∷ ps) [] h = absurd h
 pass-few (p ∷ ps) (v ∷ vs) h = omega (arith, pass-few ps vs (h .2))
 
 -- ## All of them
 
-module _ (t : Read) (S : List Visit) (cs : List ℕ) where
+module _ (t : Read) (S : List Passage) (cs : List ℕ) where
   node-few : Demand3 t (t .horizon) S cs → (c : ℕ) → c < size (t .table) → length (observationsOf c (run (settingOf t S) cs)) ≤ length (own c S)
   node-few d c h =
       let ps = passagesOn (t .table) c (start (t .table)) (d .path) in
       omega (
         arith,
         begins-few (d .observed c h),
-        shown-few (componentOf (t .table) c) c (d .last .tick) ps (map (λ (v : Visit). v .edge) (own c S)),
+        shown-few (componentOf (t .table) c) c (d .last .tick) ps (map (λ (v : Passage). v .edge) (own c S)),
         pass-few ps (own c S) (d .scheduled c h),
       )
 
 -- a run of an accepted table never writes more observations than the schedule has passages
-pub few : (bytes : List ℕ) (t : Read) (S : List Visit) → readTable bytes ≡ accepted t → planOf t ≡ accepted S → (cs : List ℕ)
+pub few : (bytes : List ℕ) (t : Read) (S : List Passage) → readTable bytes ≡ accepted t → acceptedScheduleOf t ≡ accepted S → (cs : List ℕ)
     → length (run (settingOf t S) cs .state .observations) ≤ length S
 unfolding run
 few bytes t S r e cs =
     let full = tied-start (given t S (read-limits bytes t r) e) .full in
-    by-number (λ (o : Observation). o .component) (λ (v : Visit). v .component) S
+    by-number (λ (o : Observation). o .component) (λ (v : Passage). v .component) S
     (shows-on (settingOf t S) cs (record { full = full; shown = empty }) .shown) (node-few t S cs (promised bytes t S r e cs))
 
 -- each observation of a run is of one of its nodes
-pub of-nodes : {t : Read} {H : ℕ} {S : List Visit} → Given t H S → (cs : List ℕ) → All (λ o. o .component < size (t .table)) (run (settingTo t H S) cs .state .observations)
+pub of-nodes : {t : Read} {H : ℕ} {S : List Passage} → Given t H S → (cs : List ℕ) → All (λ o. o .component < size (t .table)) (run (settingTo t H S) cs .state .observations)
 unfolding run
 of-nodes {t} {H} {S} G cs = shows-on (settingTo t H S) cs (record { full = tied-start G .full; shown = empty }) .shown

@@ -13,7 +13,7 @@ use Rattle.model.specs.declared.Action.the-variants.{Internal, Send, Rec
 use Rattle.model.specs.Lists.{any, only, from}
 use Rattle.model.specs.Table.{Component, Read, size, componentOf, arcOf}
 use Rattle.model.specs.Window.{Pick, sends, receives, channelOf, listens}
-use Rattle.model.specs.Schedule.{Visit, names}
+use Rattle.model.specs.Schedule.{Passage, names}
 use Rattle.model.specs.Network.{hearsOn}
 use Rattle.model.specs.Run.{Run, nodeOf, hears, listeners}
 use Rattle.model.proofs.Bools.{clash, and-is}
@@ -60,7 +60,7 @@ receives-only Receive e = refl
 
 -- ## The listener
 
-module _ {t : Read} {H : ℕ} {S : List Visit} (G : Given t H S) {s : Run} (k : Live G s) (c : ℕ) (h : c < size (t .table)) (v : Visit) (vs : List Visit) (e : k .tied .ahead c ≡ v ∷ vs)
+module _ {t : Read} {H : ℕ} {S : List Passage} (G : Given t H S) {s : Run} (k : Live G s) (c : ℕ) (h : c < size (t .table)) (v : Passage) (vs : List Passage) (e : k .tied .ahead c ≡ v ∷ vs)
     (ready : v .ready ≤ s .tick) {i : ℕ} {j : Pick} (p : Working (componentOf (t .table) c) i (v .entry) j (nodeOf s c)) (a : ℕ)
     (action : actionOf (componentOf (t .table) c) j ≡ Send a) where
   -- the passage's edge sends on that channel
@@ -78,10 +78,10 @@ module _ {t : Read} {H : ℕ} {S : List Visit} (G : Given t H S) {s : Run} (k : 
   -- the partner is at work in its receive
   pub record Listens : Type 0 where
     pub pick : Pick
-    pub atWork : Working (componentOf (t .table) other) (k .tied .ties other (partner .there) .count) (partner .visit .entry) pick (nodeOf s other)
-    pub more : k .tied .ties other (partner .there) .more ≡ partner .visit ∷ []
-    pub since : partner .visit .ready ≤ s .tick
-    pub edge : partner .visit .edge ≡ pick .edge
+    pub atWork : Working (componentOf (t .table) other) (k .tied .ties other (partner .there) .count) (partner .passage .entry) pick (nodeOf s other)
+    pub more : k .tied .ties other (partner .there) .more ≡ partner .passage ∷ []
+    pub since : partner .passage .ready ≤ s .tick
+    pub edge : partner .passage .edge ≡ pick .edge
 
   -- so it is: its ready lies before now, and nobody is late
   pub partner-listens : Listens
@@ -90,29 +90,29 @@ module _ {t : Read} {H : ℕ} {S : List Visit} (G : Given t H S) {s : Run} (k : 
       D : Component
       D = componentOf (t .table) other
 
-      w : Visit
-      w = partner .visit
+      w : Passage
+      w = partner .passage
 
-      same : (x : Visit) (xs : List Visit) → k .tied .ahead other ≡ x ∷ xs → x ≡ w
+      same : (x : Passage) (xs : List Passage) → k .tied .ahead other ≡ x ∷ xs → x ≡ w
       same x xs f = let z : x ∷ xs ≡ w ∷ partner .rest = sym f ∙ partner .ahead in cc
 
       some-ahead : k .tied .ahead other ≡ [] → ⊥
       some-ahead f = let z : [] ≡ w ∷ partner .rest = sym f ∙ partner .ahead in let z : _≡_ {A = ℕ} 0 1 = cc in omega arith
 
-      early : (x : Visit) (xs : List Visit) → k .tied .ahead other ≡ x ∷ xs → s .tick ≤ x .ready → ⊥
-      early x xs f l = omega (arith, partner .earlier, ap (λ (y : Visit). y .ready) (same x xs f))
+      early : (x : Passage) (xs : List Passage) → k .tied .ahead other ≡ x ∷ xs → s .tick ≤ x .ready → ⊥
+      early x xs f l = omega (arith, partner .earlier, ap (λ (y : Passage). y .ready) (same x xs f))
 
       go : Held H D (s .tick) (k .tied .ties other (partner .there) .count) (nodeOf s other) (k .tied .ahead other) (k .tied .ties other (partner .there) .more) → Listens
       go (coming x xs f m l q) = absurd (early x xs f l)
       go (waiting x xs f m l n q) = absurd (early x xs f l)
       go (busy x xs f m l b n q) =
           let o : Working D (k .tied .ties other (partner .there) .count) (w .entry) n (nodeOf s other) =
-          subst (λ (y : Visit). Working D (k .tied .ties other (partner .there) .count) (y .entry) n (nodeOf s other)) (same x xs f) q in
+          subst (λ (y : Passage). Working D (k .tied .ties other (partner .there) .count) (y .entry) n (nodeOf s other)) (same x xs f) q in
           record {
             pick = n;
             atWork = o;
-            more = m ∙ ap (λ (y : Visit). y ∷ []) (same x xs f);
-            since = omega (arith, ap (λ (y : Visit). y .ready) (same x xs f));
+            more = m ∙ ap (λ (y : Passage). y ∷ []) (same x xs f);
+            since = omega (arith, ap (λ (y : Passage). y .ready) (same x xs f));
             edge = edge-same G (k .tied .going) other (partner .there) w (partner .rest) (partner .ahead) (o .chosen);
           }
       go (leaving at f m l q) = absurd (some-ahead f)
@@ -122,7 +122,7 @@ module _ {t : Read} {H : ℕ} {S : List Visit} (G : Given t H S) {s : Run} (k : 
   pub began-earlier : nodeOf s other .t < nodeOf s c .t
   began-earlier =
       let o = opened-first G (k .tied .going) c h v vs e in
-      let u = opened-first G (k .tied .going) other (partner .there) (partner .visit) (partner .rest) (partner .ahead) in
+      let u = opened-first G (k .tied .going) other (partner .there) (partner .passage) (partner .rest) (partner .ahead) in
       omega (arith, working-passage o p .ready, working-passage u (partner-listens .atWork) .ready, partner .earlier)
 
   -- it hears
@@ -138,8 +138,8 @@ module _ {t : Read} {H : ℕ} {S : List Visit} (G : Given t H S) {s : Run} (k : 
       D : Component
       D = componentOf (t .table) other
 
-      w : Visit
-      w = partner .visit
+      w : Passage
+      w = partner .passage
 
       l : Working D (k .tied .ties other (partner .there) .count) (w .entry) (partner-listens .pick) (nodeOf s other)
       l = partner-listens .atWork

@@ -11,7 +11,7 @@ use lib.ListN.{length, getD, set, length-append, length-set}
 use lib.Seq.{append-snoc, getD-set-same, getD-set-other}
 use Rattle.model.specs.Table.{Table, Read, size, componentOf, arcOf}
 use Rattle.model.specs.Window.{Entry, Pick, choice, leaves}
-use Rattle.model.specs.Schedule.{Visit}
+use Rattle.model.specs.Schedule.{Passage}
 use Rattle.model.specs.Network.{Work, Observation}
 use Rattle.model.specs.Machine.{Node}
 use Rattle.model.specs.Run.{Run, noNode, on, moved}
@@ -26,15 +26,15 @@ use Rattle.model.proofs.WholeTick.{Live, Leads, onward}
 
 -- ## The frame
 
-module _ {T : Table} {H : ℕ} {S : List Visit} where
+module _ {T : Table} {H : ℕ} {S : List Passage} where
   -- the same tie, of equal things
-  pub same-tie : {c τ : ℕ} {r r′ : Node} {os os′ : List Observation} {as′ bs : List Visit} → r ≡ r′ → os ≡ os′ → as′ ≡ bs
+  pub same-tie : {c τ : ℕ} {r r′ : Node} {os os′ : List Observation} {as′ bs : List Passage} → r ≡ r′ → os ≡ os′ → as′ ≡ bs
       → Tie T H S c τ r os as′ → Tie T H S c τ r′ os′ bs
   same-tie {c} {τ} {r} {r′} {os} {os′} {as′} {bs} e f i k =
       subst (λ (q : Node). Tie T H S c τ q os′ bs) e
-      (subst (λ (q : List Observation). Tie T H S c τ r q bs) f (subst (λ (q : List Visit). Tie T H S c τ r os q) i k))
+      (subst (λ (q : List Observation). Tie T H S c τ r q bs) f (subst (λ (q : List Passage). Tie T H S c τ r os q) i k))
 
-module _ {t : Read} {H : ℕ} {S : List Visit} (G : Given t H S) {s : Run} (k : Live G s) where
+module _ {t : Read} {H : ℕ} {S : List Passage} (G : Given t H S) {s : Run} (k : Live G s) where
   -- node c's number is not that of a tick
   no-tick : (c : ℕ) → c < size (t .table) → c ≡ 255 → ⊥
   no-tick c h e = omega (arith, G .limits .mostComponents)
@@ -45,7 +45,7 @@ module _ {t : Read} {H : ℕ} {S : List Visit} (G : Given t H S) {s : Run} (k : 
       onward u (record { tied = p; below = omega (arith, k .below) }) f (e ∙ ap (λ (x : Bool). cond x (suc (s .tick)) (s .tick)) (sym (ne-eqb c 255 (no-tick c h))))
 
   -- one node moved: the others are as before
-  pub tied-moved : (c : ℕ) → c < size (t .table) → (r : Node) (os : List Observation) (ws : List Work) (B : ℕ → List Visit) → Along G (s .tick) B (s .works ++ ws)
+  pub tied-moved : (c : ℕ) → c < size (t .table) → (r : Node) (os : List Observation) (ws : List Work) (B : ℕ → List Passage) → Along G (s .tick) B (s .works ++ ws)
       → ((d : ℕ) → d < size (t .table) → (d ≡ c → ⊥) → B d ≡ k .tied .ahead d) → ((d : ℕ) → (d ≡ c → ⊥) → shownBy d os ≡ [])
       → Tie (t .table) H S c (s .tick) r (shownBy c (s .observations) ++ shownBy c os) (B c) → Tied G (moved s c r os ws)
   tied-moved c h r os ws B g others none′ tie =
@@ -74,8 +74,8 @@ module _ {t : Read} {H : ℕ} {S : List Visit} (G : Given t H S) {s : Run} (k : 
 
 -- ## The work of the first passage ahead finished
 
-module _ {t : Read} {H : ℕ} {S : List Visit} (G : Given t H S) {τ : ℕ} {A : ℕ → List Visit} {ws : List Work} (g : Along G τ A ws) (c : ℕ) (h : c < size (t .table)) (v : Visit)
-    (vs : List Visit) (e : A c ≡ v ∷ vs) where
+module _ {t : Read} {H : ℕ} {S : List Passage} (G : Given t H S) {τ : ℕ} {A : ℕ → List Passage} {ws : List Work} (g : Along G τ A ws) (c : ℕ) (h : c < size (t .table)) (v : Passage)
+    (vs : List Passage) (e : A c ≡ v ∷ vs) where
   -- the edge of the window chosen is the passage's
   pub edge-same : {j : Pick} → choice (componentOf (t .table) c) (v .entry) ≡ some j → v .edge ≡ j .edge
   edge-same {j} f = passage-pick (opened-first G g c h v vs e) f .0
@@ -89,7 +89,7 @@ module _ {t : Read} {H : ℕ} {S : List Visit} (G : Given t H S) {τ : ℕ} {A :
       before : τ ≤ v .end
       before = ahead-before (t .table) H S (g .passing) c h v vs e
 
-      go : (us : List Visit) → Links H (componentOf (t .table) c) v us → Held H (componentOf (t .table) c) τ i r us []
+      go : (us : List Passage) → Links H (componentOf (t .table) c) v us → Held H (componentOf (t .table) c) τ i r us []
       go [] l = leaving (leaves (arcOf (componentOf (t .table) c) (v .edge)) (v .message) (v .end) (v .entry)) refl refl (last-beyond l) p
       go (w ∷ us) l = coming w us refl refl (omega (arith, before, next-later l .0)) (subst (λ (at : Entry). Heading (componentOf (t .table) c) i at r) (sym (next-is l)) p)
 
@@ -111,7 +111,7 @@ module _ {t : Read} {H : ℕ} {S : List Visit} (G : Given t H S) {τ : ℕ} {A :
         more = [];
         count = suc (k .count);
         counts = length-append (k .fin) (v ∷ []) ∙ (let z : length (k .fin) + 1 ≡ suc (k .count) = omega (arith, k .counts) in z);
-        whole = append-snoc (k .fin) v vs ∙ (ap (λ (l : List Visit). k .fin ++ l) (sym e) ∙ k .whole);
+        whole = append-snoc (k .fin) v vs ∙ (ap (λ (l : List Passage). k .fin ++ l) (sym e) ∙ k .whole);
         held = p;
-        shown = k .shown ∙ ap (map (seen (componentOf (t .table) c) c)) (ap (λ (l : List Visit). k .fin ++ l) m ∙ sym (append-nil (k .fin ++ (v ∷ []))));
+        shown = k .shown ∙ ap (map (seen (componentOf (t .table) c) c)) (ap (λ (l : List Passage). k .fin ++ l) m ∙ sym (append-nil (k .fin ++ (v ∷ []))));
       }

@@ -9,7 +9,7 @@ use borrow.Author.Tests.{le-ltb, ltb-false, eqb-false}
 use lib.Dec.{eqb}
 use lib.ListN.{length}
 use Rattle.model.specs.Table.{Component, Read, size, componentOf}
-use Rattle.model.specs.Schedule.{Visit, own}
+use Rattle.model.specs.Schedule.{Passage, own}
 use Rattle.model.specs.Network.{Work, Observation}
 use Rattle.model.specs.Machine.{Node}
 use Rattle.model.specs.Run.{settingTo, standOf, due, late}
@@ -22,19 +22,19 @@ use Rattle.model.proofs.NetWitness.{ahead-before}
 use Rattle.model.proofs.WholeTied.{Given, Held, coming, waiting, busy, leaving, resting, Tie, Along, opened-first, nth-first}
 
 -- beyond the last passage nothing was ready before now
-pub never-ready : (vs : List Visit) (i now : ℕ) → length vs ≤ i → readyBefore vs i now ≡ false
+pub never-ready : (vs : List Passage) (i now : ℕ) → length vs ≤ i → readyBefore vs i now ≡ false
 never-ready [] i now h = refl
 never-ready (v ∷ vs) zero now h = absurd (omega arith)
 never-ready (v ∷ vs) (suc i) now h = never-ready vs i now (omega arith)
 
 -- nothing ahead: all passages are finished
-pub all-finished : (fin ahead vs : List Visit) {i : ℕ} → length fin ≡ i → fin ++ ahead ≡ vs → ahead ≡ [] → length vs ≤ i
-all-finished fin ahead vs n w e = omega (arith, ap length (sym (append-nil fin) ∙ (ap (λ (l : List Visit). fin ++ l) (sym e) ∙ w)))
+pub all-finished : (fin ahead vs : List Passage) {i : ℕ} → length fin ≡ i → fin ++ ahead ≡ vs → ahead ≡ [] → length vs ≤ i
+all-finished fin ahead vs n w e = omega (arith, ap length (sym (append-nil fin) ∙ (ap (λ (l : List Passage). fin ++ l) (sym e) ∙ w)))
 
-module _ {t : Read} {H : ℕ} {S : List Visit} (G : Given t H S) {τ : ℕ} {A : ℕ → List Visit} {ws : List Work} (g : Along G τ A ws) (c : ℕ) (h : c < size (t .table)) {r : Node}
+module _ {t : Read} {H : ℕ} {S : List Passage} (G : Given t H S) {τ : ℕ} {A : ℕ → List Passage} {ws : List Work} (g : Along G τ A ws) (c : ℕ) (h : c < size (t .table)) {r : Node}
     {os : List Observation} (k : Tie (t .table) H S c τ r os (A c)) where
   -- the number of the first passage ahead
-  pub nth-ahead : (v : Visit) (vs : List Visit) → A c ≡ v ∷ vs → Nth (own c S) (k .count) v
+  pub nth-ahead : (v : Passage) (vs : List Passage) → A c ≡ v ∷ vs → Nth (own c S) (k .count) v
   nth-ahead v vs e = nth-first c S (k .fin) (k .counts) (k .whole) v vs e
 
   -- nothing ahead: all passages are finished
@@ -69,18 +69,18 @@ module _ {t : Read} {H : ℕ} {S : List Visit} (G : Given t H S) {τ : ℕ} {A :
   -- what a tick does to a node that is due for nothing and not late afterwards: nothing, and its window, if it is in one, goes on
   pub record Later : Type 0 where
     pub tie : Tie (t .table) H S c (suc τ) r os (A c)
-    pub room : (v : Visit) (vs : List Visit) → A c ≡ v ∷ vs → v .ready ≤ τ → τ < v .end
+    pub room : (v : Passage) (vs : List Passage) → A c ≡ v ∷ vs → v .ready ≤ τ → τ < v .end
 
   -- the same tie a tick later
   again : Held H (componentOf (t .table) c) (suc τ) (k .count) r (A c) (k .more) → Tie (t .table) H S c (suc τ) r os (A c)
   again p = record { fin = k .fin; more = k .more; count = k .count; counts = k .counts; whole = k .whole; held = p; shown = k .shown }
 
   -- one first passage
-  same-ready : (v w : Visit) (vs us : List Visit) → A c ≡ v ∷ vs → A c ≡ w ∷ us → v ≡ w
+  same-ready : (v w : Passage) (vs us : List Passage) → A c ≡ v ∷ vs → A c ≡ w ∷ us → v ≡ w
   same-ready v w vs us e f = cc
 
   -- nothing ahead is no first passage
-  nothing-first : (v : Visit) (vs : List Visit) → A c ≡ [] → A c ≡ v ∷ vs → ⊥
+  nothing-first : (v : Passage) (vs : List Passage) → A c ≡ [] → A c ≡ v ∷ vs → ⊥
   nothing-first v vs e f = let z : _≡_ {A = ℕ} 0 1 = cc in omega arith
 
   -- so it is
@@ -90,8 +90,8 @@ module _ {t : Read} {H : ℕ} {S : List Visit} (G : Given t H S) {τ : ℕ} {A :
       C : Component
       C = componentOf (t .table) c
 
-      not-ready : (v : Visit) (vs : List Visit) → A c ≡ v ∷ vs → suc τ ≤ v .ready → (w : Visit) (us : List Visit) → A c ≡ w ∷ us → w .ready ≤ τ → τ < w .end
-      not-ready v vs e n w us f q = absurd (omega (arith, ap (λ (x : Visit). x .ready) (same-ready v w vs us e f)))
+      not-ready : (v : Passage) (vs : List Passage) → A c ≡ v ∷ vs → suc τ ≤ v .ready → (w : Passage) (us : List Passage) → A c ≡ w ∷ us → w .ready ≤ τ → τ < w .end
+      not-ready v vs e n w us f q = absurd (omega (arith, ap (λ (x : Passage). x .ready) (same-ready v w vs us e f)))
 
       not-late : lateIn (own c S) (suc τ) r (standOf r) ≡ false
       not-late = sym (late-same (suc τ)) ∙ l
@@ -109,7 +109,7 @@ module _ {t : Read} {H : ℕ} {S : List Visit} (G : Given t H S) {τ : ℕ} {A :
           let n : suc τ ≤ v .end = ltb-false (v .end) (suc τ) (sym (working-late-in (own c S) (suc τ) p ∙ end-before-nth (nth-ahead v vs e) (suc τ)) ∙ not-late) in
           record {
             tie = again (busy v vs e m (omega arith) f q p);
-            room = λ w us i x. omega (arith, n, ap (λ (y : Visit). y .end) (same-ready v w vs us e i));
+            room = λ w us i x. omega (arith, n, ap (λ (y : Passage). y .end) (same-ready v w vs us e i));
           }
       go (leaving at e m b p) = record { tie = again (leaving at e m b p); room = λ w us f x. absurd (nothing-first w us e f) }
       go (resting at e m b q p) = record { tie = again (resting at e m b q p); room = λ w us f x. absurd (nothing-first w us e f) }

@@ -7,7 +7,7 @@ use Prim.Native.Nat.{ℕ, pred, _+_, _≤_, _<_}
 use lib.Dec.{eqb}
 use lib.ListN.{length}
 use Rattle.model.specs.Table.{Read, size, componentOf}
-use Rattle.model.specs.Schedule.{Visit, own}
+use Rattle.model.specs.Schedule.{Passage, own}
 use Rattle.model.specs.Program.{programBytes}
 use Rattle.model.specs.Network.{State, Label, start, follow, passagesOn, worksOn, observationsOn}
 use Rattle.model.specs.Machine.{partBytes}
@@ -28,7 +28,7 @@ use Rattle.model.proofs.WholeCount.{readied, none-missing, none-missing
 -- ## The path
 
 -- one path of the network, for all nodes together, that shows what the run did: the first nine fields of demand 3
-pub record PathOf (t : Read) (H : ℕ) (S : List Visit) (r : Result) : Type 0 where
+pub record PathOf (t : Read) (H : ℕ) (S : List Passage) (r : Result) : Type 0 where
   pub path : List Label
   pub last : State
   pub valid : follow (t .table) (start (t .table)) path ≡ some last
@@ -42,7 +42,7 @@ pub record PathOf (t : Read) (H : ℕ) (S : List Visit) (r : Result) : Type 0 wh
   pub complete : (c : ℕ) → c < size (t .table)
       → length (readied (r .state .tick) (own c S)) ≤ length (observationsOf c r) + cond (isLateEnd r && isLate S (r .state) c) 1 0
 
-module _ {t : Read} {H : ℕ} {S : List Visit} (G : Given t H S) where
+module _ {t : Read} {H : ℕ} {S : List Passage} (G : Given t H S) where
   -- nobody is late as the schedule has it
   pub nobody-late : {s : Run} → Tied G s → (c : ℕ) → c < size (t .table) → isLate S s c ≡ false
   nobody-late k c h = on-time G (k .going) c h (k .ties c h)

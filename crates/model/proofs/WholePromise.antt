@@ -7,8 +7,8 @@ use lib.ListN.{getD}
 use Rattle.model.specs.Lists.{accepted}
 use Rattle.model.specs.Table.{Read, size}
 use Rattle.model.specs.Limits.{InLimits}
-use Rattle.model.specs.Schedule.{Visit}
-use Rattle.model.specs.Checks.{planOf}
+use Rattle.model.specs.Schedule.{Passage}
+use Rattle.model.specs.Checks.{acceptedScheduleOf}
 use Rattle.model.specs.Run.{settingTo, Run, Result, runFrom, run, startRun}
 use Rattle.model.specs.Demand3.{states, stateAfter, LateAt, Ended, horizon, usedUp, late, notAllowed, Refused, noNode, notDue, due, Barred, Demand3, Promise}
 use Rattle.model.proofs.WholeLimits.{read-limits}
@@ -21,7 +21,7 @@ use Rattle.model.proofs.WholePath.{PathOf}
 use Rattle.model.proofs.WholeRun.{Goes, goes, carried-out, goes-used, goes-few, goes-ticks, goes-path, goes-listener, goes-below, goes-late-ends, goes-late-is, goes-node, Ends, atHorizon, atLast, tooLate, goes-ends}
 use Rattle.model.proofs.WholeRun.{notAllowed as not-allowed}
 
-module _ {t : Read} {H : ℕ} {S : List Visit} (G : Given t H S) (cs : List ℕ) where
+module _ {t : Read} {H : ℕ} {S : List Passage} (G : Given t H S) (cs : List ℕ) where
   -- the start of the run
   abbrev s₀ : Run
   s₀ = startRun (settingTo t H S)
@@ -109,7 +109,7 @@ module _ {t : Read} {H : ℕ} {S : List Visit} (G : Given t H S) (cs : List ℕ)
       }
 
 -- for every table in the limits that is accepted, and every list of choices
-pub promise : (t : Read) (S : List Visit) → InLimits t → planOf t ≡ accepted S → (cs : List ℕ) → Demand3 t (t .horizon) S cs
+pub promise : (t : Read) (S : List Passage) → InLimits t → acceptedScheduleOf t ≡ accepted S → (cs : List ℕ) → Demand3 t (t .horizon) S cs
 promise t S h e cs = demand (given t S h e) cs
 
 -- demand 3, for every list of numbers that is read as a table and accepted, and every list of choices

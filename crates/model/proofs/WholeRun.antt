@@ -8,7 +8,7 @@ use native.Mathlib.Omega.{arith}
 use lib.Dec.{eqb}
 use lib.ListN.{length, getD, take}
 use Rattle.model.specs.Table.{Read, size}
-use Rattle.model.specs.Schedule.{Visit, own}
+use Rattle.model.specs.Schedule.{Passage, own}
 use Rattle.model.specs.Run.{settingTo, Run, Result, ends, Outcome, forbidden, on, over, ticked, nodeOf, standOf, continue, choose1, runFrom}
 use Rattle.model.specs.Demand3.{isLate, HasListener, furtherStates, states, ticksIn}
 use Rattle.model.proofs.Bools.{clash}
@@ -17,7 +17,7 @@ use Rattle.model.proofs.WholeTick.{Live, TooLate, Leads, no, onward, ar
 use Rattle.model.proofs.WholeSend.{choice-leads}
 use Rattle.model.proofs.WholePath.{PathOf, nobody-late, quiet-path, late-path, listener-now, listener-then}
 
-module _ {t : Read} {H : ℕ} {S : List Visit} (G : Given t H S) where
+module _ {t : Read} {H : ℕ} {S : List Passage} (G : Given t H S) where
   -- from state s a list of choices leads to a result, through these states, n choices carried out
   pub data Goes : ℕ → Run → List ℕ → Result → List Run → Type 0 where
     usedUp : {s : Run} → Live G s → Goes 0 s [] (ends s 1 255) (s ∷ [])

@@ -13,7 +13,7 @@ use Rattle.model.specs.declared.Action.the-variants.{Receive}
 use Rattle.model.specs.Lists.{any}
 use Rattle.model.specs.Table.{Component, Read, size, componentOf, arcOf}
 use Rattle.model.specs.Window.{receives, listens}
-use Rattle.model.specs.Schedule.{Visit, names}
+use Rattle.model.specs.Schedule.{Passage, names}
 use Rattle.model.specs.Program.{programBytes}
 use Rattle.model.specs.Network.{two}
 use Rattle.model.specs.Machine.{Node, partBytes, finish}
@@ -31,9 +31,9 @@ use Rattle.model.proofs.WholeMove.{same-tie, stays, finished-held, fini
 use Rattle.model.proofs.WholeStatement.{without, without-same, without-other, way-leads, sleep-leads, work-leads}
 use Rattle.model.proofs.WholeListener.{receives-only, sends-on, partner, Listens, partner-listens, listeners-are}
 
-module _ {t : Read} {H : ℕ} {S : List Visit} (G : Given t H S) {s : Run} (k : Live G s) where
+module _ {t : Read} {H : ℕ} {S : List Passage} (G : Given t H S) {s : Run} (k : Live G s) where
   -- two nodes moved: the others are as before
-  tied-messaged : (c b a : ℕ) → c < size (t .table) → b < size (t .table) → (c ≡ b → ⊥) → (r q : Node) (vs us : List Visit)
+  tied-messaged : (c b a : ℕ) → c < size (t .table) → b < size (t .table) → (c ≡ b → ⊥) → (r q : Node) (vs us : List Passage)
       → Going (G .most) (t .table) H S (G .sched) (G .checks) (s .tick) (without b us (without c vs (k .tied .ahead))) (s .works ++ (two c b a (s .tick) ∷ []))
       → Tie (t .table) H S c (s .tick) r (shownBy c (s .observations)) vs → Tie (t .table) H S b (s .tick) q (shownBy b (s .observations)) us
       → Tied G (messaged s c r b q a)
@@ -45,10 +45,10 @@ module _ {t : Read} {H : ℕ} {S : List Visit} (G : Given t H S) {s : Run} (k : 
         ties = λ d i. go d i (eqb d b) refl (eqb d c) refl;
       }
     where
-      A : ℕ → List Visit
+      A : ℕ → List Passage
       A = k .tied .ahead
 
-      B : ℕ → List Visit
+      B : ℕ → List Passage
       B = without b us (without c vs A)
 
       go : (d : ℕ) → d < size (t .table) → (x : Bool) → eqb d b ≡ x → (y : Bool) → eqb d c ≡ y
@@ -78,7 +78,7 @@ module _ {t : Read} {H : ℕ} {S : List Visit} (G : Given t H S) {s : Run} (k : 
 
   -- ## A send
 
-  module _ (c : ℕ) (h : c < size (t .table)) (v : Visit) (vs : List Visit) (e : k .tied .ahead c ≡ v ∷ vs) (m : k .tied .ties c h .more ≡ v ∷ []) (ready : v .ready ≤ s .tick) (a : ℕ)
+  module _ (c : ℕ) (h : c < size (t .table)) (v : Passage) (vs : List Passage) (e : k .tied .ahead c ≡ v ∷ vs) (m : k .tied .ties c h .more ≡ v ∷ []) (ready : v .ready ≤ s .tick) (a : ℕ)
       (x : AtSend (partBytes (programBytes t) c) (componentOf (t .table) c) (k .tied .ties c h .count) (v .entry) (nodeOf s c) a) where
     -- the sender's partner
     abbrev P : Partner (G .most) (t .table) H S (G .sched) (G .checks) (s .tick) (k .tied .ahead) c v a
@@ -104,8 +104,8 @@ module _ {t : Read} {H : ℕ} {S : List Visit} (G : Given t H S) {s : Run} (k : 
     -- its listener behind its listen
     listener-tie : Tie (t .table) H S b (s .tick) (takesMessage (partBytes (programBytes t) b) a (nodeOf s b)) (shownBy b (s .observations)) (P .rest)
     listener-tie =
-        finished-tie G (k .tied .going) b (P .there) (P .visit) (P .rest) (P .ahead) (k .tied .ties b (P .there)) (L .more)
-        (finished-held G (k .tied .going) b (P .there) (P .visit) (P .rest) (P .ahead) (y .pick) (some a) (y .atWork .chosen) (P .partners .message)
+        finished-tie G (k .tied .going) b (P .there) (P .passage) (P .rest) (P .ahead) (k .tied .ties b (P .there)) (L .more)
+        (finished-held G (k .tied .going) b (P .there) (P .passage) (P .rest) (P .ahead) (y .pick) (some a) (y .atWork .chosen) (P .partners .message)
         (y .taken a named))
       where
         D : Component
@@ -114,9 +114,9 @@ module _ {t : Read} {H : ℕ} {S : List Visit} (G : Given t H S) {s : Run} (k : 
         action : actionOf D (L .pick) ≡ Receive
         action = receives-only (actionOf D (L .pick)) (subst (λ (n : ℕ). listens (arcOf D n) ≡ true) (L .edge) (P .partners .receives))
 
-        y : AtListen (partBytes (programBytes t) b) D (k .tied .ties b (P .there) .count) (P .visit .entry) (nodeOf s b) (arcOf D (L .pick .edge) .pairs)
+        y : AtListen (partBytes (programBytes t) b) D (k .tied .ties b (P .there) .count) (P .passage .entry) (nodeOf s b) (arcOf D (L .pick .edge) .pairs)
         y =
-            subst (AtStand (partBytes (programBytes t) b) D (k .tied .ties b (P .there) .count) (P .visit .entry) (nodeOf s b)) (stands-listening (L .atWork) action)
+            subst (AtStand (partBytes (programBytes t) b) D (k .tied .ties b (P .there) .count) (P .passage .entry) (nodeOf s b)) (stands-listening (L .atWork) action)
             (phase-at (coded G b (P .there)) (component-in G b (P .there)) (isWorking (L .pick) (L .atWork)))
 
         named : any (λ q. eqb (q .channel) a) (arcOf D (L .pick .edge) .pairs) ≡ true
@@ -126,10 +126,10 @@ module _ {t : Read} {H : ℕ} {S : List Visit} (G : Given t H S) {s : Run} (k : 
     send-leads : Leads G s c (sent (settingTo t H S) s c a (listeners s c a))
     send-leads = subst (λ (l : List ℕ). Leads G s c (sent (settingTo t H S) s c a l)) (sym (listeners-are G k c h v vs e ready (x .atWork) a (x .action))) there
       where
-        A : ℕ → List Visit
+        A : ℕ → List Passage
         A = k .tied .ahead
 
-        B : ℕ → List Visit
+        B : ℕ → List Passage
         B = without b (P .rest) (without c vs A)
 
         there : Leads G s c (sent (settingTo t H S) s c a (b ∷ []))

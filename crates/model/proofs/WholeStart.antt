@@ -6,7 +6,7 @@ use native.Mathlib.Omega.{arith}
 use lib.ListN.{length, getD}
 use Rattle.model.specs.Table.{Component, Read, noComponent, size, componentOf}
 use Rattle.model.specs.Window.{Entry}
-use Rattle.model.specs.Schedule.{Visit, own, startEntry}
+use Rattle.model.specs.Schedule.{Passage, own, startEntry}
 use Rattle.model.specs.Program.{programBytes}
 use Rattle.model.specs.Machine.{startNode, partBytes}
 use Rattle.model.specs.Run.{Counts, settingTo, noNode, nodeOf, startNodes, startRun}
@@ -38,7 +38,7 @@ start-at program k (C ∷ Cs) (suc c) h =
     start-at program (suc k) Cs c (omega arith)
     ∙ ap (λ (i : ℕ). startNode (partBytes program i) (getD Cs c noComponent .clocks) (getD Cs c noComponent .variables)) e
 
-module _ {t : Read} {H : ℕ} {S : List Visit} (G : Given t H S) where
+module _ {t : Read} {H : ℕ} {S : List Passage} (G : Given t H S) where
   -- node c of the run's start
   pub start-node : (c : ℕ) → c < size (t .table)
       → nodeOf (startRun (settingTo t H S)) c ≡ startNode (partBytes (programBytes t) c) (componentOf (t .table) c .clocks) (componentOf (t .table) c .variables)

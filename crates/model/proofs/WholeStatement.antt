@@ -12,7 +12,7 @@ use Rattle.model.specs.declared.Action.the-variants.{Internal, Receive}
 use Rattle.model.specs.Lists.{isNone}
 use Rattle.model.specs.Table.{Component, Read, size, componentOf, arcOf}
 use Rattle.model.specs.Window.{Entry, Pick, choice, sends, receives}
-use Rattle.model.specs.Schedule.{Visit}
+use Rattle.model.specs.Schedule.{Passage}
 use Rattle.model.specs.Program.{programBytes}
 use Rattle.model.specs.Network.{one, Observation}
 use Rattle.model.specs.Machine.{Node, partBytes, finish}
@@ -34,18 +34,18 @@ use Rattle.model.proofs.WholeTick.{Live, Leads, no}
 use Rattle.model.proofs.WholeMove.{same-tie, stays, tied-moved, tied-silent, edge-same, finished-held, finished-tie}
 
 -- the passages ahead, without the first of component c
-abbrev pub without : ℕ → List Visit → (ℕ → List Visit) → ℕ → List Visit
+abbrev pub without : ℕ → List Passage → (ℕ → List Passage) → ℕ → List Passage
 without c vs A d = cond (eqb d c) vs (A d)
 
 -- of component c
-pub without-same : (c : ℕ) (vs : List Visit) (A : ℕ → List Visit) → without c vs A c ≡ vs
+pub without-same : (c : ℕ) (vs : List Passage) (A : ℕ → List Passage) → without c vs A c ≡ vs
 without-same c vs A = ap (λ (x : Bool). cond x vs (A c)) (eq-eqb c c refl)
 
 -- of the others
-pub without-other : (c : ℕ) (vs : List Visit) (A : ℕ → List Visit) (d : ℕ) → (d ≡ c → ⊥) → without c vs A d ≡ A d
+pub without-other : (c : ℕ) (vs : List Passage) (A : ℕ → List Passage) (d : ℕ) → (d ≡ c → ⊥) → without c vs A d ≡ A d
 without-other c vs A d n = ap (λ (x : Bool). cond x vs (A d)) (ne-eqb d c n)
 
-module _ {t : Read} {H : ℕ} {S : List Visit} (G : Given t H S) {s : Run} (k : Live G s) (c : ℕ) (h : c < size (t .table)) where
+module _ {t : Read} {H : ℕ} {S : List Passage} (G : Given t H S) {s : Run} (k : Live G s) (c : ℕ) (h : c < size (t .table)) where
   -- its component
   abbrev C : Component
   C = componentOf (t .table) c
@@ -63,7 +63,7 @@ module _ {t : Read} {H : ℕ} {S : List Visit} (G : Given t H S) {s : Run} (k : 
   g = settingTo t H S
 
   -- the passages ahead
-  abbrev A : ℕ → List Visit
+  abbrev A : ℕ → List Passage
   A = k .tied .ahead
 
   -- node c's tie, with that node in its place
@@ -103,7 +103,7 @@ module _ {t : Read} {H : ℕ} {S : List Visit} (G : Given t H S) {s : Run} (k : 
       go nowhere w a = clash w
 
   -- at the sleep of the first passage ahead
-  pub sleep-leads : (v : Visit) (vs : List Visit) → A c ≡ v ∷ vs → tie .more ≡ [] → (j : Pick) → Asleep C (tie .count) (v .entry) j r → Leads G s c (finishes g s c (standOf r))
+  pub sleep-leads : (v : Passage) (vs : List Passage) → A c ≡ v ∷ vs → tie .more ≡ [] → (j : Pick) → Asleep C (tie .count) (v .entry) j r → Leads G s c (finishes g s c (standOf r))
   sleep-leads v vs e m j p = subst (λ (x : Stand). Leads G s c (finishes g s c x)) (sym (asleep-sleeping p)) (go (eqb (s .tick) (r .t)) refl)
     where
       o : Begins c C (v .entry) v
@@ -119,7 +119,7 @@ module _ {t : Read} {H : ℕ} {S : List Visit} (G : Given t H S) {s : Run} (k : 
 
       shows : s .tick ≡ r .t → shownBy c (s .observations) ++ shownBy c (observes c (s .tick) r ∷ []) ≡ map (seen C c) (tie .fin ++ (v ∷ []))
       shows i =
-          ap₂ (λ (x y : List Observation). x ++ y) (tie .shown ∙ ap (map (seen C c)) (ap (λ (l : List Visit). tie .fin ++ l) m ∙ append-nil (tie .fin))) (mine i)
+          ap₂ (λ (x y : List Observation). x ++ y) (tie .shown ∙ ap (map (seen C c)) (ap (λ (l : List Passage). tie .fin ++ l) m ∙ append-nil (tie .fin))) (mine i)
           ∙ sym (map-append (seen C c) (tie .fin) (v ∷ []))
 
       go : (x : Bool) → eqb (s .tick) (r .t) ≡ x → Leads G s c (cond x (on (moved s c q (observes c (s .tick) r ∷ []) [])) forbidden)
@@ -143,7 +143,7 @@ module _ {t : Read} {H : ℕ} {S : List Visit} (G : Given t H S) {s : Run} (k : 
           refl
 
   -- at the work of the first passage ahead
-  module _ (v : Visit) (vs : List Visit) (e : A c ≡ v ∷ vs) (m : tie .more ≡ v ∷ []) (ready : v .ready ≤ s .tick) (below : v .ready < H) where
+  module _ (v : Passage) (vs : List Passage) (e : A c ≡ v ∷ vs) (m : tie .more ≡ v ∷ []) (ready : v .ready ≤ s .tick) (below : v .ready < H) where
     -- an edge that does that
     action-same : {j : Pick} {a : Action} → choice C (v .entry) ≡ some j → actionOf C j ≡ a → arcOf C (v .edge) .edge .action ≡ a
     action-same f i = ap (λ (n : ℕ). arcOf C n .edge .action) (edge-same G (k .tied .going) c h v vs e f) ∙ i

@@ -8,7 +8,7 @@ use borrow.Author.Tests.{eqb-true, eqb-false}
 use lib.Dec.{eqb}
 use lib.ListN.{length, getD}
 use Rattle.model.specs.Table.{Read, size}
-use Rattle.model.specs.Schedule.{Visit}
+use Rattle.model.specs.Schedule.{Passage}
 use Rattle.model.specs.Machine.{Node}
 use Rattle.model.specs.Run.{Setting, settingTo, Run, noNode, nodeOf, standOf, Outcome, forbidden, on, over, ticked, due, someDue, late, lateNodes, afterTick}
 use Rattle.model.specs.Demand3.{isLate}
@@ -85,7 +85,7 @@ module _ (g : Setting) (now : ℕ) where
 
 -- ## What one choice leads to
 
-module _ {t : Read} {H : ℕ} {S : List Visit} (G : Given t H S) where
+module _ {t : Read} {H : ℕ} {S : List Passage} (G : Given t H S) where
   -- a state that the run goes on from
   pub record Live (s : Run) : Type 0 where
     pub tied : Tied G s

@@ -7,7 +7,7 @@ use Prim.Native.Nat.{ℕ}
 use Rattle.model.specs.Table.{Read}
 use Rattle.model.specs.Limits.{InLimits}
 use Rattle.model.specs.Bytes.{tableBytes}
-use Rattle.model.specs.Schedule.{Visit}
+use Rattle.model.specs.Schedule.{Passage}
 use Rattle.model.specs.Chains.{IsSchedule}
 use Rattle.model.specs.Checks.{limit, Independent}
 
@@ -15,6 +15,6 @@ pub record Accepts (bytes : List ℕ) : Type 0 where
   pub network : Read
   pub limits : InLimits network
   pub is : bytes ≡ tableBytes network
-  pub passages : List Visit
+  pub passages : List Passage
   pub schedule : IsSchedule limit (network .table) (network .horizon) passages
   pub independent : Independent (network .table) (network .horizon) passages

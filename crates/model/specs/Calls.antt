@@ -12,8 +12,8 @@ use Rattle.model.specs.declared.Verdict.the-variants.{Accepted, Refused}
 use Rattle.model.specs.Lists.{Answer, accepted, refused, _after_, each}
 use Rattle.model.specs.Table.{Read}
 use Rattle.model.specs.Reader.{readTable}
-use Rattle.model.specs.Schedule.{Visit, sevenOf}
-use Rattle.model.specs.Checks.{plan, planOf}
+use Rattle.model.specs.Schedule.{Passage, sevenOf}
+use Rattle.model.specs.Checks.{acceptedSchedule, acceptedScheduleOf}
 use Rattle.model.specs.Program.{programBytes}
 use Rattle.model.specs.Run.{Result, settingOf, run, observationBytes}
 use Rattle.model.specs.Demand3.{Demand3}
@@ -79,34 +79,34 @@ laid size result lent =
 -- ## The calls
 
 -- checks 1 to 12: the schedule of a table's bytes
-unfoldable pub planIn : List ℕ → Answer (List Visit)
-unfolding readTable plan
-planIn table = readTable table after planOf
+unfoldable pub acceptedScheduleIn : List ℕ → Answer (List Passage)
+unfolding readTable acceptedSchedule
+acceptedScheduleIn table = readTable table after acceptedScheduleOf
 
 -- The call `check`: "A table is accepted when 1 to 12 are passed". It is lent nothing to write.
 unfoldable pub checkCall : List ℕ → Verdict
-unfolding planIn
-checkCall table = verdictOf (planIn table)
+unfolding acceptedScheduleIn
+checkCall table = verdictOf (acceptedScheduleIn table)
 
 -- The call `schedule`: seven numbers a passage, in the order of the schedule. Its size is the number of passages.
-abbrev pub scheduleWith : List ℕ → Answer (List Visit) → Call
+abbrev pub scheduleWith : List ℕ → Answer (List Passage) → Call
 scheduleWith lent (accepted S) = laid (length S) (each sevenOf S) lent
 scheduleWith lent (refused n c) = refusing n c lent
 
 unfoldable pub scheduleCall : List ℕ → List ℕ → Call
-unfolding planIn each
-scheduleCall table lent = scheduleWith lent (planIn table)
+unfolding acceptedScheduleIn each
+scheduleCall table lent = scheduleWith lent (acceptedScheduleIn table)
 
 -- The call `translate`: the program's bytes. Its size is their number.
 abbrev pub programIn : List ℕ → Answer (List ℕ)
-programIn table = readTable table after λ t. planOf t after λ S. accepted (programBytes t)
+programIn table = readTable table after λ t. acceptedScheduleOf t after λ S. accepted (programBytes t)
 
 abbrev pub translateWith : List ℕ → Answer (List ℕ) → Call
 translateWith lent (accepted program) = laid (length program) program lent
 translateWith lent (refused n c) = refusing n c lent
 
 unfoldable pub translateCall : List ℕ → List ℕ → Call
-unfolding planIn programBytes
+unfolding acceptedScheduleIn programBytes
 translateCall table lent = translateWith lent (programIn table)
 
 -- ## The run
@@ -138,24 +138,24 @@ ran r lent =
     }
 
 -- 13. "Does the lent buffer hold .. a run's 32 bytes for each passage?" Then 14. "Are there at most 1,000,000 choices?"
-abbrev pub runWith : Read → List Visit → List ℕ → List ℕ → RunCall
+abbrev pub runWith : Read → List Passage → List ℕ → List ℕ → RunCall
 runWith t S choices lent =
     cond (ltb (length lent) (length S * 32)) (notRun 13 255 lent)
     (cond (ltb 1000000 (length choices)) (notRun 14 255 lent) (ran (run (settingOf t S) choices) lent))
 
-abbrev pub runPlanned : Read → Answer (List Visit) → List ℕ → List ℕ → RunCall
+abbrev pub runPlanned : Read → Answer (List Passage) → List ℕ → List ℕ → RunCall
 runPlanned t (accepted S) choices lent = runWith t S choices lent
 runPlanned t (refused n c) choices lent = notRun n c lent
 
 abbrev pub runRead : Answer Read → List ℕ → List ℕ → RunCall
-runRead (accepted t) choices lent = runPlanned t (planOf t) choices lent
+runRead (accepted t) choices lent = runPlanned t (acceptedScheduleOf t) choices lent
 runRead (refused n c) choices lent = notRun n c lent
 
 -- the call `run`: table, choices, and the bytes lent for the observations
 unfoldable pub runCall : List ℕ → List ℕ → List ℕ → RunCall
-unfolding planIn programBytes run observationBytes each
+unfolding acceptedScheduleIn programBytes run observationBytes each
 runCall table choices lent = runRead (readTable table) choices lent
 
 -- demand 3, of these bytes and these choices: for the accepted table that the bytes are, if they are one
 abbrev pub Demand3Of : List ℕ → List ℕ → Type 0
-Demand3Of table choices = (t : Read) (S : List Visit) → readTable table ≡ accepted t → planOf t ≡ accepted S → Demand3 t (t .horizon) S choices
+Demand3Of table choices = (t : Read) (S : List Passage) → readTable table ≡ accepted t → acceptedScheduleOf t ≡ accepted S → Demand3 t (t .horizon) S choices

@@ -17,13 +17,13 @@ use Rattle.model.specs.Table.{Component, Table, Read}
 use Rattle.model.specs.Build.{location, clockGuard, update, pairOf, arc, component, network}
 use Rattle.model.specs.Bytes.{tableBytes}
 use Rattle.model.specs.Reader.{readTable}
-use Rattle.model.specs.Schedule.{Visit, sevenOf}
-use Rattle.model.specs.Checks.{plan, planOf}
+use Rattle.model.specs.Schedule.{Passage, sevenOf}
+use Rattle.model.specs.Checks.{acceptedSchedule, acceptedScheduleOf}
 use Rattle.model.specs.Program.{Statement, blockBytes, locationBlock, edgeBlock, programBytes, partOf}
 use Rattle.model.specs.Machine.{exec}
 use Rattle.model.specs.Network.{Label, tick, stepIn, together, stepOut, start, onward, follow}
 use Rattle.model.specs.Run.{choose1, run, observationBytes}
-use Rattle.model.specs.Calls.{verdictOf, planIn, checkCall, RunCall, runCall}
+use Rattle.model.specs.Calls.{verdictOf, acceptedScheduleIn, checkCall, RunCall, runCall}
 
 -- "Probe 0: L0 x0 ≤ 5, L1 x0 ≤ 10; e0 send L0 to L1, low 3; e1 internal L1 to L0, low 8, resets x0." By the low of e0.
 abbrev pub probe : ℕ → Component
@@ -90,7 +90,7 @@ pub data Row : Type 0 where
   -- table, choices and lent bytes: the verdict, all numbers, and every lent byte afterwards
   runs : List ℕ → List ℕ → List ℕ → RunCall → Row
 
-abbrev pub fieldsOf : Answer (List Visit) → List ℕ
+abbrev pub fieldsOf : Answer (List Passage) → List ℕ
 fieldsOf (accepted S) = each sevenOf S
 fieldsOf (refused n c) = []
 
@@ -159,8 +159,8 @@ abbrev pub Holds : Row → Type 0
 Holds (bytes t bs) = tableBytes t ≡ bs
 Holds (reads bs a) = readTable bs ≡ a
 Holds (checks bs v) = checkCall bs ≡ v
-Holds (plans t v) = verdictOf (planOf t) ≡ v
-Holds (passes t l) = fieldsOf (planOf t) ≡ l
+Holds (plans t v) = verdictOf (acceptedScheduleOf t) ≡ v
+Holds (passes t l) = fieldsOf (acceptedScheduleOf t) ≡ l
 Holds (writes b bs) = blockBytes b ≡ bs
 Holds (walks path t) = tickAfter (worked 20 .table) path ≡ t
 Holds (runs table choices bs answer) = runCall table choices bs ≡ answer
@@ -245,6 +245,6 @@ rows =
     ∷ []
 
 pub cases : All Holds rows
-unfolding tableBytes readTable checkCall planIn plan each blockBytes locationBlock edgeBlock follow runCall run programBytes observationBytes partOf choose1 exec
+unfolding tableBytes readTable checkCall acceptedScheduleIn acceptedSchedule each blockBytes locationBlock edgeBlock follow runCall run programBytes observationBytes partOf choose1 exec
 cases =
     more refl (more refl (more refl (more refl (more refl (more refl (more refl (more refl (more refl (more refl (more refl (more refl (more refl (more refl (more refl (more refl (more refl (more refl (more refl (more refl (more refl (more refl (more refl (more refl (more refl (more refl (more refl (more refl (more refl (more refl (more refl (more refl (more refl (more refl (more refl (more refl (more refl (more refl (more refl (more refl empty)))))))))))))))))))))))))))))))))))))))

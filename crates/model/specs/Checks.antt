@@ -9,97 +9,97 @@ use lib.ListN.{length, getD}
 use Rattle.model.specs.Lists.{any, only, first, isNone, _∈_, Answer, accepted, refused, _after_}
 use Rattle.model.specs.Table.{Table, Read}
 use Rattle.model.specs.Window.{channelOf, listens}
-use Rattle.model.specs.Schedule.{Visit, visitArc, names, others, schedule}
+use Rattle.model.specs.Schedule.{Passage, passageArc, names, others, schedule}
 
 -- ## Two windows
 
 -- "share a tick"
-abbrev pub shareTick : Visit → Visit → Bool
+abbrev pub shareTick : Passage → Passage → Bool
 shareTick v w = leb (v .ready) (w .end) && leb (w .ready) (v .end)
 
 -- "start earlier"
-abbrev pub startsEarlier : Visit → Visit → Bool
+abbrev pub startsEarlier : Passage → Passage → Bool
 startsEarlier v w = ltb (v .ready) (w .ready)
 
 -- "end later"
-abbrev pub endsLater : Visit → Visit → Bool
+abbrev pub endsLater : Passage → Passage → Bool
 endsLater v w = ltb (w .end) (v .end)
 
 -- which sends disturb each other: in a table of version 1 any two
-abbrev pub disturb : Table → Visit → Visit → Bool
+abbrev pub disturb : Table → Passage → Passage → Bool
 disturb T v w = true
 
 -- ## The three questions
 
 -- a send with ready < H
-abbrev pub isSend : Table → ℕ → Visit → Bool
-isSend T H v = not (isNone (channelOf (visitArc T v))) && ltb (v .ready) H
+abbrev pub isSend : Table → ℕ → Passage → Bool
+isSend T H v = not (isNone (channelOf (passageArc T v))) && ltb (v .ready) H
 
-abbrev pub isReceive : Table → Visit → Bool
-isReceive T v = listens (visitArc T v)
+abbrev pub isReceive : Table → Passage → Bool
+isReceive T v = listens (passageArc T v)
 
 -- 10. "Do no two send windows of different components share a tick?" This one does with o.
-abbrev pub meets : Table → ℕ → Visit → Visit → Bool
+abbrev pub meets : Table → ℕ → Passage → Passage → Bool
 meets T H s o = isSend T H o && others o s && disturb T s o && shareTick s o
 
-abbrev pub collides : Table → ℕ → List Visit → Visit → Bool
+abbrev pub collides : Table → ℕ → List Passage → Passage → Bool
 collides T H S s = isSend T H s && any (meets T H s) S
 
 -- r is a "receive window of another component, naming the channel, that shares a tick with the send window" s
-abbrev pub mayHear : Table → Visit → Visit → Bool
-mayHear T r s = isReceive T r && others r s && names (visitArc T r) (channelOf (visitArc T s)) && shareTick r s
+abbrev pub mayHear : Table → Passage → Passage → Bool
+mayHear T r s = isReceive T r && others r s && names (passageArc T r) (channelOf (passageArc T s)) && shareTick r s
 
 -- 11. "Is there exactly one ..", "and does it start earlier and end later?" In code: "For each send the components listening are noted as eight bits,
 -- and exactly one may be set, by one window."
-abbrev pub heardWell : Visit → List Visit → Bool
+abbrev pub heardWell : Passage → List Passage → Bool
 heardWell s [] = false
 heardWell s (r ∷ []) = startsEarlier r s && endsLater r s
 heardWell s (r ∷ q ∷ rs) = false
 
-abbrev pub unheard : Table → ℕ → List Visit → Visit → Bool
+abbrev pub unheard : Table → ℕ → List Passage → Passage → Bool
 unheard T H S s = isSend T H s && not (heardWell s (only (λ r. mayHear T r s) S))
 
 -- 12. "Does no receive window share a tick with two send windows of other components on its channels?"
-abbrev pub two : List Visit → Bool
+abbrev pub two : List Passage → Bool
 two [] = false
 two (s ∷ []) = false
 two (s ∷ t ∷ ss) = true
 
-abbrev pub crowded : Table → ℕ → List Visit → Visit → Bool
+abbrev pub crowded : Table → ℕ → List Passage → Passage → Bool
 crowded T H S r = isReceive T r && two (only (λ s. isSend T H s && mayHear T r s) S)
 
 -- "for 10 to 12 that of the first passage in schedule order at fault (a send for 10 and 11, the receive for 12)"
-abbrev pub faultOf : ℕ → Option Visit → Answer (List Visit) → Answer (List Visit)
+abbrev pub faultOf : ℕ → Option Passage → Answer (List Passage) → Answer (List Passage)
 faultOf n none further = further
 faultOf n (some v) further = refused n (v .component)
 
-unfoldable pub checked : Table → ℕ → List Visit → Answer (List Visit)
+unfoldable pub checked : Table → ℕ → List Passage → Answer (List Passage)
 checked T H S =
     faultOf 10 (first (collides T H S) S)
     (faultOf 11 (first (unheard T H S) S) (faultOf 12 (first (crowded T H S) S) (accepted S)))
 
 -- 7 to 12, for a table that was read: the schedule, or the refusal
-unfoldable pub plan : ℕ → Table → ℕ → Answer (List Visit)
+unfoldable pub acceptedSchedule : ℕ → Table → ℕ → Answer (List Passage)
 unfolding schedule checked
-plan limit T H = schedule limit T H after λ S. checked T H S
+acceptedSchedule limit T H = schedule limit T H after λ S. checked T H S
 
 -- 7. "Are fewer than 1,024 passages open or closed?"
 abbrev pub limit : ℕ
 limit = 1024
 
-abbrev pub planOf : Read → Answer (List Visit)
-planOf t = plan limit (t .table) (t .horizon)
+abbrev pub acceptedScheduleOf : Read → Answer (List Passage)
+acceptedScheduleOf t = acceptedSchedule limit (t .table) (t .horizon)
 
 -- ## Independence of a global scheduler, by ticks (the law `independent` says that 10 to 12 pass exactly if it holds)
 
 -- the tick lies in the passage's window, "ready to end, both included"
-pub record InWindow (t : ℕ) (v : Visit) : Type 0 where
+pub record InWindow (t : ℕ) (v : Passage) : Type 0 where
   pub from : v .ready ≤ t
   pub to : t ≤ v .end
 
 -- passage number i (past the end: nothing that is read)
-abbrev pub noVisit : Visit
-noVisit =
+abbrev pub noPassage : Passage
+noPassage =
     record {
       component = 0;
       edge = 0;
@@ -109,32 +109,32 @@ noVisit =
       message = none;
     }
 
-abbrev pub visitAt : List Visit → ℕ → Visit
-visitAt S i = getD S i noVisit
+abbrev pub passageAt : List Passage → ℕ → Passage
+passageAt S i = getD S i noPassage
 
 -- r is a receive window of another component that names s's channel, and the two windows have a tick in common
-pub record Hears (T : Table) (r s : Visit) : Type 0 where
+pub record Hears (T : Table) (r s : Passage) : Type 0 where
   pub receive : isReceive T r ≡ true
   pub other : others r s ≡ true
-  pub named : names (visitArc T r) (channelOf (visitArc T s)) ≡ true
+  pub named : names (passageArc T r) (channelOf (passageArc T s)) ≡ true
   pub tick : ℕ
   pub inReceive : InWindow tick r
   pub inSend : InWindow tick s
 
 -- "exactly one receive window of another component, naming the channel", and it starts earlier and ends later
-pub record Heard (T : Table) (S : List Visit) (s : Visit) : Type 0 where
+pub record Heard (T : Table) (S : List Passage) (s : Passage) : Type 0 where
   pub index : ℕ
   pub there : index < length S
-  pub hears : Hears T (visitAt S index) s
-  pub earlier : visitAt S index .ready < s .ready
-  pub later : s .end < visitAt S index .end
-  pub alone : (j : ℕ) → j < length S → Hears T (visitAt S j) s → j ≡ index
+  pub hears : Hears T (passageAt S index) s
+  pub earlier : passageAt S index .ready < s .ready
+  pub later : s .end < passageAt S index .end
+  pub alone : (j : ℕ) → j < length S → Hears T (passageAt S j) s → j ≡ index
 
-pub record Independent (T : Table) (H : ℕ) (S : List Visit) : Type 0 where
+pub record Independent (T : Table) (H : ℕ) (S : List Passage) : Type 0 where
   -- no tick lies in the send windows of two components that disturb each other
-  pub apart : (s o : Visit) → s ∈ S → o ∈ S → isSend T H s ≡ true → isSend T H o ≡ true → others o s ≡ true → disturb T s o ≡ true
+  pub apart : (s o : Passage) → s ∈ S → o ∈ S → isSend T H s ≡ true → isSend T H o ≡ true → others o s ≡ true → disturb T s o ≡ true
       → (t : ℕ) → InWindow t s → InWindow t o → ⊥
-  pub heard : (s : Visit) → s ∈ S → isSend T H s ≡ true → Heard T S s
+  pub heard : (s : Passage) → s ∈ S → isSend T H s ≡ true → Heard T S s
   -- no receive window shares a tick with two send windows of other components on its channels
-  pub single : (r : Visit) → r ∈ S → isReceive T r ≡ true → (i j : ℕ) → i < length S → j < length S → isSend T H (visitAt S i) ≡ true
-      → isSend T H (visitAt S j) ≡ true → Hears T r (visitAt S i) → Hears T r (visitAt S j) → i ≡ j
+  pub single : (r : Passage) → r ∈ S → isReceive T r ≡ true → (i j : ℕ) → i < length S → j < length S → isSend T H (passageAt S i) ≡ true
+      → isSend T H (passageAt S j) ≡ true → Hears T r (passageAt S i) → Hears T r (passageAt S j) → i ≡ j

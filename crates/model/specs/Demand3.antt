@@ -11,21 +11,21 @@ use lib.ListN.{length, getD, take}
 use Rattle.model.specs.Lists.{only, Answer, accepted}
 use Rattle.model.specs.Table.{Table, Read, size, componentOf}
 use Rattle.model.specs.Reader.{readTable}
-use Rattle.model.specs.Schedule.{Visit, own}
-use Rattle.model.specs.Checks.{planOf}
-use Rattle.model.specs.Network.{State, Label, Taken, Place, Work, one, two, Observation, start, follow, passagesOn, worksOn, observationsOn}
+use Rattle.model.specs.Schedule.{Passage, own}
+use Rattle.model.specs.Checks.{acceptedScheduleOf}
+use Rattle.model.specs.Network.{State, Label, Taken, PathPassage, Work, one, two, Observation, start, follow, passagesOn, worksOn, observationsOn}
 use Rattle.model.specs.Machine.{Node}
 use Rattle.model.specs.Run.{Setting, settingTo, Run, Result, Outcome, forbidden, on, over, Stand, sleeping, sending, listening, finishing, adding, working, taking, elsewhere, nowhere, standOf, nodeOf, windowEnd, listeners, run, startRun, choose1}
 
 -- ## "passes as the schedule says"
 
 -- "location, entry and, once stepped in, edge and message"; clocks and variables at entry too
-abbrev pub TakenAs : Option Taken → Visit → Type 0
+abbrev pub TakenAs : Option Taken → Passage → Type 0
 TakenAs none v = Unit {0}
 TakenAs (some w) v = (w .edge ≡ v .edge) × (w .message ≡ v .message)
 
 -- "each component's passages on it are its first in the schedule"
-abbrev pub PassAs : List Place → List Visit → Type 0
+abbrev pub PassAs : List PathPassage → List Passage → Type 0
 PassAs [] vs = Unit {0}
 PassAs (p ∷ ps) [] = ⊥
 PassAs (p ∷ ps) (v ∷ vs) = (p .entry ≡ v .entry) × TakenAs (p .waiting) v × PassAs ps vs
@@ -35,7 +35,7 @@ abbrev pub IsStepped : Option Taken → Type 0
 IsStepped none = ⊥
 IsStepped (some w) = Unit {0}
 
-abbrev pub SteppedBefore : ℕ → List Place → List Visit → Type 0
+abbrev pub SteppedBefore : ℕ → List PathPassage → List Passage → Type 0
 SteppedBefore t ps [] = Unit {0}
 SteppedBefore t [] (v ∷ vs) = (t ≤ v .end) × SteppedBefore t [] vs
 SteppedBefore t (p ∷ ps) (v ∷ vs) = (v .end < t → IsStepped (p .waiting)) × SteppedBefore t ps vs
@@ -65,19 +65,19 @@ ticksIn (b ∷ bs) = cond (eqb b 255) (suc (ticksIn bs)) (ticksIn bs)
 -- ## In the words of the schedule
 
 -- passage k of a component lies there, and its end (its ready) lies before now
-abbrev pub endBefore : List Visit → ℕ → ℕ → Bool
+abbrev pub endBefore : List Passage → ℕ → ℕ → Bool
 endBefore [] k now = false
 endBefore (v ∷ vs) zero now = ltb (v .end) now
 endBefore (v ∷ vs) (suc k) now = endBefore vs k now
 
-abbrev pub readyBefore : List Visit → ℕ → ℕ → Bool
+abbrev pub readyBefore : List Passage → ℕ → ℕ → Bool
 readyBefore [] k now = false
 readyBefore (v ∷ vs) zero now = ltb (v .ready) now
 readyBefore (v ∷ vs) (suc k) now = readyBefore vs k now
 
 -- "past its window's end with its work unfinished, or past its next sleep's tick before it gets there": the passage whose sleep was finished
 -- last has its end before now; the next passage has its ready before now
-abbrev pub lateIn : List Visit → ℕ → Node → Stand → Bool
+abbrev pub lateIn : List Passage → ℕ → Node → Stand → Bool
 lateIn vs now r sleeping = false
 lateIn vs now r (sending k) = endBefore vs (pred (r .sleeps)) now
 lateIn vs now r (listening qs) = endBefore vs (pred (r .sleeps)) now
@@ -88,22 +88,22 @@ lateIn vs now r taking = readyBefore vs (r .sleeps) now
 lateIn vs now r elsewhere = readyBefore vs (r .sleeps) now
 lateIn vs now r nowhere = readyBefore vs (r .sleeps) now
 
-abbrev pub isLate : List Visit → Run → ℕ → Bool
+abbrev pub isLate : List Passage → Run → ℕ → Bool
 isLate S s c = lateIn (own c S) (s .tick) (nodeOf s c) (standOf (nodeOf s c))
 
 -- passage k of the component is there with that ready (end)
-abbrev pub readyIs : List Visit → ℕ → ℕ → Type 0
+abbrev pub readyIs : List Passage → ℕ → ℕ → Type 0
 readyIs [] k t = ⊥
 readyIs (v ∷ vs) zero t = v .ready ≡ t
 readyIs (v ∷ vs) (suc k) t = readyIs vs k t
 
-abbrev pub endIs : List Visit → ℕ → ℕ → Type 0
+abbrev pub endIs : List Passage → ℕ → ℕ → Type 0
 endIs [] k t = ⊥
 endIs (v ∷ vs) zero t = v .end ≡ t
 endIs (v ∷ vs) (suc k) t = endIs vs k t
 
 -- a node stands at a sleep or a listen that is due at the tick
-abbrev pub DueIn : List Visit → ℕ → Node → Stand → Type 0
+abbrev pub DueIn : List Passage → ℕ → Node → Stand → Type 0
 DueIn vs t r sleeping = readyIs vs (r .sleeps) t
 DueIn vs t r (sending k) = ⊥
 DueIn vs t r (listening qs) = endIs vs (pred (r .sleeps)) t
@@ -115,7 +115,7 @@ DueIn vs t r elsewhere = ⊥
 DueIn vs t r nowhere = ⊥
 
 -- it stands at one that is not due, or at a take beyond its last passage; no other statement is ever refused
-abbrev pub NotDueIn : List Visit → ℕ → Node → Stand → Type 0
+abbrev pub NotDueIn : List Passage → ℕ → Node → Stand → Type 0
 NotDueIn vs t r sleeping = (readyIs vs (r .sleeps) t → ⊥)
 NotDueIn vs t r (sending k) = ⊥
 NotDueIn vs t r (listening qs) = (endIs vs (pred (r .sleeps)) t → ⊥)
@@ -127,7 +127,7 @@ NotDueIn vs t r elsewhere = ⊥
 NotDueIn vs t r nowhere = ⊥
 
 -- it stands at a sleep or a listen that is not due
-abbrev pub EarlyIn : List Visit → ℕ → Node → Stand → Type 0
+abbrev pub EarlyIn : List Passage → ℕ → Node → Stand → Type 0
 EarlyIn vs t r sleeping = (readyIs vs (r .sleeps) t → ⊥)
 EarlyIn vs t r (sending k) = ⊥
 EarlyIn vs t r (listening qs) = (endIs vs (pred (r .sleeps)) t → ⊥)
@@ -140,7 +140,7 @@ EarlyIn vs t r nowhere = ⊥
 
 -- Choices that are never carried out in state s: "any other byte; an absent node; .. sleep unless the tick is t; a listen unless its window ends
 -- now; .. a tick while a sleep or listen is due", in the words of the schedule.
-pub data Barred (T : Table) (S : List Visit) (s : Run) (b : ℕ) : Type 0 where
+pub data Barred (T : Table) (S : List Passage) (s : Run) (b : ℕ) : Type 0 where
   absent : size T ≤ b → (b ≡ 255 → ⊥) → Barred T S s b
   early : b < size T → EarlyIn (own b S) (s .tick) (nodeOf s b) (standOf (nodeOf s b)) → Barred T S s b
   pending : b ≡ 255 → (c : ℕ) → c < size T → DueIn (own c S) (s .tick) (nodeOf s c) (standOf (nodeOf s c)) → Barred T S s b
@@ -179,33 +179,33 @@ Valid T path last = follow T (start T) path ≡ some last
 abbrev pub Reach : State → Result → Type 0
 Reach last result = last .tick ≡ reached result
 
-abbrev pub Scheduled : Table → List Visit → List Label → Type 0
+abbrev pub Scheduled : Table → List Passage → List Label → Type 0
 Scheduled T S path = (c : ℕ) → c < size T → PassAs (passagesOn T c (start T) path) (own c S)
 
-abbrev pub Kept : Table → List Visit → List Label → State → Type 0
+abbrev pub Kept : Table → List Passage → List Label → State → Type 0
 Kept T S path last = (c : ℕ) → c < size T → SteppedBefore (last .tick) (passagesOn T c (start T) path) (own c S)
 
 -- the steps in on the path are the works finished, in their order, at the same ticks; a message is one joint step of the same two nodes
 abbrev pub Worked : Table → List Label → Result → Type 0
 Worked T path result = worksOn T (start T) path ≡ result .state .works
 
-abbrev pub Observed : Table → List Visit → List Label → State → Result → Type 0
+abbrev pub Observed : Table → List Passage → List Label → State → Result → Type 0
 Observed T S path last result =
     (c : ℕ) → c < size T
     → Begins (observationsOf c result)
     (observationsOn (componentOf T c) c (last .tick) (passagesOn T c (start T) path) (map (λ v. v .edge) (own c S)))
 
 -- passages of c due before the tick
-abbrev pub dueBefore : List Visit → ℕ → ℕ → ℕ
+abbrev pub dueBefore : List Passage → ℕ → ℕ → ℕ
 dueBefore S c now = length (only (λ v. ltb (v .ready) now) (own c S))
 
-abbrev pub Complete : Table → List Visit → Result → Type 0
+abbrev pub Complete : Table → List Passage → Result → Type 0
 Complete T S result =
     (c : ℕ) → c < size T
     → dueBefore S c (result .state .tick) ≤ length (observationsOf c result) + cond (isLateEnd result && isLate S (result .state) c) 1 0
 
 -- by the state after k choices carried out
-module _ (T : Table) (S : List Visit) (cs : List ℕ) (result : Result) (stateAfter : ℕ → Run) where
+module _ (T : Table) (S : List Passage) (cs : List ℕ) (result : Result) (stateAfter : ℕ → Run) where
   abbrev pub Listened : Type 0
   Listened = (k : ℕ) → k ≤ result .state .used → (c : ℕ) → c < size T → HasListener (stateAfter k) c (standOf (nodeOf (stateAfter k) c))
 
@@ -237,7 +237,7 @@ TicksOf cs result = result .state .tick ≡ ticksIn (take (result .state .used) 
 abbrev pub NotBefore : ℕ → Result → (ℕ → Run) → Type 0
 NotBefore H result stateAfter = (k : ℕ) → k < result .state .used → stateAfter k .tick < H
 
-module _ (t : Read) (H : ℕ) (S : List Visit) (cs : List ℕ) (result : Result) where
+module _ (t : Read) (H : ℕ) (S : List Passage) (cs : List ℕ) (result : Result) where
   -- how the run ended, and that it had not ended before
   pub data EndedBy : Type 0 where
     horizon : result .end ≡ 0 → result .state .tick ≡ H → ((c : ℕ) → c < size (t .table) → isLate S (result .state) c ≡ false) → EndedBy
@@ -258,7 +258,7 @@ module _ (t : Read) (H : ℕ) (S : List Visit) (cs : List ℕ) (result : Result)
 
 -- ## The demand
 
-module _ (t : Read) (H : ℕ) (S : List Visit) (cs : List ℕ) where
+module _ (t : Read) (H : ℕ) (S : List Passage) (cs : List ℕ) where
   abbrev pub setting : Setting
   setting = settingTo t H S
 
@@ -303,4 +303,4 @@ module _ (t : Read) (H : ℕ) (S : List Visit) (cs : List ℕ) where
 
 -- for every accepted table and every list of choices
 abbrev pub Promise : Type 0
-Promise = (bytes : List ℕ) (t : Read) (S : List Visit) → readTable bytes ≡ accepted t → planOf t ≡ accepted S → (cs : List ℕ) → Demand3 t (t .horizon) S cs
+Promise = (bytes : List ℕ) (t : Read) (S : List Passage) → readTable bytes ≡ accepted t → acceptedScheduleOf t ≡ accepted S → (cs : List ℕ) → Demand3 t (t .horizon) S cs

@@ -12,8 +12,8 @@ use lib.ListN.{getD, set}
 use Rattle.model.specs.Lists.{Answer, accepted}
 use Rattle.model.specs.Lists.{refused as refusedAnswer}
 use Rattle.model.specs.Table.{Table, Read}
-use Rattle.model.specs.Schedule.{Visit}
-use Rattle.model.specs.Checks.{plan, planOf}
+use Rattle.model.specs.Schedule.{Passage}
+use Rattle.model.specs.Checks.{acceptedSchedule, acceptedScheduleOf}
 use Rattle.model.specs.Program.{programBytes, partOf}
 use Rattle.model.specs.Network.{State, Label, tick, together, start, onward, follow, passagesOn, Work, worksOn, Observation, observationsOn}
 use Rattle.model.specs.Machine.{Node, exec}
@@ -49,7 +49,7 @@ pub data Sentence : Type 0 where
 pub record Told : Type 0 where
   pub read : Read
   pub horizon : ℕ
-  pub schedule : List Visit
+  pub schedule : List Passage
   pub choices : List ℕ
   pub path : List Label
   pub last : State
@@ -76,7 +76,7 @@ Says refused x = WhyRefused (x .read) (x .horizon) (x .schedule) (x .choices) (x
 Says allowed x = Allowed (x .read .table) (x .schedule) (x .choices) (x .result) (x .after)
 
 -- a path and the run's own record and states
-abbrev pub told : Read → ℕ → List Visit → List ℕ → List Label → State → Told
+abbrev pub told : Read → ℕ → List Passage → List ℕ → List Label → State → Told
 told t H S cs path last =
     record {
       read = t;
@@ -90,7 +90,7 @@ told t H S cs path last =
     }
 
 -- these sentences are the fields of the demand
-pub said : {t : Read} {H : ℕ} {S : List Visit} {cs : List ℕ} (d : Demand3 t H S cs) (f : Sentence) → Says f (told t H S cs (d .path) (d .last))
+pub said : {t : Read} {H : ℕ} {S : List Passage} {cs : List ℕ} (d : Demand3 t H S cs) (f : Sentence) → Says f (told t H S cs (d .path) (d .last))
 said d valid = d .valid
 said d reach = d .reach
 said d scheduled = d .scheduled
@@ -111,7 +111,7 @@ said d allowed = d .allowed
 
 -- ## Records to be told
 
-abbrev pub visitsOf : Answer (List Visit) → List Visit
+abbrev pub visitsOf : Answer (List Passage) → List Passage
 visitsOf (accepted S) = S
 visitsOf (refusedAnswer n c) = []
 
@@ -120,7 +120,7 @@ lastOf T path = onward (follow T (start T) path) (λ s. s) (start T)
 
 -- of a table, with its own schedule: the run under these choices, and this path
 abbrev pub ofRun : Read → List ℕ → List Label → Told
-ofRun t cs path = told t (t .horizon) (visitsOf (planOf t)) cs path (lastOf (t .table) path)
+ofRun t cs path = told t (t .horizon) (visitsOf (acceptedScheduleOf t)) cs path (lastOf (t .table) path)
 
 -- the same with another record, other states, another horizon
 abbrev pub recorded : Told → Result → Told
@@ -217,7 +217,7 @@ pub neither : (c : ℕ) {A : Type 0} → suc (suc c) < 2 → A
 neither c h = absurd (omega arith)
 
 pub rights-hold : Rights
-unfolding plan follow passagesOn worksOn observationsOn run programBytes partOf choose1 exec states ticksIn
+unfolding acceptedSchedule follow passagesOn worksOn observationsOn run programBytes partOf choose1 exec states ticksIn
 rights-hold = (
   refl,
   refl,

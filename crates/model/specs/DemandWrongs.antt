@@ -13,9 +13,9 @@ use Rattle.model.specs.Build.{location, clockGuard, arc, component, netw
 use Rattle.model.specs.Bytes.{unsigned}
 use Rattle.model.specs.Window.{Entry, clockAt, valueAt}
 use Rattle.model.specs.Schedule.{own}
-use Rattle.model.specs.Checks.{plan}
+use Rattle.model.specs.Checks.{acceptedSchedule}
 use Rattle.model.specs.Program.{programBytes, partOf}
-use Rattle.model.specs.Network.{Place, State, Label, tick, stepIn, together, stepOut, onward, follow, passagesOn, Work, one, two, channelNumber, worksOn, Observation, observationsOn}
+use Rattle.model.specs.Network.{PathPassage, State, Label, tick, stepIn, together, stepOut, onward, follow, passagesOn, Work, one, two, channelNumber, worksOn, Observation, observationsOn}
 use Rattle.model.specs.Machine.{exec}
 use Rattle.model.specs.Run.{noNode, nodeOf, standOf, sending, Outcome, forbidden, on, over, choose1, run}
 use Rattle.model.specs.Demand3.{PassAs, ticksIn, DueIn, HasListener, states, horizon, usedUp, late, notAllowed, notDue, due}
@@ -124,7 +124,7 @@ abbrev pub missesWindow : Told
 missesWindow = walked narrow (ticksOnly 6)
 
 -- a passage of the probe that began elsewhere
-abbrev pub elsewhere : Place
+abbrev pub elsewhere : PathPassage
 elsewhere = record { entry = record { location = 1; tick = 0; clocks = 0 ∷ []; values = [] }; waiting = none }
 
 -- ## What does not hold
@@ -246,7 +246,7 @@ too-many : (n : ℕ) → suc (suc n) ≡ 1 → ⊥
 too-many n e = absurd (omega arith)
 
 pub wrongs-refuted : Wrongs
-unfolding plan follow passagesOn worksOn observationsOn run programBytes partOf choose1 exec states ticksIn
+unfolding acceptedSchedule follow passagesOn worksOn observationsOn run programBytes partOf choose1 exec states ticksIn
 wrongs-refuted = (
   λ h. eqb-false 0 1 refl (ap (λ (o : Option State). onward o (λ s. 1) 0) h),
   λ h. eqb-false 2 3 refl h,

@@ -8,31 +8,31 @@ use Rattle.model.specs.declared.Verdict.{Verdict}
 use Rattle.model.specs.Lists.{only, first, Answer, accepted, refused, _after_, each}
 use Rattle.model.specs.Table.{Table, Read}
 use Rattle.model.specs.Reader.{readTable}
-use Rattle.model.specs.Schedule.{Visit, schedule, sevenOf}
+use Rattle.model.specs.Schedule.{Passage, schedule, sevenOf}
 use Rattle.model.specs.Checks.{limit, isSend, meets, collides, mayHear, unheard, crowded}
 use Rattle.model.specs.Calls.{Call, laid, checkCall}
 
 -- ## Over a schedule S
 
 -- 10: the send windows of other components that share a tick with the send s
-abbrev pub sendsMet : Table → ℕ → List Visit → Visit → List Visit
+abbrev pub sendsMet : Table → ℕ → List Passage → Passage → List Passage
 sendsMet T H S s = only (meets T H s) S
 
 -- 11: the receive windows of other components that name the channel of the send s and share a tick with it; there may be none
-abbrev pub listenersMet : Table → List Visit → Visit → List Visit
+abbrev pub listenersMet : Table → List Passage → Passage → List Passage
 listenersMet T S s = only (λ r. mayHear T r s) S
 
 -- 12: the send windows of other components on channels of the receive r that share a tick with it
-abbrev pub sendsHeard : Table → ℕ → List Visit → Visit → List Visit
+abbrev pub sendsHeard : Table → ℕ → List Passage → Passage → List Passage
 sendsHeard T H S r = only (λ s. isSend T H s && mayHear T r s) S
 
 -- one question: the passage at fault, then those that it meets; where none is at fault, what the next question finds
-abbrev pub withMet : (Visit → List Visit) → Option Visit → List Visit → List Visit
+abbrev pub withMet : (Passage → List Passage) → Option Passage → List Passage → List Passage
 withMet met none further = further
 withMet met (some v) further = v ∷ met v
 
 -- the three questions in the order of `checked`, each of "the first passage in schedule order at fault"; none if all three pass
-unfoldable pub concerned : Table → ℕ → List Visit → List Visit
+unfoldable pub concerned : Table → ℕ → List Passage → List Passage
 concerned T H S =
     withMet (sendsMet T H S) (first (collides T H S) S)
     (withMet (listenersMet T S) (first (unheard T H S) S) (withMet (sendsHeard T H S) (first (crowded T H S) S) []))
@@ -40,16 +40,16 @@ concerned T H S =
 -- ## Of a table's bytes
 
 -- the passages concerned of a table that was read; 7 to 9 refuse before there is a schedule
-abbrev pub concernedIn : Read → Answer (List Visit)
+abbrev pub concernedIn : Read → Answer (List Passage)
 concernedIn t = schedule limit (t .table) (t .horizon) after λ S. accepted (concerned (t .table) (t .horizon) S)
 
 -- none after a refusal
-abbrev pub listOr : Answer (List Visit) → List Visit
+abbrev pub listOr : Answer (List Passage) → List Passage
 listOr (accepted vs) = vs
 listOr (refused n c) = []
 
 -- for any bytes; none unless 10, 11 or 12 refuses the table
-unfoldable pub meetingsIn : List ℕ → List Visit
+unfoldable pub meetingsIn : List ℕ → List Passage
 unfolding readTable schedule concerned
 meetingsIn table = listOr (readTable table after concernedIn)
 

@@ -22,50 +22,50 @@ pub record Taken : Type 0 where
 
 -- One component: location, entry tick, clocks and variables at entry "and, if waiting, edge and message". Its clocks now are those at entry
 -- grown by the ticks since then ("all clocks growing by 1"); its variables change only as it steps out.
-pub record Place : Type 0 where
+pub record PathPassage : Type 0 where
   pub entry : Entry
   pub waiting : Option Taken
 
 -- "Its state is the tick, and each component's .."
 pub record State : Type 0 where
   pub tick : ℕ
-  pub places : List Place
+  pub present : List PathPassage
 
-abbrev pub noPlace : Place
-noPlace = record { entry = record { location = 0; tick = 0; clocks = []; values = [] }; waiting = none }
+abbrev pub noPathPassage : PathPassage
+noPathPassage = record { entry = record { location = 0; tick = 0; clocks = []; values = [] }; waiting = none }
 
-abbrev pub placeOf : State → ℕ → Place
-placeOf s c = getD (s .places) c noPlace
+abbrev pub passageIn : State → ℕ → PathPassage
+passageIn s c = getD (s .present) c noPathPassage
 
 -- "It starts at tick 0, each component at its initial location, none waiting." Clocks and variables start at 0.
-abbrev pub startPlace : Component → Place
-startPlace C =
+abbrev pub startPassage : Component → PathPassage
+startPassage C =
     record {
       entry = record { location = C .initial; tick = 0; clocks = replicate (C .clocks) 0; values = replicate (C .variables) (pos 0) };
       waiting = none;
     }
 
 abbrev pub start : Table → State
-start T = record { tick = 0; places = map startPlace (T .components) }
+start T = record { tick = 0; present = map startPassage (T .components) }
 
 -- ## Where a component stands in its stay
 
 -- the ticks since its entry
-abbrev pub stayed : ℕ → Place → ℕ
+abbrev pub stayed : ℕ → PathPassage → ℕ
 stayed now p = now - p .entry .tick
 
 -- the first delay after the end of an edge
-abbrev pub pastIn : Component → Place → ℕ → ℕ
+abbrev pub pastIn : Component → PathPassage → ℕ → ℕ
 pastIn C p e = pastOf (locationOf C (p .entry .location)) (arcOf C e .clockGuards) (p .entry .clocks)
 
 -- "from its ready to its end"; in the schedule's words: "Work may finish at any tick of the window"
-abbrev pub inWindow : Component → ℕ → Place → ℕ → Bool
+abbrev pub inWindow : Component → ℕ → PathPassage → ℕ → Bool
 inWindow C now p e = leb (readyOf (arcOf C e .clockGuards) (p .entry .clocks)) (stayed now p) && ltb (stayed now p) (pastIn C p e)
 
-abbrev pub beforeEnd : Component → ℕ → Place → ℕ → Bool
+abbrev pub beforeEnd : Component → ℕ → PathPassage → ℕ → Bool
 beforeEnd C now p e = ltb (suc (stayed now p)) (pastIn C p e)
 
-abbrev pub atEnd : Component → ℕ → Place → ℕ → Bool
+abbrev pub atEnd : Component → ℕ → PathPassage → ℕ → Bool
 atEnd C now p e = eqb (suc (stayed now p)) (pastIn C p e)
 
 -- ## Steps
@@ -79,18 +79,18 @@ pub data Label : Type 0 where
   stepOut : (component : ℕ) → Label
 
 -- "A tick passes, .. unless it breaks a non-waiting component's invariant or a waiting one is at its end."
-abbrev pub mayTick : Component → ℕ → Place → Option Taken → Bool
+abbrev pub mayTick : Component → ℕ → PathPassage → Option Taken → Bool
 mayTick C now p none =
     ltb (clockAt (p .entry .clocks) (locationOf C (p .entry .location) .clock) + stayed now p) (locationOf C (p .entry .location) .bound)
 mayTick C now p (some w) = beforeEnd C now p (w .edge)
 
-unfoldable pub allMayTick : ℕ → List Component → List Place → Bool
+unfoldable pub allMayTick : ℕ → List Component → List PathPassage → Bool
 allMayTick now [] ps = true
 allMayTick now (C ∷ Cs) [] = false
 allMayTick now (C ∷ Cs) (p ∷ ps) = mayTick C now p (p .waiting) && allMayTick now Cs ps
 
 -- "A component not waiting steps in on an edge from its location whose data bounds hold and updates stay in range, from its ready to its end"
-unfoldable pub mayStepIn : Component → ℕ → Place → ℕ → Bool
+unfoldable pub mayStepIn : Component → ℕ → PathPassage → ℕ → Bool
 unfolding updated
 mayStepIn C now p e =
     isNone (p .waiting) && ltb e (length (C .arcs)) && eqb (arcOf C e .edge .source) (p .entry .location)
@@ -98,11 +98,11 @@ mayStepIn C now p e =
     && not (isNone (updated (arcOf C e .updates) (p .entry .values)))
     && inWindow C now p e
 
-abbrev pub waits : Place → ℕ → Option ℕ → Place
+abbrev pub waits : PathPassage → ℕ → Option ℕ → PathPassage
 waits p e m = record { entry = p .entry; waiting = some (record { edge = e; message = m }) }
 
 -- "internal alone, .. a receive alone (timeout) only at its end"
-abbrev pub alone : Component → ℕ → Place → ℕ → Action → Bool
+abbrev pub alone : Component → ℕ → PathPassage → ℕ → Action → Bool
 alone C now p e Internal = true
 alone C now p e (Send k) = false
 alone C now p e Receive = atEnd C now p e
@@ -112,17 +112,17 @@ abbrev pub hearsOn : Arc → Option ℕ → Bool
 hearsOn a none = false
 hearsOn a (some k) = listens a && any (λ q. eqb (q .channel) k) (a .pairs)
 
-abbrev pub withPlace : State → ℕ → Place → State
-withPlace s c p = record { tick = s .tick; places = set (s .places) c p }
+abbrev pub withPassage : State → ℕ → PathPassage → State
+withPassage s c p = record { tick = s .tick; present = set (s .present) c p }
 
-abbrev pub entersAt : Entry → Place
+abbrev pub entersAt : Entry → PathPassage
 entersAt at = record { entry = at; waiting = none }
 
 -- "It steps out exactly at that end, with updates and resets."
-abbrev pub outOf : Component → State → ℕ → Place → Option Taken → Option State
+abbrev pub outOf : Component → State → ℕ → PathPassage → Option Taken → Option State
 outOf C s c p none = none
 outOf C s c p (some w) =
-    cond (atEnd C (s .tick) p (w .edge)) (some (withPlace s c (entersAt (leaves (arcOf C (w .edge)) (w .message) (s .tick) (p .entry))))) none
+    cond (atEnd C (s .tick) p (w .edge)) (some (withPassage s c (entersAt (leaves (arcOf C (w .edge)) (w .message) (s .tick) (p .entry))))) none
 
 abbrev pub present : Table → ℕ → Bool
 present T c = ltb c (size T)
@@ -130,23 +130,23 @@ present T c = ltb c (size T)
 -- the joint step of sender a on edge e with receiver b on edge f: two different components
 abbrev pub mayJoin : Table → State → ℕ → ℕ → ℕ → ℕ → Bool
 mayJoin T s a e b f =
-    present T a && present T b && not (eqb a b) && mayStepIn (componentOf T a) (s .tick) (placeOf s a) e
-    && mayStepIn (componentOf T b) (s .tick) (placeOf s b) f
+    present T a && present T b && not (eqb a b) && mayStepIn (componentOf T a) (s .tick) (passageIn s a) e
+    && mayStepIn (componentOf T b) (s .tick) (passageIn s b) f
     && hearsOn (arcOf (componentOf T b) f) (channelOf (arcOf (componentOf T a) e))
 
 unfoldable pub step : Table → State → Label → Option State
 unfolding allMayTick mayStepIn leaves
-step T s tick = cond (allMayTick (s .tick) (T .components) (s .places)) (some (record { tick = suc (s .tick); places = s .places })) none
+step T s tick = cond (allMayTick (s .tick) (T .components) (s .present)) (some (record { tick = suc (s .tick); present = s .present })) none
 step T s (stepIn c e) =
     cond
-    (present T c && mayStepIn (componentOf T c) (s .tick) (placeOf s c) e
-    && alone (componentOf T c) (s .tick) (placeOf s c) e (arcOf (componentOf T c) e .edge .action))
-    (some (withPlace s c (waits (placeOf s c) e none)))
+    (present T c && mayStepIn (componentOf T c) (s .tick) (passageIn s c) e
+    && alone (componentOf T c) (s .tick) (passageIn s c) e (arcOf (componentOf T c) e .edge .action))
+    (some (withPassage s c (waits (passageIn s c) e none)))
     none
 step T s (together a e b f) =
     let k = channelOf (arcOf (componentOf T a) e) in
-    cond (mayJoin T s a e b f) (some (withPlace (withPlace s a (waits (placeOf s a) e k)) b (waits (placeOf s b) f k))) none
-step T s (stepOut c) = cond (present T c) (outOf (componentOf T c) s c (placeOf s c) (placeOf s c .waiting)) none
+    cond (mayJoin T s a e b f) (some (withPassage (withPassage s a (waits (passageIn s a) e k)) b (waits (passageIn s b) f k))) none
+step T s (stepOut c) = cond (present T c) (outOf (componentOf T c) s c (passageIn s c) (passageIn s c .waiting)) none
 
 -- ## Paths: "A path is any list of these steps from the start."
 
@@ -160,16 +160,16 @@ follow T s [] = some s
 follow T s (l ∷ ls) = onward (step T s l) (λ t. follow T t ls) none
 
 -- what component c has left with this step: the passage that it steps out of
-abbrev pub leftBy : State → ℕ → Label → List Place
+abbrev pub leftBy : State → ℕ → Label → List PathPassage
 leftBy s c tick = []
 leftBy s c (stepIn a e) = []
 leftBy s c (together a e b f) = []
-leftBy s c (stepOut a) = cond (eqb a c) (placeOf s c ∷ []) []
+leftBy s c (stepOut a) = cond (eqb a c) (passageIn s c ∷ []) []
 
 -- "each component's passages on it": location, entry and, once stepped in, edge and message; those it stepped out of, then the present one
-unfoldable pub passagesOn : Table → ℕ → State → List Label → List Place
+unfoldable pub passagesOn : Table → ℕ → State → List Label → List PathPassage
 unfolding step
-passagesOn T c s [] = placeOf s c ∷ []
+passagesOn T c s [] = passageIn s c ∷ []
 passagesOn T c s (l ∷ ls) = leftBy s c l ++ onward (step T s l) (λ t. passagesOn T c t ls) []
 
 -- A work finished: a step in of one component, or the joint step of a sender and a receiver on a channel; with its tick.
@@ -215,7 +215,7 @@ takenOr (some w) e = w .edge
 
 -- The observations of component c's passages up to the tick `last`. "where the path stops before a component's step in, the schedule's edge
 -- counts as taken from its ready on": es are those edges, passage by passage; they serve only there.
-unfoldable pub observationsOn : Component → ℕ → ℕ → List Place → List ℕ → List Observation
+unfoldable pub observationsOn : Component → ℕ → ℕ → List PathPassage → List ℕ → List Observation
 observationsOn C c last [] es = []
 observationsOn C c last (p ∷ ps) [] = []
 observationsOn C c last (p ∷ ps) (e ∷ es) =

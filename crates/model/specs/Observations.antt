@@ -8,8 +8,8 @@ use Rattle.model.specs.Lists.{accepted}
 use Rattle.model.specs.Table.{Table, Read, componentOf}
 use Rattle.model.specs.Reader.{byte, word, complement, readTable}
 use Rattle.model.specs.Places.{listAt}
-use Rattle.model.specs.Schedule.{Visit}
-use Rattle.model.specs.Checks.{planOf}
+use Rattle.model.specs.Schedule.{Passage}
+use Rattle.model.specs.Checks.{acceptedScheduleOf}
 use Rattle.model.specs.Network.{Observation}
 use Rattle.model.specs.Run.{settingOf, run}
 use Rattle.model.specs.Calls.{RunCall, runCall}
@@ -39,6 +39,6 @@ readObservations T n bs = listAt (readObservation T) 32 n bs
 -- What the call `run` has written, read back, are the observations of the run: those of which demand 3 speaks.
 abbrev pub ObservationsRead : List ℕ → List ℕ → List ℕ → Type 0
 ObservationsRead table choices lent =
-    (t : Read) (S : List Visit) → readTable table ≡ accepted t → planOf t ≡ accepted S → runCall table choices lent .verdict ≡ Accepted
+    (t : Read) (S : List Passage) → readTable table ≡ accepted t → acceptedScheduleOf t ≡ accepted S → runCall table choices lent .verdict ≡ Accepted
     → readObservations (t .table) (runCall table choices lent .size) (runCall table choices lent .lent)
     ≡ run (settingOf t S) choices .state .observations

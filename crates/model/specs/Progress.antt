@@ -11,9 +11,9 @@ use Rattle.model.specs.Lists.{only, Bytes, accepted}
 use Rattle.model.specs.Table.{Table, Read, size, componentOf}
 use Rattle.model.specs.Reader.{readTable}
 use Rattle.model.specs.Window.{channelOf}
-use Rattle.model.specs.Schedule.{Visit, visitArc, own}
-use Rattle.model.specs.Checks.{mayHear, planOf, visitAt}
-use Rattle.model.specs.Network.{State, Label, together, placeOf, start, mayJoin, follow, passagesOn, Observation, observation}
+use Rattle.model.specs.Schedule.{Passage, passageArc, own}
+use Rattle.model.specs.Checks.{mayHear, acceptedScheduleOf, passageAt}
+use Rattle.model.specs.Network.{State, Label, together, passageIn, start, mayJoin, follow, passagesOn, Observation, observation}
 use Rattle.model.specs.Run.{settingTo, settingOf, run}
 use Rattle.model.specs.Calls.{ran, runCall}
 use Rattle.model.specs.Demand3.{PassAs, SteppedBefore, observationsOf}
@@ -21,16 +21,16 @@ use Rattle.model.specs.Demand3.{PassAs, SteppedBefore, observationsOf}
 -- ## Something happens
 
 -- the passages of component c that are ready before the tick, in order
-abbrev pub readyPassages : List Visit → ℕ → ℕ → List Visit
+abbrev pub readyPassages : List Passage → ℕ → ℕ → List Passage
 readyPassages S c now = only (λ v. ltb (v .ready) now) (own c S)
 
 -- what component c shows in all passages that are ready before the tick, in order
-abbrev pub dueOf : Read → List Visit → ℕ → ℕ → List Observation
+abbrev pub dueOf : Read → List Passage → ℕ → ℕ → List Observation
 dueOf t S c now = map (λ v. observation (componentOf (t .table) c) c (v .entry) (v .edge)) (readyPassages S c now)
 
 -- These choices end with the horizon, at the tick H, and the observations of each node are those of all its passages with ready < H. Each
 -- choice is a byte, and each is carried out.
-pub record ReachesBy (t : Read) (H : ℕ) (S : List Visit) (choices : List ℕ) : Type 0 where
+pub record ReachesBy (t : Read) (H : ℕ) (S : List Passage) (choices : List ℕ) : Type 0 where
   pub end : run (settingTo t H S) choices .end ≡ 0
   pub tick : run (settingTo t H S) choices .state .tick ≡ H
   pub shown : (c : ℕ) → c < size (t .table) → observationsOf c (run (settingTo t H S) choices) ≡ dueOf t S c H
@@ -38,64 +38,64 @@ pub record ReachesBy (t : Read) (H : ℕ) (S : List Visit) (choices : List ℕ) 
   pub used : run (settingTo t H S) choices .state .used ≡ length choices
 
 -- some choices do
-abbrev pub Reaches : Read → ℕ → List Visit → Type 0
+abbrev pub Reaches : Read → ℕ → List Passage → Type 0
 Reaches t H S = (choices : List ℕ) × ReachesBy t H S choices
 
 -- Whatever was chosen: where the choices are used up and the run has not ended otherwise, some further choices do. No run gets stuck.
-abbrev pub Continues : Read → ℕ → List Visit → Type 0
+abbrev pub Continues : Read → ℕ → List Passage → Type 0
 Continues t H S = (choices : List ℕ) → run (settingTo t H S) choices .end ≡ 1 → (more : List ℕ) × ReachesBy t H S (choices ++ more)
 
 -- Whatever was chosen: of no list, however long, are more than `most` choices carried out.
-abbrev pub UsesAtMost : ℕ → Read → ℕ → List Visit → Type 0
+abbrev pub UsesAtMost : ℕ → Read → ℕ → List Passage → Type 0
 UsesAtMost most t H S = (choices : List ℕ) → run (settingTo t H S) choices .state .used ≤ most
 
 -- For every accepted table. 14. "Are there at most 1,000,000 choices?" No run carries out more, and the choices that reach the horizon are all
 -- carried out: so there are no more of them, those that were given and the further ones together.
 abbrev pub Happens : Type 0
 Happens =
-    (bytes : List ℕ) (t : Read) (S : List Visit) → readTable bytes ≡ accepted t → planOf t ≡ accepted S
+    (bytes : List ℕ) (t : Read) (S : List Passage) → readTable bytes ≡ accepted t → acceptedScheduleOf t ≡ accepted S
     → Reaches t (t .horizon) S × Continues t (t .horizon) S × UsesAtMost 1000000 t (t .horizon) S
 
 -- So the call `run` refuses none of these lists, where the lent buffer holds 32 bytes for each passage (13): it answers with their run.
 abbrev pub Answers : Type 0
 Answers =
-    (bytes : List ℕ) (t : Read) (S : List Visit) → readTable bytes ≡ accepted t → planOf t ≡ accepted S
+    (bytes : List ℕ) (t : Read) (S : List Passage) → readTable bytes ≡ accepted t → acceptedScheduleOf t ≡ accepted S
     → (choices : List ℕ) → ReachesBy t (t .horizon) S choices
     → (lent : List ℕ) → length S * 32 ≤ length lent → runCall bytes choices lent ≡ ran (run (settingOf t S) choices) lent
 
 -- ## Acceptance means it
 
 -- the schedule's passage that component c is in at the end of the path: the one beside its last passage on it
-abbrev pub presentOf : Table → List Visit → List Label → ℕ → Visit
-presentOf T S path c = visitAt (own c S) (pred (length (passagesOn T c (start T) path)))
+abbrev pub presentOf : Table → List Passage → List Label → ℕ → Passage
+presentOf T S path c = passageAt (own c S) (pred (length (passagesOn T c (start T) path)))
 
 -- a path of the network, to the state s, that passes as the schedule says and misses no window
-pub record OnSchedule (T : Table) (S : List Visit) (path : List Label) (s : State) : Type 0 where
+pub record OnSchedule (T : Table) (S : List Passage) (path : List Label) (s : State) : Type 0 where
   pub valid : follow T (start T) path ≡ some s
   pub scheduled : (c : ℕ) → c < size T → PassAs (passagesOn T c (start T) path) (own c S)
   pub kept : (c : ℕ) → c < size T → SteppedBefore (s .tick) (passagesOn T c (start T) path) (own c S)
 
 -- component a is in its send window below the horizon, and has yet to step in (that the window's end has not passed follows)
-pub record Sending (T : Table) (H : ℕ) (S : List Visit) (path : List Label) (s : State) (a : ℕ) : Type 0 where
+pub record Sending (T : Table) (H : ℕ) (S : List Passage) (path : List Label) (s : State) (a : ℕ) : Type 0 where
   pub there : a < size T
-  pub free : placeOf s a .waiting ≡ none
+  pub free : passageIn s a .waiting ≡ none
   pub channel : ℕ
-  pub sends : channelOf (visitArc T (presentOf T S path a)) ≡ some channel
+  pub sends : channelOf (passageArc T (presentOf T S path a)) ≡ some channel
   pub ready : presentOf T S path a .ready ≤ s .tick
   pub below : s .tick < H
 
 -- The joint step of a and b on the edges that the schedule takes. What follows is about these edges alone: the network is the table's, and where
 -- a location has several edges it may also allow one that the schedule does not take (a second receive that names the channel, say), but
 -- no node ever takes that one, and a path that does no longer passes as the schedule says.
-abbrev pub meet : Table → List Visit → List Label → ℕ → ℕ → Label
+abbrev pub meet : Table → List Passage → List Label → ℕ → ℕ → Label
 meet T S path a b = together a (presentOf T S path a .edge) b (presentOf T S path b .edge)
 
 -- it is allowed
-abbrev pub mayMeet : Table → List Visit → List Label → State → ℕ → ℕ → Bool
+abbrev pub mayMeet : Table → List Passage → List Label → State → ℕ → ℕ → Bool
 mayMeet T S path s a b = mayJoin T s a (presentOf T S path a .edge) b (presentOf T S path b .edge)
 
 -- exactly one partner with which the joint step is allowed: the component whose receive window 11 found
-pub record OnePartner (T : Table) (S : List Visit) (path : List Label) (s : State) (a : ℕ) : Type 0 where
+pub record OnePartner (T : Table) (S : List Passage) (path : List Label) (s : State) (a : ℕ) : Type 0 where
   pub partner : ℕ
   pub allowed : mayMeet T S path s a partner ≡ true
   pub hears : mayHear T (presentOf T S path partner) (presentOf T S path a) ≡ true
@@ -108,5 +108,5 @@ pub record OnePartner (T : Table) (S : List Visit) (path : List Label) (s : Stat
 -- for every accepted table and every such path
 abbrev pub Means : Type 0
 Means =
-    (bytes : List ℕ) (t : Read) (S : List Visit) → readTable bytes ≡ accepted t → planOf t ≡ accepted S
+    (bytes : List ℕ) (t : Read) (S : List Passage) → readTable bytes ≡ accepted t → acceptedScheduleOf t ≡ accepted S
     → (path : List Label) (s : State) → OnSchedule (t .table) S path s → (a : ℕ) → Sending (t .table) (t .horizon) S path s a → OnePartner (t .table) S path s a

@@ -11,7 +11,7 @@ use Rattle.model.specs.Lists.{any, only, below, snoc, isNone, each, be16
 use Rattle.model.specs.Table.{Component, Table, Read}
 use Rattle.model.specs.Bytes.{unsigned}
 use Rattle.model.specs.Window.{valueAt, inRange, paired}
-use Rattle.model.specs.Schedule.{Visit, own}
+use Rattle.model.specs.Schedule.{Passage, own}
 use Rattle.model.specs.Program.{Statement, sleep, setTo, addTo, done, send, listen, age, reset, enter, trial, low, high, dataLow, dataHigh, keep, takeEdge, choose, programBytes}
 use Rattle.model.specs.Network.{Work, one, two, Observation}
 use Rattle.model.specs.Machine.{Node, noTrial, startNode, partBytes, exec, finish, withPlace}
@@ -29,13 +29,13 @@ pub record Setting : Type 0 where
   pub ready : ℕ → ℕ → Option ℕ
 
 -- the ready of passage k of these
-abbrev pub readyOfNth : List Visit → ℕ → Option ℕ
+abbrev pub readyOfNth : List Passage → ℕ → Option ℕ
 readyOfNth [] k = none
 readyOfNth (v ∷ vs) zero = some (v .ready)
 readyOfNth (v ∷ vs) (suc k) = readyOfNth vs k
 
 -- "A run is handed a table": its program, counts, and its schedule to a horizon
-abbrev pub settingTo : Read → ℕ → List Visit → Setting
+abbrev pub settingTo : Read → ℕ → List Passage → Setting
 settingTo t H S =
     record {
       program = programBytes t;
@@ -45,7 +45,7 @@ settingTo t H S =
     }
 
 -- to the table's own horizon
-abbrev pub settingOf : Read → List Visit → Setting
+abbrev pub settingOf : Read → List Passage → Setting
 settingOf t S = settingTo t (t .horizon) S
 
 -- The run's state. Beside the observations stands the log of finished works, which the code does not keep.

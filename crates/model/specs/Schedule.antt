@@ -12,7 +12,7 @@ use Rattle.model.specs.Window.{Entry, Pick, choice, updated, channelOf, 
 
 -- A passage: one stay in a location, with the window of the edge taken. Ready and end are ticks. Clocks and variables at entry are
 -- kept with it; the seven fields are a projection (`sevenOf` below).
-pub record Visit : Type 0 where
+pub record Passage : Type 0 where
   pub component : ℕ
   pub edge : ℕ
   pub entry : Entry
@@ -20,11 +20,11 @@ pub record Visit : Type 0 where
   pub end : ℕ
   pub message : Option ℕ
 
-abbrev pub visitArc : Table → Visit → Arc
-visitArc T v = arcOf (componentOf T (v .component)) (v .edge)
+abbrev pub passageArc : Table → Passage → Arc
+passageArc T v = arcOf (componentOf T (v .component)) (v .edge)
 
 -- the passages of component c
-abbrev pub own : ℕ → List Visit → List Visit
+abbrev pub own : ℕ → List Passage → List Passage
 own c vs = only (λ v. eqb (v .component) c) vs
 
 -- ## Messages
@@ -35,36 +35,36 @@ names a none = false
 names a (some k) = any (λ q. eqb (q .channel) k) (a .pairs)
 
 -- passages of different components
-abbrev pub others : Visit → Visit → Bool
+abbrev pub others : Passage → Passage → Bool
 others v w = not (eqb (v .component) (w .component))
 
 -- "a send window of another component on a listed channel, starting after its ready and before H, and ending before its end"
-abbrev pub heardBy : Table → ℕ → Visit → Visit → Bool
+abbrev pub heardBy : Table → ℕ → Passage → Passage → Bool
 heardBy T H v s =
-    names (visitArc T v) (channelOf (visitArc T s)) && others v s
+    names (passageArc T v) (channelOf (passageArc T s)) && others v s
     && (ltb (v .ready) (s .ready) && ltb (s .ready) H && ltb (s .end) (v .end))
 
 -- "the one ending first, ties to the lowest component"
-abbrev pub endsSooner : Visit → Visit → Bool
+abbrev pub endsSooner : Passage → Passage → Bool
 endsSooner s b = ltb (s .end) (b .end) || (eqb (s .end) (b .end) && ltb (s .component) (b .component))
 
-abbrev pub sooner : Option Visit → Visit → Option Visit
+abbrev pub sooner : Option Passage → Passage → Option Passage
 sooner none s = some s
 sooner (some b) s = cond (endsSooner s b) (some s) (some b)
 
-abbrev pub earliest : (Visit → Bool) → List Visit → Option Visit → Option Visit
+abbrev pub earliest : (Passage → Bool) → List Passage → Option Passage → Option Passage
 earliest p [] b = b
 earliest p (s ∷ ss) b = earliest p ss (cond (p s) (sooner b s) b)
 
-abbrev pub carried : Table → Option Visit → Option ℕ
+abbrev pub carried : Table → Option Passage → Option ℕ
 carried T none = none
-carried T (some s) = channelOf (visitArc T s)
+carried T (some s) = channelOf (passageArc T s)
 
 -- "A receive passage's message is the channel of .. ; else none." "A send's message is its channel."
-unfoldable pub messageIn : Table → ℕ → List Visit → Visit → Option ℕ
-messageIn T H vs v = cond (listens (visitArc T v)) (carried T (earliest (heardBy T H v) vs none)) (channelOf (visitArc T v))
+unfoldable pub messageIn : Table → ℕ → List Passage → Passage → Option ℕ
+messageIn T H vs v = cond (listens (passageArc T v)) (carried T (earliest (heardBy T H v) vs none)) (channelOf (passageArc T v))
 
-abbrev pub withMessage : Visit → Option ℕ → Visit
+abbrev pub withMessage : Passage → Option ℕ → Passage
 withMessage v m =
     record { component = v .component; edge = v .edge; entry = v .entry; ready = v .ready; end = v .end; message = m }
 
@@ -74,54 +74,54 @@ withMessage v m =
 abbrev pub startEntry : Component → Entry
 startEntry C = record { location = C .initial; tick = 0; clocks = replicate (C .clocks) 0; values = replicate (C .variables) (pos 0) }
 
-abbrev pub visitOf : ℕ → Entry → Pick → Option ℕ → Visit
-visitOf c at p m =
+abbrev pub passageOf : ℕ → Entry → Pick → Option ℕ → Passage
+passageOf c at p m =
     record { component = c; edge = p .edge; entry = at; ready = at .tick + p .ready; end = at .tick + p .end; message = m }
 
 -- 9. "Does each update of the taken edge stay in range?"
-abbrev pub ranged : ℕ → Option (List ℤ) → Visit → Answer Visit
+abbrev pub ranged : ℕ → Option (List ℤ) → Passage → Answer Passage
 ranged c none v = refused 9 c
 ranged c (some vs) v = accepted v
 
 -- "Then at each opening:" 8. "Is there a candidate? Else 8."
-abbrev pub picked : ℕ → Component → Entry → Option Pick → Answer Visit
+abbrev pub picked : ℕ → Component → Entry → Option Pick → Answer Passage
 picked c C at none = refused 8 c
-picked c C at (some p) = ranged c (updated (arcOf C (p .edge) .updates) (at .values)) (visitOf c at p (channelOf (arcOf C (p .edge))))
+picked c C at (some p) = ranged c (updated (arcOf C (p .edge) .updates) (at .values)) (passageOf c at p (channelOf (arcOf C (p .edge))))
 
-unfoldable pub opening : ℕ → Component → Entry → Answer Visit
+unfoldable pub opening : ℕ → Component → Entry → Answer Passage
 unfolding choice updated
 opening c C at = picked c C at (choice C at)
 
 -- the passages opened so far, in the order of opening; and the open one of each component
-pub record Plan : Type 0 where
-  pub listed : List Visit
-  pub current : List Visit
+pub record OpenedSoFar : Type 0 where
+  pub listed : List Passage
+  pub current : List Passage
 
 -- "Components 0 upward open at tick 0." 7: the room is how many passages may still be opened.
-unfoldable pub begin : ℕ → ℕ → List Component → List Visit → Answer (List Visit)
+unfoldable pub begin : ℕ → ℕ → List Component → List Passage → Answer (List Passage)
 unfolding opening
 begin room c [] vs = accepted vs
 begin zero c (C ∷ Cs) vs = refused 7 c
 begin (suc room) c (C ∷ Cs) vs = opening c C (startEntry C) after λ v. begin room (suc c) Cs (snoc vs v)
 
 -- the open passage that closes next: the least end, "ties: lowest component"
-abbrev pub next : List Visit → Option Visit
+abbrev pub next : List Passage → Option Passage
 next vs = earliest (λ v. true) vs none
 
 -- what the closing passage leads to; its message is sought among the passages opened so far (the law `same-message`: no later one changes it)
-abbrev pub closing : Table → ℕ → List Visit → Visit → Entry
-closing T H vs v = leaves (visitArc T v) (messageIn T H vs v) (v .end) (v .entry)
+abbrev pub closing : Table → ℕ → List Passage → Passage → Entry
+closing T H vs v = leaves (passageArc T v) (messageIn T H vs v) (v .end) (v .entry)
 
-abbrev pub opened : Plan → Visit → Plan
+abbrev pub opened : OpenedSoFar → Passage → OpenedSoFar
 opened p v = record { listed = snoc (p .listed) v; current = set (p .current) (v .component) v }
 
 -- "while the least end of an open passage is below H, that passage closes"
-abbrev pub whileBelow : ℕ → (Visit → Answer (List Visit)) → List Visit → Option Visit → Answer (List Visit)
+abbrev pub whileBelow : ℕ → (Passage → Answer (List Passage)) → List Passage → Option Passage → Answer (List Passage)
 whileBelow H on vs none = accepted vs
 whileBelow H on vs (some v) = let more = on v in cond (ltb (v .end) H) more (accepted vs)
 
 -- ".. and its component's next opens." 7: "Are fewer than 1,024 passages open or closed?"
-unfoldable pub goOn : Table → ℕ → ℕ → Plan → Answer (List Visit)
+unfoldable pub goOn : Table → ℕ → ℕ → OpenedSoFar → Answer (List Passage)
 unfolding opening messageIn leaves
 goOn T H zero p = whileBelow H (λ v. refused 7 (v .component)) (p .listed) (next (p .current))
 goOn T H (suc room) p =
@@ -131,23 +131,23 @@ goOn T H (suc room) p =
     (next (p .current))
 
 -- "It is sought in the finished schedule, for passages still open too."
-unfoldable pub finished : Table → ℕ → List Visit → List Visit
+unfoldable pub finished : Table → ℕ → List Passage → List Passage
 unfolding messageIn
 finished T H vs = map (λ v. withMessage v (messageIn T H vs v)) vs
 
 -- The schedule up to a horizon, of at most so many passages. Both are parameters; document 01's limit is 1,024.
-unfoldable pub schedule : ℕ → Table → ℕ → Answer (List Visit)
+unfoldable pub schedule : ℕ → Table → ℕ → Answer (List Passage)
 unfolding begin goOn finished
 schedule limit T H = begin limit 0 (T .components) [] after λ vs.
     goOn T H (limit - size T) (record { listed = vs; current = vs }) after λ ws. accepted (finished T H ws)
 
 -- "each with seven fields: component, edge, location, entry, ready, end, message": as numbers, 255 for no message
-abbrev pub sevenOf : Visit → List ℕ
+abbrev pub sevenOf : Passage → List ℕ
 sevenOf v =
     v .component ∷ v .edge ∷ v .entry .location ∷ v .entry .tick ∷ v .ready ∷ v .end ∷ orElse (v .message) 255 ∷ []
 
 -- what the seven fields tell of a passage: all but the clocks and variables at entry
-abbrev pub light : Visit → Visit
+abbrev pub light : Passage → Passage
 light v =
     record {
       component = v .component;
@@ -159,5 +159,5 @@ light v =
     }
 
 -- the same without its message
-abbrev pub bare : Visit → Visit
+abbrev pub bare : Passage → Passage
 bare v = withMessage (light v) none

@@ -14,9 +14,9 @@ use Rattle.model.specs.Table.{Arc, Component, Read, noArc, noComponent, size, s
 use Rattle.model.specs.Limits.{ActionIn, ArcIn, ComponentIn, InLimits}
 use Rattle.model.specs.Reader.{readTable}
 use Rattle.model.specs.Window.{sends, channelOf, listens}
-use Rattle.model.specs.Schedule.{Visit, visitArc, earliest, heardBy, carried, messageIn}
-use Rattle.model.specs.Checks.{limit, planOf}
-use Rattle.model.specs.Calls.{planIn}
+use Rattle.model.specs.Schedule.{Passage, passageArc, earliest, heardBy, carried, messageIn}
+use Rattle.model.specs.Checks.{limit, acceptedScheduleOf}
+use Rattle.model.specs.Calls.{acceptedScheduleIn}
 use Rattle.model.specs.Chains.{IsSchedule}
 use Rattle.model.proofs.Parts.{after-ok}
 use Rattle.model.proofs.Own.{in-all, all-in}
@@ -61,29 +61,29 @@ components-send few (more {x = C} h a) =
 -- ## A schedule's passages
 
 -- the four fields of one byte
-pub record SmallVisit (v : Visit) : Type 0 where
+pub record SmallPassage (v : Passage) : Type 0 where
   pub component : v .component < 256
   pub edge : v .edge < 256
   pub location : v .entry .location < 256
   pub message : orElse (v .message) 255 < 256
 
-module _ (t : Read) (S : List Visit) (G : Given t (t .horizon) S) where
-  arc-sends : (v : Visit) → Sends (visitArc (t .table) v)
+module _ (t : Read) (S : List Passage) (G : Given t (t .horizon) S) where
+  arc-sends : (v : Passage) → Sends (passageArc (t .table) v)
   arc-sends v =
       any-at AllSend noComponent (λ e. omega arith) (components-send (G .limits .channels) (G .limits .components)) (v .component) (v .edge)
 
-  message-small : (H : ℕ) (v : Visit) → orElse (messageIn (t .table) H S v) 255 < 256
+  message-small : (H : ℕ) (v : Passage) → orElse (messageIn (t .table) H S v) 255 < 256
   unfolding messageIn
-  message-small H v = go (listens (visitArc (t .table) v)) (earliest (heardBy (t .table) H v) S none)
+  message-small H v = go (listens (passageArc (t .table) v)) (earliest (heardBy (t .table) H v) S none)
     where
-      go : (b : Bool) (o : Option Visit) → orElse (cond b (carried (t .table) o) (channelOf (visitArc (t .table) v))) 255 < 256
+      go : (b : Bool) (o : Option Passage) → orElse (cond b (carried (t .table) o) (channelOf (passageArc (t .table) v))) 255 < 256
       go true none = omega arith
       go true (some s) = arc-sends s
       go false o = arc-sends v
 
-  small-visit : (v : Visit) → v .component < size (t .table) → Entered (t .horizon) (v .component) (componentOf (t .table) (v .component)) v
-      → v .message ≡ messageIn (t .table) (t .horizon) S v → SmallVisit v
-  small-visit v h k m =
+  small-passage : (v : Passage) → v .component < size (t .table) → Entered (t .horizon) (v .component) (componentOf (t .table) (v .component)) v
+      → v .message ≡ messageIn (t .table) (t .horizon) S v → SmallPassage v
+  small-passage v h k m =
       let C = component-in G (v .component) h in
       let o = k .opened in
       record {
@@ -93,20 +93,20 @@ module _ (t : Read) (S : List Visit) (G : Given t (t .horizon) S) where
         message = subst (λ (x : Option ℕ). orElse x 255 < 256) (sym m) (message-small (t .horizon) v);
       }
 
-  small-visits : All SmallVisit S
-  small-visits = in-all S (λ v i. small-visit v (all-in (G .sched .present) i) (all-in (entered (G .sched)) i) (all-in (G .sched .messages) i))
+  small-passages : All SmallPassage S
+  small-passages = in-all S (λ v i. small-passage v (all-in (G .sched .present) i) (all-in (entered (G .sched)) i) (all-in (G .sched .messages) i))
 
 -- an accepted table's schedule
-module _ (bs : List ℕ) (b : Bytes bs) (S : List Visit) (e : planIn bs ≡ accepted S) where
-  its-read : (t : Read) × (readTable bs ≡ accepted t) × (planOf t ≡ accepted S)
-  unfolding planIn
-  its-read = after-ok (readTable bs) planOf e
+module _ (bs : List ℕ) (b : Bytes bs) (S : List Passage) (e : acceptedScheduleIn bs ≡ accepted S) where
+  its-read : (t : Read) × (readTable bs ≡ accepted t) × (acceptedScheduleOf t ≡ accepted S)
+  unfolding acceptedScheduleIn
+  its-read = after-ok (readTable bs) acceptedScheduleOf e
 
   its-given : Given (its-read .0) (its-read .0 .horizon) S
   its-given = given (its-read .0) S (written-read bs (its-read .0) b (its-read .1) .0) (its-read .2)
 
-  pub all-small : All SmallVisit S
-  all-small = small-visits (its-read .0) S its-given
+  pub all-small : All SmallPassage S
+  all-small = small-passages (its-read .0) S its-given
 
   pub few-passages : length S ≤ 1024
   few-passages = schedule-at (its-read .0 .table) (its-read .0 .horizon) limit S (its-read .2) .0 .few

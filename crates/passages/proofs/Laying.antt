@@ -9,8 +9,8 @@ use lib.Dec.{eqb}
 use lib.ListN.{length, getD, set, take, drop, length-map}
 use lib.Seq.{getD-set-same, getD-set-other, getD-append-add, take-length}
 use Rattle.model.specs.Lists.{each}
-use Rattle.model.specs.Schedule.{Visit, sevenOf}
-use Rattle.model.specs.Checks.{visitAt}
+use Rattle.model.specs.Schedule.{sevenOf}
+use Rattle.model.specs.Checks.{passageAt}
 use Rattle.passages.specs.declared.Passage.{Passage}
 use Rattle.passages.specs.Passages.{passageOf}
 use Rattle.passages.specs.Copied.{blank, copied, copied-is}
@@ -41,7 +41,7 @@ copied-alike l xs ys zero h = refl
 copied-alike l xs ys (suc n) h = ap₂ (λ (us : List Passage) (x : Passage). set us n x) (copied-alike l xs ys n (λ j k. h j (omega arith))) (h n (omega arith))
 
 -- passage i of a schedule's
-pub nth-passage : (S : List Visit) (i : ℕ) → i < length S → getD (map passageOf S) i blank ≡ passageOf (visitAt S i)
+pub nth-passage : (S : List Rattle.model.specs.Schedule.Passage) (i : ℕ) → i < length S → getD (map passageOf S) i blank ≡ passageOf (passageAt S i)
 nth-passage [] i h = absurd (omega arith)
 nth-passage (v ∷ S) zero h = refl
 nth-passage (v ∷ S) (suc i) h = nth-passage S i (omega arith)
@@ -52,7 +52,7 @@ same-passage : {a b c d e f g a′ b′ c′ d′ e′ f′ g′ : ℕ} → a �
 same-passage p q r s t u v = rw (p, q, r, s, t, u, v)
 
 -- passage i of its numbers
-pub nth-seven : (S : List Visit) (rest : List ℕ) (i : ℕ) → i < length S → fromSeven (each sevenOf S ++ rest) i ≡ passageOf (visitAt S i)
+pub nth-seven : (S : List Rattle.model.specs.Schedule.Passage) (rest : List ℕ) (i : ℕ) → i < length S → fromSeven (each sevenOf S ++ rest) i ≡ passageOf (passageAt S i)
 unfolding each
 nth-seven [] rest i h = absurd (omega arith)
 nth-seven (v ∷ S) rest zero h = refl
@@ -66,7 +66,7 @@ nth-seven (v ∷ S) rest (suc i) h =
     moved j k e = ap (λ (m : ℕ). getD (sevenOf v ++ (each sevenOf S ++ rest)) m 0) e ∙ getD-append-add (sevenOf v) (each sevenOf S ++ rest) k 0
 
 -- all stored
-pub stored : (S : List Visit) (l : List Passage) (xs : List Passage) (numbers rest : List ℕ) (n : ℕ) → n ≡ length S → n ≤ length l
+pub stored : (S : List Rattle.model.specs.Schedule.Passage) (l : List Passage) (xs : List Passage) (numbers rest : List ℕ) (n : ℕ) → n ≡ length S → n ≤ length l
     → numbers ≡ each sevenOf S ++ rest → Alike numbers n xs → copied l xs n ≡ map passageOf S ++ drop (length S) l
 stored S l xs numbers rest n e h q a =
     let m : n ≤ length (map passageOf S) = rw (length-map S passageOf) (omega arith) in

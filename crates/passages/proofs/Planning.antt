@@ -10,9 +10,9 @@ use mir.Val.{Fits}
 use Rattle.model.specs.declared.Verdict.{Verdict}
 use Rattle.model.specs.declared.Verdict.the-variants.{Accepted, Refused}
 use Rattle.model.specs.Lists.{Answer, accepted, refused, Bytes, each}
-use Rattle.model.specs.Schedule.{Visit, sevenOf}
-use Rattle.model.specs.Checks.{noVisit, visitAt}
-use Rattle.model.specs.Calls.{Call, verdictOf, planIn, scheduleWith, scheduleCall}
+use Rattle.model.specs.Schedule.{sevenOf}
+use Rattle.model.specs.Checks.{noPassage, passageAt}
+use Rattle.model.specs.Calls.{Call, verdictOf, acceptedScheduleIn, scheduleWith, scheduleCall}
 use Rattle.model.proofs.Walk.{all-at}
 use Rattle.model.proofs.Located.{are-bytes}
 use Rattle.table.proofs.Answered.{verdict-refused, verdict-accepted}
@@ -24,19 +24,19 @@ use Rattle.passages.specs.Passages.{PassagesCall, passageOf, keeping, pa
 use Rattle.passages.specs.Copied.{copied, copied-zero}
 use Rattle.passages.specs.Planned.{fromSeven, Small, SmallRows, Laid, Says, Plans}
 use Rattle.passages.proofs.Laying.{nth-seven, stored}
-use Rattle.passages.proofs.Bounds.{SmallVisit, all-small, few-passages}
+use Rattle.passages.proofs.Bounds.{SmallPassage, all-small, few-passages}
 
 -- ## The call
 
-call-kept : (bs : List ℕ) {n c : ℕ} → planIn bs ≡ refused n c → (lent : List Passage) → passagesCall bs lent ≡ keeping n c lent
+call-kept : (bs : List ℕ) {n c : ℕ} → acceptedScheduleIn bs ≡ refused n c → (lent : List Passage) → passagesCall bs lent ≡ keeping n c lent
 unfolding passagesCall
 call-kept bs e lent = ap (passagesWith lent) e
 
-call-short : (bs : List ℕ) {S : List Visit} → planIn bs ≡ accepted S → (lent : List Passage) → length lent < length S → passagesCall bs lent ≡ keeping 13 255 lent
+call-short : (bs : List ℕ) {S : List Rattle.model.specs.Schedule.Passage} → acceptedScheduleIn bs ≡ accepted S → (lent : List Passage) → length lent < length S → passagesCall bs lent ≡ keeping 13 255 lent
 unfolding passagesCall
 call-short bs {S} e lent h = ap (passagesWith lent) e ∙ rw (lt-leb (length S) (length lent) h)
 
-call-laid : (bs : List ℕ) {S : List Visit} → planIn bs ≡ accepted S → (lent : List Passage) → length S ≤ length lent
+call-laid : (bs : List ℕ) {S : List Rattle.model.specs.Schedule.Passage} → acceptedScheduleIn bs ≡ accepted S → (lent : List Passage) → length S ≤ length lent
     → passagesCall bs lent ≡ record { verdict = Accepted; size = length S; lent = map passageOf S ++ drop (length S) lent }
 unfolding passagesCall
 call-laid bs {S} e lent h = ap (passagesWith lent) e ∙ rw (le-leb (length S) (length lent) h)
@@ -58,7 +58,7 @@ plans-nothing bs places n c p k h =
     }
 
 -- the passages are to be written
-plans-passages : (bs : List ℕ) (places n : ℕ) (S : List Visit) (numbers rest : List ℕ) (p : Planned) → planIn bs ≡ accepted S → n ≡ length S → n ≤ 1024 → n ≤ places
+plans-passages : (bs : List ℕ) (places n : ℕ) (S : List Rattle.model.specs.Schedule.Passage) (numbers rest : List ℕ) (p : Planned) → acceptedScheduleIn bs ≡ accepted S → n ≡ length S → n ≤ 1024 → n ≤ places
     → numbers ≡ each sevenOf S ++ rest → Laid numbers n p → Plans bs places p
 plans-passages bs places n S numbers rest p e q few h is laid =
     record {
@@ -81,14 +81,14 @@ pub slice-bytes : (bs : List ℕ) → ((i : ℕ) → Fits w8 (getD bs i 0)) → 
 slice-bytes bs h = are-bytes bs (λ i. omega (arith, h i))
 
 module _ (bs : List ℕ) (b : Bytes bs) (zeros : List ℕ) (long : length zeros ≡ 7168) where
-  numbers-laid : {S : List Visit} → planIn bs ≡ accepted S → scheduleCall bs zeros ≡ record { verdict = Accepted; size = length S; lent = each sevenOf S ++ drop (length S * 7) zeros }
+  numbers-laid : {S : List Rattle.model.specs.Schedule.Passage} → acceptedScheduleIn bs ≡ accepted S → scheduleCall bs zeros ≡ record { verdict = Accepted; size = length S; lent = each sevenOf S ++ drop (length S * 7) zeros }
   unfolding scheduleCall
   numbers-laid {S} e = ap (scheduleWith zeros) e ∙ laid-fits S (length S) (each sevenOf S) zeros refl refl (omega (arith, few-passages bs b S e))
 
-  verdict-is : scheduleCall bs zeros .verdict ≡ verdictOf (planIn bs)
-  verdict-is = go (planIn bs) refl
+  verdict-is : scheduleCall bs zeros .verdict ≡ verdictOf (acceptedScheduleIn bs)
+  verdict-is = go (acceptedScheduleIn bs) refl
     where
-      go : (a : Answer (List Visit)) → planIn bs ≡ a → scheduleCall bs zeros .verdict ≡ verdictOf a
+      go : (a : Answer (List Rattle.model.specs.Schedule.Passage)) → acceptedScheduleIn bs ≡ a → scheduleCall bs zeros .verdict ≡ verdictOf a
       go (accepted S) e = ap (λ (x : Call). x .verdict) (numbers-laid e)
       go (refused n c) e = ap (λ (x : Call). x .verdict) (call-refused bs zeros e)
 
@@ -96,12 +96,12 @@ module _ (bs : List ℕ) (b : Bytes bs) (zeros : List ℕ) (long : length zeros 
     -- refused
     pub plans-refused : (places n c : ℕ) (p : Planned) → v ≡ Refused n c → (p .verdict ≡ Refused n c) × (p .count ≡ 0) → Plans bs places p
     plans-refused places n c p e h =
-        plans-nothing bs places n c p (λ lent l. call-kept bs (verdict-refused (planIn bs) (sym verdict-is ∙ sym (says .0) ∙ e)) lent) h
+        plans-nothing bs places n c p (λ lent l. call-kept bs (verdict-refused (acceptedScheduleIn bs) (sym verdict-is ∙ sym (says .0) ∙ e)) lent) h
 
     -- accepted
     module _ (e : v ≡ Accepted) where
-      found : (S : List Visit) × (planIn bs ≡ accepted S)
-      found = verdict-accepted (planIn bs) (sym verdict-is ∙ sym (says .0) ∙ e)
+      found : (S : List Rattle.model.specs.Schedule.Passage) × (acceptedScheduleIn bs ≡ accepted S)
+      found = verdict-accepted (acceptedScheduleIn bs) (sym verdict-is ∙ sym (says .0) ∙ e)
 
       size-is : size ≡ length (found .0)
       size-is = says .1 ∙ ap (λ (x : Call). x .size) (numbers-laid (found .1))
@@ -120,8 +120,8 @@ module _ (bs : List ℕ) (b : Bytes bs) (zeros : List ℕ) (long : length zeros 
         where
           small : (i : ℕ) → i < size → Small numbers i
           small i h =
-              let w : SmallVisit (visitAt (found .0) i) = all-at noVisit (all-small bs b (found .0) (found .1)) i (omega (arith, size-is)) in
-              let q : fromSeven numbers i ≡ passageOf (visitAt (found .0) i) =
+              let w : SmallPassage (passageAt (found .0) i) = all-at noPassage (all-small bs b (found .0) (found .1)) i (omega (arith, size-is)) in
+              let q : fromSeven numbers i ≡ passageOf (passageAt (found .0) i) =
               ap (λ (l : List ℕ). fromSeven l i) numbers-are ∙ nth-seven (found .0) (drop (length (found .0) * 7) zeros) i (omega (arith, size-is)) in
               record {
                 component = subst (λ (x : Passage). x .component < 256) (sym q) (w .component);

@@ -9,12 +9,11 @@ use lib.ListN.{length, drop}
 use Rattle.model.specs.declared.Verdict.{Verdict}
 use Rattle.model.specs.declared.Verdict.the-variants.{Accepted, Refused}
 use Rattle.model.specs.Lists.{Answer, accepted, refused, orElse}
-use Rattle.model.specs.Schedule.{Visit}
-use Rattle.model.specs.Calls.{planIn}
+use Rattle.model.specs.Calls.{acceptedScheduleIn}
 use Rattle.passages.specs.declared.Passage.{Passage}
 
 -- "component, edge, location, entry, ready, end, message"; 255 for no message
-abbrev pub passageOf : Visit → Passage
+abbrev pub passageOf : Rattle.model.specs.Schedule.Passage → Passage
 passageOf v =
     record {
       component = v .component;
@@ -38,7 +37,7 @@ keeping n c lent = record { verdict = Refused n c; size = 0; lent = lent }
 
 -- The passages are laid over the front of what was lent: "on success so do those past the result". 13. "Does the lent buffer hold the
 -- result?"
-abbrev pub passagesWith : List Passage → Answer (List Visit) → PassagesCall
+abbrev pub passagesWith : List Passage → Answer (List Rattle.model.specs.Schedule.Passage) → PassagesCall
 passagesWith lent (accepted S) =
     cond (leb (length S) (length lent))
     (record { verdict = Accepted; size = length S; lent = map passageOf S ++ drop (length S) lent })
@@ -46,5 +45,5 @@ passagesWith lent (accepted S) =
 passagesWith lent (refused n c) = keeping n c lent
 
 unfoldable pub passagesCall : List ℕ → List Passage → PassagesCall
-unfolding planIn
-passagesCall table lent = passagesWith lent (planIn table)
+unfolding acceptedScheduleIn
+passagesCall table lent = passagesWith lent (acceptedScheduleIn table)

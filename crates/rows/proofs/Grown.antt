@@ -10,8 +10,8 @@ use lib.Seq.{sets, length-sets}
 use Rattle.model.specs.Lists.{snoc}
 use Rattle.model.specs.Table.{size}
 use Rattle.model.specs.Places.{arcPlace, startOf, readOf, componentIn}
-use Rattle.model.specs.Schedule.{Visit, messageIn, withMessage, finished}
-use Rattle.rows.specs.Rows.{num, rowVisit, rowsFrom, rowsOf, RowPlaced, RowsPlaced, MessagesPut}
+use Rattle.model.specs.Schedule.{Passage, messageIn, withMessage, finished}
+use Rattle.rows.specs.Rows.{num, rowPassage, rowsFrom, rowsOf, RowPlaced, RowsPlaced, MessagesPut}
 use Rattle.rows.proofs.Stored.{row-others, row-written}
 use Rattle.rows.proofs.Sought.{rows-split}
 use Rattle.rows.proofs.Relabelled.{same-placed, same-rows}
@@ -23,9 +23,9 @@ pub rows-same : (l k : List ℕ) (i n : ℕ) → ((j m : ℕ) → i ≤ j → j 
 unfolding rowsFrom
 rows-same l k i zero h = refl
 rows-same l k i (suc n) h =
-    ap₂ (λ (v : Visit) (vs : List Visit). v ∷ vs) first (rows-same l k (suc i) n (λ j m a b c. h j m (omega arith) (omega arith) c))
+    ap₂ (λ (v : Passage) (vs : List Passage). v ∷ vs) first (rows-same l k (suc i) n (λ j m a b c. h j m (omega arith) (omega arith) c))
   where
-    first : rowVisit k i ≡ rowVisit l i
+    first : rowPassage k i ≡ rowPassage l i
     first =
         rw (
           h i 0 (omega arith) (omega arith) (omega arith),
@@ -38,7 +38,7 @@ rows-same l k i (suc n) h =
         )
 
 -- one row more
-pub rows-snoc : (l : List ℕ) (n : ℕ) → rowsOf l (n + 1) ≡ snoc (rowsOf l n) (rowVisit l n)
+pub rows-snoc : (l : List ℕ) (n : ℕ) → rowsOf l (n + 1) ≡ snoc (rowsOf l n) (rowPassage l n)
 unfolding rowsFrom
 rows-snoc l n = let e : 0 + n ≡ n = omega arith in rows-split l 0 n 1 ∙ rw e
 
@@ -70,8 +70,8 @@ module _ (l : List ℕ) (n component edge location entry ready end place back : 
   old-number : (j k : ℕ) → j < n → k < 9 → num added j k ≡ num l j k
   old-number j k a h = row-others l newRow n refl j k (λ e. omega arith) h
 
-  abbrev pub newVisit : Visit
-  newVisit =
+  abbrev pub newPassage : Passage
+  newPassage =
       record {
         component = component;
         edge = edge;
@@ -81,8 +81,8 @@ module _ (l : List ℕ) (n component edge location entry ready end place back : 
         message = none;
       }
 
-  pub visit-added : rowVisit added n ≡ newVisit
-  visit-added =
+  pub passage-added : rowPassage added n ≡ newPassage
+  passage-added =
       rw (
         new-number 0 (omega arith),
         new-number 1 (omega arith),
@@ -93,10 +93,10 @@ module _ (l : List ℕ) (n component edge location entry ready end place back : 
         new-number 6 (omega arith),
       )
 
-  pub rows-added : rowsOf added (n + 1) ≡ snoc (rowsOf l n) newVisit
+  pub rows-added : rowsOf added (n + 1) ≡ snoc (rowsOf l n) newPassage
   rows-added =
       rows-snoc added n
-      ∙ ap₂ snoc (rows-same l added 0 n (λ j m a b c. old-number j m (omega arith) c)) visit-added
+      ∙ ap₂ snoc (rows-same l added 0 n (λ j m a b c. old-number j m (omega arith) c)) passage-added
 
   module _ (bs : List ℕ) (r : RowsPlaced bs l n) (f : RowFits bs l n component edge entry ready end place back) where
     new-placed : RowPlaced bs added n
@@ -156,8 +156,8 @@ module _ (bs : List ℕ) (H n : ℕ) (before after : List ℕ) (p : MessagesPut 
   pub put-placed : RowsPlaced bs before n → RowsPlaced bs after n
   put-placed r = same-rows before after n (p .rest) bs (p .same) r
 
-  visit-put : (i : ℕ) → i < n → rowVisit after i ≡ withMessage (rowVisit before i) (messageIn (readOf bs .table) H (rowsOf before n) (rowVisit before i))
-  visit-put i h =
+  passage-put : (i : ℕ) → i < n → rowPassage after i ≡ withMessage (rowPassage before i) (messageIn (readOf bs .table) H (rowsOf before n) (rowPassage before i))
+  passage-put i h =
       rw (
         p .rest i 0 h (omega arith) (λ e. omega arith),
         p .rest i 1 h (omega arith) (λ e. omega arith),
@@ -171,7 +171,7 @@ module _ (bs : List ℕ) (H n : ℕ) (before after : List ℕ) (p : MessagesPut 
   rows-put : (i m : ℕ) → i + m ≤ n → rowsFrom after i m ≡ map (λ v. withMessage v (messageIn (readOf bs .table) H (rowsOf before n) v)) (rowsFrom before i m)
   unfolding rowsFrom
   rows-put i zero h = refl
-  rows-put i (suc m) h = ap₂ (λ (v : Visit) (vs : List Visit). v ∷ vs) (visit-put i (omega arith)) (rows-put (suc i) m (omega arith))
+  rows-put i (suc m) h = ap₂ (λ (v : Passage) (vs : List Passage). v ∷ vs) (passage-put i (omega arith)) (rows-put (suc i) m (omega arith))
 
   -- the rows are the finished schedule
   pub rows-finished : rowsOf after n ≡ finished (readOf bs .table) H (rowsOf before n)

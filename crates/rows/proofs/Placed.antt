@@ -12,7 +12,7 @@ use Rattle.model.specs.Lists.{Bytes}
 use Rattle.model.specs.Table.{Arc, sizesOf, noArc, size}
 use Rattle.model.specs.Limits.{ActionIn, ArcIn}
 use Rattle.model.specs.Places.{arcLength, arcAt, startOf, arcPlace, ComponentAt, Valid, readOf, componentIn}
-use Rattle.model.specs.Schedule.{visitArc}
+use Rattle.model.specs.Schedule.{passageArc}
 use Rattle.model.proofs.Words.{byte-small}
 use Rattle.model.proofs.Walk.{all-at}
 use Rattle.model.proofs.Located.{are-bytes, valid-read, valid-located, valid-in}
@@ -20,7 +20,7 @@ use Rattle.model.proofs.RoundTrip.{written-read}
 use Rattle.decoder.specs.Decoded.{Decodable}
 use Rattle.decoder.proofs.Callers.{decodable}
 use Rattle.parts.proofs.Skim.{tail}
-use Rattle.rows.specs.Rows.{num, rowVisit, RowPlaced, RowsPlaced, EdgeStands, RowKnown}
+use Rattle.rows.specs.Rows.{num, rowPassage, RowPlaced, RowsPlaced, EdgeStands, RowKnown}
 
 -- a send's channel is one of the table's
 channel-below : (s : Sizes) (a : Arc) (k : ℕ) → ArcIn s a → Send k ≡ a .edge .action → k < s .channels
@@ -33,7 +33,7 @@ module _ (bs l : List ℕ) (i : ℕ) (b : Bytes bs) (v : Valid bs) (r : RowPlace
   component-there = valid-located bs b v .component (num l i 0) (r .present)
 
   -- the row's edge stands at its place ..
-  pub row-arc : arcAt (drop (num l i 7) bs) ≡ visitArc (readOf bs .table) (rowVisit l i)
+  pub row-arc : arcAt (drop (num l i 7) bs) ≡ passageArc (readOf bs .table) (rowPassage l i)
   row-arc = rw (r .place) (component-there .arc (num l i 1) (r .there))
 
   -- .. whole ..
@@ -86,5 +86,5 @@ module _ (bs l : List ℕ) (i at : ℕ) (b : (j : ℕ) → Fits w8 (getD bs j 0)
   pub at-stands : EdgeStands (take (length bs - at) (drop at bs))
   at-stands = rw (tail bs at, e) (row-stands bs l i (known-bytes bs b) (r .valid) (r .row))
 
-  pub at-arc : arcAt (take (length bs - at) (drop at bs)) ≡ visitArc (readOf bs .table) (rowVisit l i)
+  pub at-arc : arcAt (take (length bs - at) (drop at bs)) ≡ passageArc (readOf bs .table) (rowPassage l i)
   at-arc = rw (tail bs at, e) (row-arc bs l i (known-bytes bs b) (r .valid) (r .row))

@@ -12,39 +12,39 @@ use lib.Seq.{getD-set-same, getD-set-other}
 use Rattle.model.specs.Table.{Table}
 use Rattle.model.specs.Window.{listens, channelOf}
 use Rattle.model.specs.Places.{readOf}
-use Rattle.model.specs.Schedule.{Visit, visitArc, heardBy, endsSooner, sooner, earliest, carried, messageIn, withMessage}
-use Rattle.rows.specs.Rows.{num, messageOf, rowVisit, rowsFrom, rowsOf, RowPlaced, RowsPlaced, MessagesPut}
+use Rattle.model.specs.Schedule.{Passage, passageArc, heardBy, endsSooner, sooner, earliest, carried, messageIn, withMessage}
+use Rattle.rows.specs.Rows.{num, messageOf, rowPassage, rowsFrom, rowsOf, RowPlaced, RowsPlaced, MessagesPut}
 
 -- ## What a search reads: component, edge, ready and end
 
 -- a change of passages that keeps these
-pub record Keeps (f : Visit → Visit) : Type 0 where
-  pub component : (v : Visit) → f v .component ≡ v .component
-  pub edge : (v : Visit) → f v .edge ≡ v .edge
-  pub ready : (v : Visit) → f v .ready ≡ v .ready
-  pub end : (v : Visit) → f v .end ≡ v .end
+pub record Keeps (f : Passage → Passage) : Type 0 where
+  pub component : (v : Passage) → f v .component ≡ v .component
+  pub edge : (v : Passage) → f v .edge ≡ v .edge
+  pub ready : (v : Passage) → f v .ready ≡ v .ready
+  pub end : (v : Passage) → f v .end ≡ v .end
 
-module _ (f : Visit → Visit) (k : Keeps f) where
-  kept-cond : (t : Bool) (a b : Option Visit) → cond t (Option·map f a) (Option·map f b) ≡ Option·map f (cond t a b)
+module _ (f : Passage → Passage) (k : Keeps f) where
+  kept-cond : (t : Bool) (a b : Option Passage) → cond t (Option·map f a) (Option·map f b) ≡ Option·map f (cond t a b)
   kept-cond true a b = refl
   kept-cond false a b = refl
 
-  kept-arc : (T : Table) (v : Visit) → visitArc T (f v) ≡ visitArc T v
+  kept-arc : (T : Table) (v : Passage) → passageArc T (f v) ≡ passageArc T v
   kept-arc T v = rw (k .component v, k .edge v)
 
-  kept-ends : (s b : Visit) → endsSooner (f s) (f b) ≡ endsSooner s b
+  kept-ends : (s b : Passage) → endsSooner (f s) (f b) ≡ endsSooner s b
   kept-ends s b = rw (k .end s, k .end b, k .component s, k .component b)
 
-  kept-sooner : (b : Option Visit) (s : Visit) → sooner (Option·map f b) (f s) ≡ Option·map f (sooner b s)
+  kept-sooner : (b : Option Passage) (s : Passage) → sooner (Option·map f b) (f s) ≡ Option·map f (sooner b s)
   kept-sooner none s = refl
   kept-sooner (some b) s =
       ap (λ (t : Bool). cond t (some (f s)) (some (f b))) (kept-ends s b) ∙ kept-cond (endsSooner s b) (some s) (some b)
 
-  kept-heard : (T : Table) (H : ℕ) (v s : Visit) → heardBy T H (f v) (f s) ≡ heardBy T H v s
+  kept-heard : (T : Table) (H : ℕ) (v s : Passage) → heardBy T H (f v) (f s) ≡ heardBy T H v s
   kept-heard T H v s =
       rw (k .component v, k .component s, k .edge v, k .edge s, k .ready v, k .ready s, k .end v, k .end s)
 
-  kept-earliest : (p q : Visit → Bool) → ((v : Visit) → q (f v) ≡ p v) → (vs : List Visit) (b : Option Visit)
+  kept-earliest : (p q : Passage → Bool) → ((v : Passage) → q (f v) ≡ p v) → (vs : List Passage) (b : Option Passage)
       → earliest q (map f vs) (Option·map f b) ≡ Option·map f (earliest p vs b)
   kept-earliest p q h [] b = refl
   kept-earliest p q h (v ∷ vs) b = ap (earliest q (map f vs)) one ∙ kept-earliest p q h vs (cond (p v) (sooner b v) b)
@@ -52,30 +52,30 @@ module _ (f : Visit → Visit) (k : Keeps f) where
       one : cond (q (f v)) (sooner (Option·map f b) (f v)) (Option·map f b) ≡ Option·map f (cond (p v) (sooner b v) b)
       one = rw (h v, kept-sooner b v) (kept-cond (p v) (sooner b v) b)
 
-  kept-carried : (T : Table) (o : Option Visit) → carried T (Option·map f o) ≡ carried T o
+  kept-carried : (T : Table) (o : Option Passage) → carried T (Option·map f o) ≡ carried T o
   kept-carried T none = refl
   kept-carried T (some v) = ap channelOf (kept-arc T v)
 
   -- finds the same messages
-  pub kept-message : (T : Table) (H : ℕ) (vs : List Visit) (v : Visit) → messageIn T H (map f vs) (f v) ≡ messageIn T H vs v
+  pub kept-message : (T : Table) (H : ℕ) (vs : List Passage) (v : Passage) → messageIn T H (map f vs) (f v) ≡ messageIn T H vs v
   unfolding messageIn
   kept-message T H vs v =
       let p = heardBy T H v in
       let found : carried T (earliest (heardBy T H (f v)) (map f vs) none) ≡ carried T (earliest p vs none) =
       ap (carried T) (kept-earliest p (heardBy T H (f v)) (kept-heard T H v) vs none) ∙ kept-carried T (earliest p vs none) in
-      rw (kept-arc T v) (ap (λ (o : Option ℕ). cond (listens (visitArc T v)) o (channelOf (visitArc T v))) found)
+      rw (kept-arc T v) (ap (λ (o : Option ℕ). cond (listens (passageArc T v)) o (channelOf (passageArc T v))) found)
 
 -- without the message
-abbrev bare : Visit → Visit
+abbrev bare : Passage → Passage
 bare v = withMessage v none
 
-bare-message : (T : Table) (H : ℕ) (vs : List Visit) (v : Visit) → messageIn T H (map bare vs) (bare v) ≡ messageIn T H vs v
+bare-message : (T : Table) (H : ℕ) (vs : List Passage) (v : Passage) → messageIn T H (map bare vs) (bare v) ≡ messageIn T H vs v
 bare-message = kept-message bare (record { component = λ v. refl; edge = λ v. refl; ready = λ v. refl; end = λ v. refl })
 
 -- ## Rows that agree in all but the message
 
 module _ (l k : List ℕ) (n : ℕ) (agree : (i m : ℕ) → i < n → m < 9 → (m ≡ 6 → ⊥) → num k i m ≡ num l i m) where
-  row-bare : (i : ℕ) → i < n → bare (rowVisit k i) ≡ bare (rowVisit l i)
+  row-bare : (i : ℕ) → i < n → bare (rowPassage k i) ≡ bare (rowPassage l i)
   row-bare i h =
       rw (
         agree i 0 h (omega arith) (λ e. omega arith),
@@ -89,14 +89,14 @@ module _ (l k : List ℕ) (n : ℕ) (agree : (i m : ℕ) → i < n → m < 9 →
   rows-bare : (i m : ℕ) → i + m ≤ n → map bare (rowsFrom k i m) ≡ map bare (rowsFrom l i m)
   unfolding rowsFrom
   rows-bare i zero h = refl
-  rows-bare i (suc m) h = ap₂ (λ (v : Visit) (vs : List Visit). v ∷ vs) (row-bare i (omega arith)) (rows-bare (suc i) m (omega arith))
+  rows-bare i (suc m) h = ap₂ (λ (v : Passage) (vs : List Passage). v ∷ vs) (row-bare i (omega arith)) (rows-bare (suc i) m (omega arith))
 
   -- find the same message
-  pub same-message : (T : Table) (H i : ℕ) → i < n → messageIn T H (rowsOf k n) (rowVisit k i) ≡ messageIn T H (rowsOf l n) (rowVisit l i)
+  pub same-message : (T : Table) (H i : ℕ) → i < n → messageIn T H (rowsOf k n) (rowPassage k i) ≡ messageIn T H (rowsOf l n) (rowPassage l i)
   same-message T H i h =
-      sym (bare-message T H (rowsOf k n) (rowVisit k i))
+      sym (bare-message T H (rowsOf k n) (rowPassage k i))
       ∙ ap₂ (messageIn T H) (rows-bare 0 n (omega arith)) (row-bare i h)
-      ∙ bare-message T H (rowsOf l n) (rowVisit l i)
+      ∙ bare-message T H (rowsOf l n) (rowPassage l i)
 
   pub same-placed : (bs : List ℕ) (i : ℕ) → i < n → RowPlaced bs l i → RowPlaced bs k i
   same-placed bs i h r =
@@ -135,7 +135,7 @@ module _ (l k : List ℕ) (n : ℕ) (agree : (i m : ℕ) → i < n → m < 9 →
 -- the first i of n rows have their messages
 pub record PutBelow (bs : List ℕ) (H n : ℕ) (before after : List ℕ) (i : ℕ) : Type 0 where
   pub same : length after ≡ length before
-  pub message : (j : ℕ) → j < i → messageOf (num after j 6) ≡ messageIn (readOf bs .table) H (rowsOf before n) (rowVisit before j)
+  pub message : (j : ℕ) → j < i → messageOf (num after j 6) ≡ messageIn (readOf bs .table) H (rowsOf before n) (rowPassage before j)
   pub rest : (j k : ℕ) → j < n → k < 9 → (k ≡ 6 → ⊥) → num after j k ≡ num before j k
   pub past : (j : ℕ) → n * 9 ≤ j → getD after j 0 ≡ getD before j 0
 
@@ -152,7 +152,7 @@ module _ (bs : List ℕ) (H n : ℕ) (l k : List ℕ) (i : ℕ) (r : RowsPlaced 
   put-within h = omega (arith, r .fits, p .same)
 
   -- one more
-  pub put-turn : (m : ℕ) → i < n → messageOf m ≡ messageIn (readOf bs .table) H (rowsOf k n) (rowVisit k i)
+  pub put-turn : (m : ℕ) → i < n → messageOf m ≡ messageIn (readOf bs .table) H (rowsOf k n) (rowPassage k i)
       → PutBelow bs H n l (set k (i * 9 + 6) m) (i + 1)
   put-turn m h e =
       record {
@@ -163,7 +163,7 @@ module _ (bs : List ℕ) (H n : ℕ) (l k : List ℕ) (i : ℕ) (r : RowsPlaced 
       }
     where
       at-row : (j : ℕ) → j < i + 1 → (t : Bool) → eqb j i ≡ t
-          → messageOf (num (set k (i * 9 + 6) m) j 6) ≡ messageIn (readOf bs .table) H (rowsOf l n) (rowVisit l j)
+          → messageOf (num (set k (i * 9 + 6) m) j 6) ≡ messageIn (readOf bs .table) H (rowsOf l n) (rowPassage l j)
       at-row j b true q =
           let s : j ≡ i = eqb-true j i q in
           rw (s, getD-set-same k (i * 9 + 6) m 0 (put-within h)) (e ∙ same-message l k n (p .rest) (readOf bs .table) H i h)

@@ -11,9 +11,9 @@ use lib.Dec.{ltb, eqb}
 use Rattle.model.specs.Table.{Table}
 use Rattle.model.specs.Window.{channelOf, listens}
 use Rattle.model.specs.Places.{readOf}
-use Rattle.model.specs.Schedule.{Visit, visitArc, names, others, heardBy, endsSooner, sooner, earliest, carried, messageIn}
+use Rattle.model.specs.Schedule.{Passage, passageArc, names, others, heardBy, endsSooner, sooner, earliest, carried, messageIn}
 use Rattle.model.proofs.Bools.{clash}
-use Rattle.rows.specs.Rows.{num, inTime, rowVisit, rowsFrom, rowsOf, Linked, RowsPlaced, bestOf, heardRow, soonerFirst, heardFirst}
+use Rattle.rows.specs.Rows.{num, inTime, rowPassage, rowsFrom, rowsOf, Linked, RowsPlaced, bestOf, heardRow, soonerFirst, heardFirst}
 
 -- ## Tests
 
@@ -35,14 +35,14 @@ pub in-time-is : (l : List ℕ) (i j H : ℕ) {ri rj ei ej ci cj : ℕ} {after i
     → rj ≡ num l j 4 → ri ≡ num l i 4 → after ≡ ltb ri rj && ltb rj H
     → ej ≡ num l j 5 → ei ≡ num l i 5 → inside ≡ after && ltb ej ei
     → ci ≡ num l i 0 → cj ≡ num l j 0 → r ≡ not (eqb ci cj) && inside
-    → r ≡ inTime H (rowVisit l i) (rowVisit l j)
+    → r ≡ inTime H (rowPassage l i) (rowPassage l j)
 in-time-is l i j H a b c d e f g h k = rw (k, f, c, a, b, d, e, g, h)
 
 -- row j and row b
 pub ends-sooner-is : (l : List ℕ) (j b : ℕ) {ej eb cj cb : ℕ} {same r : Bool}
     → ej ≡ num l j 5 → eb ≡ num l b 5 → cj ≡ num l j 0 → cb ≡ num l b 0
     → same ≡ eqb ej eb && ltb cj cb → r ≡ ltb ej eb || same
-    → r ≡ endsSooner (rowVisit l j) (rowVisit l b)
+    → r ≡ endsSooner (rowPassage l j) (rowPassage l b)
 ends-sooner-is l j b a c d e f g = rw (g, f, a, c, d, e)
 
 -- ## Rows one after the other
@@ -56,7 +56,7 @@ rows-split l i zero n =
 rows-split l i (suc m) n =
     let e : suc m + n ≡ suc (m + n) = omega arith in
     let f : i + suc m ≡ suc i + m = omega arith in
-    rw (e, f) (ap (λ (vs : List Visit). rowVisit l i ∷ vs) (rows-split l (suc i) m n))
+    rw (e, f) (ap (λ (vs : List Passage). rowPassage l i ∷ vs) (rows-split l (suc i) m n))
 
 -- ## Links
 
@@ -88,17 +88,17 @@ passed-over l j k back tick r h e t later i a c = below (ltb i k) refl
 
 -- ## The earliest of which p holds
 
-module _ (p : Visit → Bool) where
-  pub earliest-append : (vs ws : List Visit) (b : Option Visit) → earliest p (vs ++ ws) b ≡ earliest p ws (earliest p vs b)
+module _ (p : Passage → Bool) where
+  pub earliest-append : (vs ws : List Passage) (b : Option Passage) → earliest p (vs ++ ws) b ≡ earliest p ws (earliest p vs b)
   earliest-append [] ws b = refl
   earliest-append (v ∷ vs) ws b = earliest-append vs ws (cond (p v) (sooner b v) b)
 
   -- rows of which p does not hold change nothing
-  pub none-holds : (l : List ℕ) (i n : ℕ) (b : Option Visit) → ((j : ℕ) → i ≤ j → j < i + n → p (rowVisit l j) ≡ false) → earliest p (rowsFrom l i n) b ≡ b
+  pub none-holds : (l : List ℕ) (i n : ℕ) (b : Option Passage) → ((j : ℕ) → i ≤ j → j < i + n → p (rowPassage l j) ≡ false) → earliest p (rowsFrom l i n) b ≡ b
   unfolding rowsFrom
   none-holds l i zero b h = refl
   none-holds l i (suc n) b h =
-      let e : cond (p (rowVisit l i)) (sooner b (rowVisit l i)) b ≡ b = rw (h i (omega arith) (omega arith)) in
+      let e : cond (p (rowPassage l i)) (sooner b (rowPassage l i)) b ≡ b = rw (h i (omega arith) (omega arith)) in
       ap (earliest p (rowsFrom l (suc i) n)) e ∙ none-holds l (suc i) n b (λ j a c. h j (omega arith) (omega arith))
 
 -- ## Which of two ends sooner, of ends e, f and components c, d
@@ -137,7 +137,7 @@ module _ (e c f d : ℕ) where
       go false p = rw (le-ltb e f h, p)
 
 -- of three passages
-module _ (s w v : Visit) where
+module _ (s w v : Passage) where
   soon-soon : endsSooner w v ≡ true → endsSooner s w ≡ true → endsSooner s v ≡ true
   soon-soon a b =
       let x = soon-true (w .end) (w .component) (v .end) (v .component) a in
@@ -160,7 +160,7 @@ module _ (s w v : Visit) where
 
 -- ## The earliest, when an earlier passage is looked at last
 
-sooner-both : (v s : Visit) (b : Option Visit) → sooner (soonerFirst v b) s ≡ soonerFirst v (sooner b s)
+sooner-both : (v s : Passage) (b : Option Passage) → sooner (soonerFirst v b) s ≡ soonerFirst v (sooner b s)
 sooner-both v s none = refl
 sooner-both v s (some w) = go (endsSooner w v) refl (endsSooner s w) refl
   where
@@ -171,8 +171,8 @@ sooner-both v s (some w) = go (endsSooner w v) refl (endsSooner s w) refl
     go false p true q = refl
     go false p false q = rw (p, late-late s w v p q)
 
-module _ (p : Visit → Bool) where
-  earliest-both : (v : Visit) (vs : List Visit) (b : Option Visit) → earliest p vs (soonerFirst v b) ≡ soonerFirst v (earliest p vs b)
+module _ (p : Passage → Bool) where
+  earliest-both : (v : Passage) (vs : List Passage) (b : Option Passage) → earliest p vs (soonerFirst v b) ≡ soonerFirst v (earliest p vs b)
   earliest-both v [] b = refl
   earliest-both v (s ∷ vs) b = ap (earliest p vs) (one (p s)) ∙ earliest-both v vs (cond (p s) (sooner b s) b)
     where
@@ -180,7 +180,7 @@ module _ (p : Visit → Bool) where
       one true = sooner-both v s b
       one false = refl
 
-  earliest-first : (v : Visit) (vs : List Visit) → earliest p (v ∷ vs) none ≡ cond (p v) (soonerFirst v (earliest p vs none)) (earliest p vs none)
+  earliest-first : (v : Passage) (vs : List Passage) → earliest p (v ∷ vs) none ≡ cond (p v) (soonerFirst v (earliest p vs none)) (earliest p vs none)
   earliest-first v vs = go (p v)
     where
       go : (t : Bool) → earliest p vs (cond t (some v) none) ≡ cond t (soonerFirst v (earliest p vs none)) (earliest p vs none)
@@ -189,81 +189,81 @@ module _ (p : Visit → Bool) where
 
 -- ## Being heard: the numbers first, then the channel
 
-module _ (T : Table) (H : ℕ) (v s : Visit) where
+module _ (T : Table) (H : ℕ) (v s : Passage) where
   pub not-in-time : inTime H v s ≡ false → false ≡ heardBy T H v s
-  not-in-time e = sym (turned (names (visitArc T v) (channelOf (visitArc T s))) (others v s) _ ∙ rw e)
+  not-in-time e = sym (turned (names (passageArc T v) (channelOf (passageArc T s))) (others v s) _ ∙ rw e)
 
-  pub heard-in-time : (x : Bool) → inTime H v s ≡ true → x ≡ names (visitArc T v) (channelOf (visitArc T s)) → x ≡ heardBy T H v s
-  heard-in-time x e q = q ∙ sym (turned (names (visitArc T v) (channelOf (visitArc T s))) (others v s) _ ∙ rw e)
+  pub heard-in-time : (x : Bool) → inTime H v s ≡ true → x ≡ names (passageArc T v) (channelOf (passageArc T s)) → x ≡ heardBy T H v s
+  heard-in-time x e q = q ∙ sym (turned (names (passageArc T v) (channelOf (passageArc T s))) (others v s) _ ∙ rw e)
 
-module _ (bs l : List ℕ) (H i j : ℕ) (b : Option Visit) where
-  pub row-heard : (x : Option Visit) → heardBy (readOf bs .table) H (rowVisit l i) (rowVisit l j) ≡ true → x ≡ sooner b (rowVisit l j) → x ≡ heardRow bs l H i j b
-  row-heard x e q = q ∙ sym (ap (λ (t : Bool). cond t (sooner b (rowVisit l j)) b) e)
+module _ (bs l : List ℕ) (H i j : ℕ) (b : Option Passage) where
+  pub row-heard : (x : Option Passage) → heardBy (readOf bs .table) H (rowPassage l i) (rowPassage l j) ≡ true → x ≡ sooner b (rowPassage l j) → x ≡ heardRow bs l H i j b
+  row-heard x e q = q ∙ sym (ap (λ (t : Bool). cond t (sooner b (rowPassage l j)) b) e)
 
-  pub row-unheard : heardBy (readOf bs .table) H (rowVisit l i) (rowVisit l j) ≡ false → b ≡ heardRow bs l H i j b
-  row-unheard e = sym (ap (λ (t : Bool). cond t (sooner b (rowVisit l j)) b) e)
+  pub row-unheard : heardBy (readOf bs .table) H (rowPassage l i) (rowPassage l j) ≡ false → b ≡ heardRow bs l H i j b
+  row-unheard e = sym (ap (λ (t : Bool). cond t (sooner b (rowPassage l j)) b) e)
 
-  pub first-heard : (x : Option Visit) → heardBy (readOf bs .table) H (rowVisit l i) (rowVisit l j) ≡ true → x ≡ soonerFirst (rowVisit l j) b → x ≡ heardFirst bs l H i j b
-  first-heard x e q = q ∙ sym (ap (λ (t : Bool). cond t (soonerFirst (rowVisit l j) b) b) e)
+  pub first-heard : (x : Option Passage) → heardBy (readOf bs .table) H (rowPassage l i) (rowPassage l j) ≡ true → x ≡ soonerFirst (rowPassage l j) b → x ≡ heardFirst bs l H i j b
+  first-heard x e q = q ∙ sym (ap (λ (t : Bool). cond t (soonerFirst (rowPassage l j) b) b) e)
 
-  pub first-unheard : heardBy (readOf bs .table) H (rowVisit l i) (rowVisit l j) ≡ false → b ≡ heardFirst bs l H i j b
-  first-unheard e = sym (ap (λ (t : Bool). cond t (soonerFirst (rowVisit l j) b) b) e)
+  pub first-unheard : heardBy (readOf bs .table) H (rowPassage l i) (rowPassage l j) ≡ false → b ≡ heardFirst bs l H i j b
+  first-unheard e = sym (ap (λ (t : Bool). cond t (soonerFirst (rowPassage l j) b) b) e)
 
 -- ## The best so far and row j
 
 module _ (l : List ℕ) (n best j : ℕ) (h : j < n) where
   -- the first one heard
-  pub first-best : n ≤ best → bestOf l n j ≡ sooner (bestOf l n best) (rowVisit l j)
+  pub first-best : n ≤ best → bestOf l n j ≡ sooner (bestOf l n best) (rowPassage l j)
   first-best k = rw (lt-ltb j n h, le-ltb best n k)
 
   -- one that ends sooner, or not
-  pub sooner-best : best < n → endsSooner (rowVisit l j) (rowVisit l best) ≡ true → bestOf l n j ≡ sooner (bestOf l n best) (rowVisit l j)
+  pub sooner-best : best < n → endsSooner (rowPassage l j) (rowPassage l best) ≡ true → bestOf l n j ≡ sooner (bestOf l n best) (rowPassage l j)
   sooner-best k e = rw (lt-ltb j n h, lt-ltb best n k, e)
 
-  pub kept-best : best < n → endsSooner (rowVisit l j) (rowVisit l best) ≡ false → bestOf l n best ≡ sooner (bestOf l n best) (rowVisit l j)
+  pub kept-best : best < n → endsSooner (rowPassage l j) (rowPassage l best) ≡ false → bestOf l n best ≡ sooner (bestOf l n best) (rowPassage l j)
   kept-best k e = rw (lt-ltb best n k, e)
 
   -- the same for a row before the best
-  pub first-before : n ≤ best → bestOf l n j ≡ soonerFirst (rowVisit l j) (bestOf l n best)
+  pub first-before : n ≤ best → bestOf l n j ≡ soonerFirst (rowPassage l j) (bestOf l n best)
   first-before k = rw (lt-ltb j n h, le-ltb best n k)
 
-  pub kept-before : best < n → endsSooner (rowVisit l best) (rowVisit l j) ≡ true → bestOf l n best ≡ soonerFirst (rowVisit l j) (bestOf l n best)
+  pub kept-before : best < n → endsSooner (rowPassage l best) (rowPassage l j) ≡ true → bestOf l n best ≡ soonerFirst (rowPassage l j) (bestOf l n best)
   kept-before k e = rw (lt-ltb best n k, e)
 
-  pub sooner-before : best < n → endsSooner (rowVisit l best) (rowVisit l j) ≡ false → bestOf l n j ≡ soonerFirst (rowVisit l j) (bestOf l n best)
+  pub sooner-before : best < n → endsSooner (rowPassage l best) (rowPassage l j) ≡ false → bestOf l n j ≡ soonerFirst (rowPassage l j) (bestOf l n best)
   sooner-before k e = rw (lt-ltb j n h, lt-ltb best n k, e)
 
 -- none yet; one that is there
 pub none-best : (l : List ℕ) (n best : ℕ) → n ≤ best → bestOf l n best ≡ none
 none-best l n best k = rw (le-ltb best n k)
 
-pub some-best : (l : List ℕ) (n best : ℕ) → best < n → bestOf l n best ≡ some (rowVisit l best)
+pub some-best : (l : List ℕ) (n best : ℕ) → best < n → bestOf l n best ≡ some (rowPassage l best)
 some-best l n best k = rw (lt-ltb best n k)
 
 -- ## What row i hears
 
 module _ (bs l : List ℕ) (n i H : ℕ) (r : RowsPlaced bs l n) (there : i < n) where
-  abbrev pub hearsIt : Visit → Bool
-  hearsIt = heardBy (readOf bs .table) H (rowVisit l i)
+  abbrev pub hearsIt : Passage → Bool
+  hearsIt = heardBy (readOf bs .table) H (rowPassage l i)
 
   -- a row that ended before its entry started too early
-  too-early : (j : ℕ) → j < n → num l j 5 < num l i 3 → hearsIt (rowVisit l j) ≡ false
+  too-early : (j : ℕ) → j < n → num l j 5 < num l i 3 → hearsIt (rowPassage l j) ≡ false
   too-early j a h =
       rw (le-ltb (num l i 4) (num l j 4) (omega (arith, h, r .row i there .early, r .row j a .window)), and-false)
 
   -- a row that opens at its end or later ends too late
-  too-late : (j : ℕ) → j < n → num l i 5 ≤ num l j 3 → hearsIt (rowVisit l j) ≡ false
+  too-late : (j : ℕ) → j < n → num l i 5 ≤ num l j 3 → hearsIt (rowPassage l j) ≡ false
   too-late j a h = rw (le-ltb (num l j 5) (num l i 5) (omega (arith, r .row j a)), and-false, and-false)
 
   -- the rows before it, backward: from row j on none that ended is heard ..
-  ended-none : (j m : ℕ) (b : Option Visit) → j + m ≤ n → ((t : ℕ) → j ≤ t → t < j + m → num l t 5 < num l i 3) → earliest hearsIt (rowsFrom l j m) b ≡ b
+  ended-none : (j m : ℕ) (b : Option Passage) → j + m ≤ n → ((t : ℕ) → j ≤ t → t < j + m → num l t 5 < num l i 3) → earliest hearsIt (rowsFrom l j m) b ≡ b
   ended-none j m b h e = none-holds hearsIt l j m b (λ t a c. too-early t (omega arith) (e t a c))
 
   pub back-start : (j : ℕ) → j ≤ i → ((t : ℕ) → j ≤ t → t < i → num l t 5 < num l i 3) → earliest hearsIt (rowsFrom l j (i - j)) none ≡ none
   back-start j h e = ended-none j (i - j) none (omega (arith, there)) (λ t a c. e t a (omega arith))
 
   -- .. then row k is looked at, and before it again those that ended are left out ..
-  pub back-turn : (j k : ℕ) (b c : Option Visit) → k < i → j ≤ k → ((t : ℕ) → j ≤ t → t < k → num l t 5 < num l i 3)
+  pub back-turn : (j k : ℕ) (b c : Option Passage) → k < i → j ≤ k → ((t : ℕ) → j ≤ t → t < k → num l t 5 < num l i 3)
       → earliest hearsIt (rowsFrom l (k + 1) (i - (k + 1))) none ≡ b → c ≡ heardFirst bs l H i k b → earliest hearsIt (rowsFrom l j (i - j)) none ≡ c
   unfolding rowsFrom
   back-turn j k b c h a e q f =
@@ -272,27 +272,27 @@ module _ (bs l : List ℕ) (n i H : ℕ) (r : RowsPlaced bs l n) (there : i < n)
       let u : i - k ≡ suc (i - suc k) = omega arith in
       let split : rowsFrom l j (i - j) ≡ rowsFrom l j (k - j) ++ rowsFrom l k (i - k) =
       ap (rowsFrom l j) m ∙ rows-split l j (k - j) (i - k) ∙ ap (λ (x : ℕ). rowsFrom l j (k - j) ++ rowsFrom l x (i - k)) z in
-      let one : rowsFrom l k (i - k) ≡ rowVisit l k ∷ rowsFrom l (k + 1) (i - (k + 1)) = rw (add-one k) (ap (rowsFrom l k) u) in
-      ap (λ (vs : List Visit). earliest hearsIt vs none) split
+      let one : rowsFrom l k (i - k) ≡ rowPassage l k ∷ rowsFrom l (k + 1) (i - (k + 1)) = rw (add-one k) (ap (rowsFrom l k) u) in
+      ap (λ (vs : List Passage). earliest hearsIt vs none) split
       ∙ earliest-append hearsIt (rowsFrom l j (k - j)) (rowsFrom l k (i - k)) none
       ∙ ap (earliest hearsIt (rowsFrom l k (i - k))) (ended-none j (k - j) none (omega (arith, there)) (λ t x y. e t x (omega arith)))
-      ∙ ap (λ (vs : List Visit). earliest hearsIt vs none) one
-      ∙ earliest-first hearsIt (rowVisit l k) (rowsFrom l (k + 1) (i - (k + 1)))
-      ∙ ap (λ (o : Option Visit). cond (hearsIt (rowVisit l k)) (soonerFirst (rowVisit l k) o) o) q
+      ∙ ap (λ (vs : List Passage). earliest hearsIt vs none) one
+      ∙ earliest-first hearsIt (rowPassage l k) (rowsFrom l (k + 1) (i - (k + 1)))
+      ∙ ap (λ (o : Option Passage). cond (hearsIt (rowPassage l k)) (soonerFirst (rowPassage l k) o) o) q
       ∙ sym f
 
   -- .. the rest of the search starts at row i ..
-  pub from-row : (b : Option Visit) → b ≡ earliest hearsIt (rowsOf l i) none → earliest hearsIt (rowsFrom l i (n - i)) b ≡ earliest hearsIt (rowsOf l n) none
+  pub from-row : (b : Option Passage) → b ≡ earliest hearsIt (rowsOf l i) none → earliest hearsIt (rowsFrom l i (n - i)) b ≡ earliest hearsIt (rowsOf l n) none
   from-row b e =
       let k : n ≡ i + (n - i) = omega (arith, there) in
       let z : 0 + i ≡ i = omega arith in
       let split : rowsOf l n ≡ rowsFrom l 0 i ++ rowsFrom l i (n - i) =
       ap (rowsFrom l 0) k ∙ rows-split l 0 i (n - i) ∙ ap (λ (m : ℕ). rowsFrom l 0 i ++ rowsFrom l m (n - i)) z in
       ap (earliest hearsIt (rowsFrom l i (n - i))) e
-      ∙ sym (ap (λ (vs : List Visit). earliest hearsIt vs none) split ∙ earliest-append hearsIt (rowsFrom l 0 i) (rowsFrom l i (n - i)) none)
+      ∙ sym (ap (λ (vs : List Passage). earliest hearsIt vs none) split ∙ earliest-append hearsIt (rowsFrom l 0 i) (rowsFrom l i (n - i)) none)
 
   -- .. goes on by one row ..
-  pub turn : (j : ℕ) (b c x : Option Visit) → j < n → c ≡ heardRow bs l H i j b → earliest hearsIt (rowsFrom l j (n - j)) b ≡ x
+  pub turn : (j : ℕ) (b c x : Option Passage) → j < n → c ≡ heardRow bs l H i j b → earliest hearsIt (rowsFrom l j (n - j)) b ≡ x
       → earliest hearsIt (rowsFrom l (j + 1) (n - (j + 1))) c ≡ x
   unfolding rowsFrom
   turn j b c x h e q =
@@ -300,23 +300,23 @@ module _ (bs l : List ℕ) (n i H : ℕ) (r : RowsPlaced bs l n) (there : i < n)
       rw (e, add-one j) (subst (λ (m : ℕ). earliest hearsIt (rowsFrom l j m) b ≡ x) k q)
 
   -- .. and may stop there
-  pub stop : (j : ℕ) (b x : Option Visit) → j < n → num l i 5 ≤ num l j 3 → earliest hearsIt (rowsFrom l j (n - j)) b ≡ x → b ≡ x
+  pub stop : (j : ℕ) (b x : Option Passage) → j < n → num l i 5 ≤ num l j 3 → earliest hearsIt (rowsFrom l j (n - j)) b ≡ x → b ≡ x
   stop j b x h e q =
       sym (none-holds hearsIt l j (n - j) b (λ t a c. too-late t (omega arith) (omega (arith, r .order j t a (omega arith))))) ∙ q
 
-  pub done : (j : ℕ) (b x : Option Visit) → n ≤ j → earliest hearsIt (rowsFrom l j (n - j)) b ≡ x → b ≡ x
+  pub done : (j : ℕ) (b x : Option Passage) → n ≤ j → earliest hearsIt (rowsFrom l j (n - j)) b ≡ x → b ≡ x
   unfolding rowsFrom
   done j b x h q = let k : n - j ≡ 0 = omega arith in subst (λ (m : ℕ). earliest hearsIt (rowsFrom l j m) b ≡ x) k q
 
 -- ## The message
 
-module _ (T : Table) (H : ℕ) (vs : List Visit) (v : Visit) (m : Option ℕ) where
+module _ (T : Table) (H : ℕ) (vs : List Passage) (v : Passage) (m : Option ℕ) where
   -- of an edge that does not receive
-  pub own-message : listens (visitArc T v) ≡ false → m ≡ channelOf (visitArc T v) → m ≡ messageIn T H vs v
+  pub own-message : listens (passageArc T v) ≡ false → m ≡ channelOf (passageArc T v) → m ≡ messageIn T H vs v
   unfolding messageIn
   own-message e q = rw e q
 
   -- of one that does
-  pub heard-message : (o : Option Visit) → listens (visitArc T v) ≡ true → o ≡ earliest (heardBy T H v) vs none → m ≡ carried T o → m ≡ messageIn T H vs v
+  pub heard-message : (o : Option Passage) → listens (passageArc T v) ≡ true → o ≡ earliest (heardBy T H v) vs none → m ≡ carried T o → m ≡ messageIn T H vs v
   unfolding messageIn
   heard-message o e p q = rw (e, ← p) q

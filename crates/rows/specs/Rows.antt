@@ -9,7 +9,7 @@ use lib.ListN.{length, getD}
 use Rattle.model.specs.declared.Action.the-variants.{Send}
 use Rattle.model.specs.Table.{size}
 use Rattle.model.specs.Places.{arcLength, arcAt, arcPlace, startOf, Valid, readOf, componentIn}
-use Rattle.model.specs.Schedule.{Visit, others, heardBy, endsSooner, sooner, messageIn}
+use Rattle.model.specs.Schedule.{Passage, others, heardBy, endsSooner, sooner, messageIn}
 
 -- number k of row i. A row has nine: component, edge, location, entry, ready, end, message (255: none), the place of the edge in the
 -- table's bytes, and its link: a row from which on, up to this one, no row ends later than this one.
@@ -21,8 +21,8 @@ abbrev pub messageOf : ℕ → Option ℕ
 messageOf m = cond (eqb m 255) none (some m)
 
 -- the passage of row i; clocks and variables at entry are not kept there
-abbrev pub rowVisit : List ℕ → ℕ → Visit
-rowVisit l i =
+abbrev pub rowPassage : List ℕ → ℕ → Passage
+rowPassage l i =
     record {
       component = num l i 0;
       edge = num l i 1;
@@ -33,11 +33,11 @@ rowVisit l i =
     }
 
 -- n rows from row i on
-unfoldable pub rowsFrom : List ℕ → ℕ → ℕ → List Visit
+unfoldable pub rowsFrom : List ℕ → ℕ → ℕ → List Passage
 rowsFrom l i zero = []
-rowsFrom l i (suc n) = rowVisit l i ∷ rowsFrom l (suc i) n
+rowsFrom l i (suc n) = rowPassage l i ∷ rowsFrom l (suc i) n
 
-abbrev pub rowsOf : List ℕ → ℕ → List Visit
+abbrev pub rowsOf : List ℕ → ℕ → List Passage
 rowsOf l n = rowsFrom l 0 n
 
 -- row i speaks of an edge of the table, and knows its place
@@ -69,7 +69,7 @@ pub record RowsPlaced (bs l : List ℕ) (n : ℕ) : Type 0 where
 -- after: each of n rows has the message that is found among the rows before, all else stays
 pub record MessagesPut (bs : List ℕ) (H n : ℕ) (before after : List ℕ) : Type 0 where
   pub same : length after ≡ length before
-  pub message : (i : ℕ) → i < n → messageOf (num after i 6) ≡ messageIn (readOf bs .table) H (rowsOf before n) (rowVisit before i)
+  pub message : (i : ℕ) → i < n → messageOf (num after i 6) ≡ messageIn (readOf bs .table) H (rowsOf before n) (rowPassage before i)
   pub rest : (i k : ℕ) → i < n → k < 9 → (k ≡ 6 → ⊥) → num after i k ≡ num before i k
   pub past : (j : ℕ) → n * 9 ≤ j → getD after j 0 ≡ getD before j 0
 
@@ -88,22 +88,22 @@ pub record RowKnown (bs l : List ℕ) (i : ℕ) : Type 0 where
   pub fits : i * 9 + 9 ≤ length l
 
 -- what `heardBy` asks of the numbers: "of another component .. starting after its ready and before H, and ending before its end"
-abbrev pub inTime : ℕ → Visit → Visit → Bool
+abbrev pub inTime : ℕ → Passage → Passage → Bool
 inTime H v s = others v s && (ltb (v .ready) (s .ready) && ltb (s .ready) H && ltb (s .end) (v .end))
 
 -- the best so far: a row of the first n
-abbrev pub bestOf : List ℕ → ℕ → ℕ → Option Visit
-bestOf l n b = cond (ltb b n) (some (rowVisit l b)) none
+abbrev pub bestOf : List ℕ → ℕ → ℕ → Option Passage
+bestOf l n b = cond (ltb b n) (some (rowPassage l b)) none
 
 -- row j is looked at for row i: one turn of `earliest`
-abbrev pub heardRow : List ℕ → List ℕ → ℕ → ℕ → ℕ → Option Visit → Option Visit
-heardRow bs l H i j b = cond (heardBy (readOf bs .table) H (rowVisit l i) (rowVisit l j)) (sooner b (rowVisit l j)) b
+abbrev pub heardRow : List ℕ → List ℕ → ℕ → ℕ → ℕ → Option Passage → Option Passage
+heardRow bs l H i j b = cond (heardBy (readOf bs .table) H (rowPassage l i) (rowPassage l j)) (sooner b (rowPassage l j)) b
 
 -- the best of later rows, or an earlier one where that does not end later: "on a tie" the first stays
-abbrev pub soonerFirst : Visit → Option Visit → Option Visit
+abbrev pub soonerFirst : Passage → Option Passage → Option Passage
 soonerFirst v none = some v
 soonerFirst v (some b) = cond (endsSooner b v) (some b) (some v)
 
 -- row j is looked at for row i after the rows behind it
-abbrev pub heardFirst : List ℕ → List ℕ → ℕ → ℕ → ℕ → Option Visit → Option Visit
-heardFirst bs l H i j b = cond (heardBy (readOf bs .table) H (rowVisit l i) (rowVisit l j)) (soonerFirst (rowVisit l j) b) b
+abbrev pub heardFirst : List ℕ → List ℕ → ℕ → ℕ → ℕ → Option Passage → Option Passage
+heardFirst bs l H i j b = cond (heardBy (readOf bs .table) H (rowPassage l i) (rowPassage l j)) (soonerFirst (rowPassage l j) b) b

@@ -7,8 +7,8 @@ ghost use lib.ListN.{length};
 ghost use lib.Seq.{sets};
 ghost use Rattle.model.specs.Window.{channelOf, listens};
 ghost use Rattle.model.specs.Places.{arcAt, readOf};
-ghost use Rattle.model.specs.Schedule.{visitArc, names, heardBy, endsSooner, sooner, earliest, messageIn};
-ghost use Rattle.rows.specs.Rows.{num, messageOf, rowVisit, rowsOf, RowsPlaced, MessagesPut, EdgeStands, RowKnown, Linked, inTime, bestOf, heardRow, soonerFirst, heardFirst};
+ghost use Rattle.model.specs.Schedule.{passageArc, names, heardBy, endsSooner, sooner, earliest, messageIn};
+ghost use Rattle.rows.specs.Rows.{num, messageOf, rowPassage, rowsOf, RowsPlaced, MessagesPut, EdgeStands, RowKnown, Linked, inTime, bestOf, heardRow, soonerFirst, heardFirst};
 use model::Action;
 
 fn wide(x: u8) -> u32
@@ -123,7 +123,7 @@ pub fn lists(h: &[u8], channel: u8) -> bool
 // Whether row i's edge receives.
 pub fn row_receives(s: &[u8], l: &[u32], i: usize) -> bool
     requires { ⌜ RowKnown (now s) (now l) i ⌝ }
-    ensures { λ r. ⌜ r ≡ listens (visitArc (readOf (now (s .entry)) .table) (rowVisit (now (l .entry)) i)) ⌝ }
+    ensures { λ r. ⌜ r ≡ listens (passageArc (readOf (now (s .entry)) .table) (rowPassage (now (l .entry)) i)) ⌝ }
 {
     let at = index(l, i, 7);
     let action = decoder::action_at(&s[at..]);
@@ -137,7 +137,7 @@ pub fn row_receives(s: &[u8], l: &[u32], i: usize) -> bool
 // The channel that row i's edge sends on (255: none).
 pub fn row_sent(s: &[u8], l: &[u32], i: usize) -> u8
     requires { ⌜ RowKnown (now s) (now l) i ⌝ }
-    ensures { λ r. ⌜ messageOf r ≡ channelOf (visitArc (readOf (now (s .entry)) .table) (rowVisit (now (l .entry)) i)) ⌝ }
+    ensures { λ r. ⌜ messageOf r ≡ channelOf (passageArc (readOf (now (s .entry)) .table) (rowPassage (now (l .entry)) i)) ⌝ }
 {
     let at = index(l, i, 7);
     sent(&s[at..])
@@ -146,7 +146,7 @@ pub fn row_sent(s: &[u8], l: &[u32], i: usize) -> u8
 // Whether row i's edge lists the channel (255: no).
 pub fn row_lists(s: &[u8], l: &[u32], i: usize, channel: u8) -> bool
     requires { ⌜ RowKnown (now s) (now l) i ⌝ }
-    ensures { λ r. ⌜ r ≡ names (visitArc (readOf (now (s .entry)) .table) (rowVisit (now (l .entry)) i)) (messageOf channel) ⌝ }
+    ensures { λ r. ⌜ r ≡ names (passageArc (readOf (now (s .entry)) .table) (rowPassage (now (l .entry)) i)) (messageOf channel) ⌝ }
 {
     let at = index(l, i, 7);
     lists(&s[at..], channel)
@@ -155,7 +155,7 @@ pub fn row_lists(s: &[u8], l: &[u32], i: usize, channel: u8) -> bool
 // Whether row j is of another component than row i, starts after its ready and before the tick h, and ends before its end.
 fn in_time(l: &[u32], i: usize, j: usize, h: u32) -> bool
     requires { ⌜ (i * 9 + 9 ≤ length (now l)) × (j * 9 + 9 ≤ length (now l)) ⌝ }
-    ensures { λ r. ⌜ r ≡ inTime h (rowVisit (now (l .entry)) i) (rowVisit (now (l .entry)) j) ⌝ }
+    ensures { λ r. ⌜ r ≡ inTime h (rowPassage (now (l .entry)) i) (rowPassage (now (l .entry)) j) ⌝ }
 {
     let ready = number(l, j, 4);
     let after = parts::both(number(l, i, 4) < ready, ready < h);
@@ -166,7 +166,7 @@ fn in_time(l: &[u32], i: usize, j: usize, h: u32) -> bool
 // Whether row i hears row j.
 pub fn hears(s: &[u8], l: &[u32], i: usize, j: usize, h: u32) -> bool
     requires { ⌜ RowKnown (now s) (now l) i × RowKnown (now s) (now l) j ⌝ }
-    ensures { λ r. ⌜ r ≡ heardBy (readOf (now (s .entry)) .table) h (rowVisit (now (l .entry)) i) (rowVisit (now (l .entry)) j) ⌝ }
+    ensures { λ r. ⌜ r ≡ heardBy (readOf (now (s .entry)) .table) h (rowPassage (now (l .entry)) i) (rowPassage (now (l .entry)) j) ⌝ }
 {
     if !in_time(l, i, j, h) {
         return false;
@@ -176,7 +176,7 @@ pub fn hears(s: &[u8], l: &[u32], i: usize, j: usize, h: u32) -> bool
 
 fn ends_sooner(l: &[u32], j: usize, b: usize) -> bool
     requires { ⌜ (j * 9 + 9 ≤ length (now l)) × (b * 9 + 9 ≤ length (now l)) ⌝ }
-    ensures { λ r. ⌜ r ≡ endsSooner (rowVisit (now (l .entry)) j) (rowVisit (now (l .entry)) b) ⌝ }
+    ensures { λ r. ⌜ r ≡ endsSooner (rowPassage (now (l .entry)) j) (rowPassage (now (l .entry)) b) ⌝ }
 {
     let end = number(l, j, 5);
     let other = number(l, b, 5);
@@ -187,7 +187,7 @@ fn ends_sooner(l: &[u32], j: usize, b: usize) -> bool
 // The row best so far (n where there is none), or row j where that ends sooner.
 fn nearer(l: &[u32], best: usize, j: usize, n: usize) -> usize
     requires { ⌜ (n * 9 ≤ length (now l)) × (j < n) ⌝ }
-    ensures { λ r. ⌜ bestOf (now (l .entry)) n r ≡ sooner (bestOf (now (l .entry)) n best) (rowVisit (now (l .entry)) j) ⌝ }
+    ensures { λ r. ⌜ bestOf (now (l .entry)) n r ≡ sooner (bestOf (now (l .entry)) n best) (rowPassage (now (l .entry)) j) ⌝ }
 {
     if n <= best {
         return j;
@@ -210,7 +210,7 @@ fn heard(s: &[u8], l: &[u32], best: usize, i: usize, j: usize, n: usize, h: u32)
 // The row best so far among later ones (n where there is none), or row j where that does not end sooner.
 fn nearer_before(l: &[u32], best: usize, j: usize, n: usize) -> usize
     requires { ⌜ (n * 9 ≤ length (now l)) × (j < n) ⌝ }
-    ensures { λ r. ⌜ bestOf (now (l .entry)) n r ≡ soonerFirst (rowVisit (now (l .entry)) j) (bestOf (now (l .entry)) n best) ⌝ }
+    ensures { λ r. ⌜ bestOf (now (l .entry)) n r ≡ soonerFirst (rowPassage (now (l .entry)) j) (bestOf (now (l .entry)) n best) ⌝ }
 {
     if n <= best {
         return j;
@@ -233,7 +233,7 @@ fn heard_before(s: &[u8], l: &[u32], best: usize, i: usize, j: usize, n: usize, 
 // The row before row i whose message it hears, n where there is none. Rows that ended before its entry are passed over by their links.
 fn seek_before(s: &[u8], l: &[u32], n: usize, i: usize, h: u32) -> usize
     requires { ⌜ RowsPlaced (now s) (now l) n × (i < n) ⌝ }
-    ensures { λ r. ⌜ bestOf (now (l .entry)) n r ≡ earliest (heardBy (readOf (now (s .entry)) .table) h (rowVisit (now (l .entry)) i)) (rowsOf (now (l .entry)) i) none ⌝ }
+    ensures { λ r. ⌜ bestOf (now (l .entry)) n r ≡ earliest (heardBy (readOf (now (s .entry)) .table) h (rowPassage (now (l .entry)) i)) (rowsOf (now (l .entry)) i) none ⌝ }
 {
     let entry = number(l, i, 3);
     let mut best = n;
@@ -249,7 +249,7 @@ fn seek_before(s: &[u8], l: &[u32], n: usize, i: usize, h: u32) -> usize
 // The row whose message row i hears, n where there is none. Rows that open at its end or later end too late.
 fn seek(s: &[u8], l: &[u32], n: usize, i: usize, h: u32) -> usize
     requires { ⌜ RowsPlaced (now s) (now l) n × (i < n) ⌝ }
-    ensures { λ r. ⌜ bestOf (now (l .entry)) n r ≡ earliest (heardBy (readOf (now (s .entry)) .table) h (rowVisit (now (l .entry)) i)) (rowsOf (now (l .entry)) n) none ⌝ }
+    ensures { λ r. ⌜ bestOf (now (l .entry)) n r ≡ earliest (heardBy (readOf (now (s .entry)) .table) h (rowPassage (now (l .entry)) i)) (rowsOf (now (l .entry)) n) none ⌝ }
 {
     let until = number(l, i, 5);
     let mut best = seek_before(s, l, n, i, h);
@@ -267,7 +267,7 @@ fn seek(s: &[u8], l: &[u32], n: usize, i: usize, h: u32) -> usize
 // The message of the passage of row i among n rows (255: none).
 pub fn message(s: &[u8], l: &[u32], n: usize, i: usize, h: u32) -> u8
     requires { ⌜ RowsPlaced (now s) (now l) n × (i < n) ⌝ }
-    ensures { λ r. ⌜ messageOf r ≡ messageIn (readOf (now (s .entry)) .table) h (rowsOf (now (l .entry)) n) (rowVisit (now (l .entry)) i) ⌝ }
+    ensures { λ r. ⌜ messageOf r ≡ messageIn (readOf (now (s .entry)) .table) h (rowsOf (now (l .entry)) n) (rowPassage (now (l .entry)) i) ⌝ }
 {
     if !row_receives(s, l, i) {
         return row_sent(s, l, i);

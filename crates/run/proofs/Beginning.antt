@@ -11,7 +11,7 @@ use mir.Val.{Fits}
 use lib.ListN.{length, getD, set, take, drop}
 use Rattle.model.specs.Reader.{byte, word}
 use Rattle.model.specs.Schedule.{own}
-use Rattle.model.specs.Checks.{visitAt}
+use Rattle.model.specs.Checks.{passageAt}
 use Rattle.model.specs.Program.{Range, noPart, partFrom, partOf}
 use Rattle.model.specs.Machine.{startNode, partBytes}
 use Rattle.model.proofs.Own.{all-then}
@@ -111,7 +111,7 @@ unfolding rowsFrom
 rows-long rows i zero = refl
 rows-long rows i (suc n) = ap suc (rows-long rows (suc i) n)
 
-row-there : (rows : List ℕ) (i n r : ℕ) → r < n → visitAt (rowsFrom rows i n) r .component ≡ num rows (i + r) 0
+row-there : (rows : List ℕ) (i n r : ℕ) → r < n → passageAt (rowsFrom rows i n) r .component ≡ num rows (i + r) 0
 unfolding rowsFrom
 row-there rows i zero r h = absurd (omega arith)
 row-there rows i (suc n) zero h = let e : i ≡ i + 0 = omega arith in ap (λ (k : ℕ). num rows k 0) e

@@ -13,8 +13,8 @@ use lib.IntN.{ℤ}
 use lib.ListN.{length, drop, drop-of-length-le}
 use lib.Seq.{drop-cons, drop-nil}
 use Rattle.model.specs.Lists.{any, from, below}
-use Rattle.model.specs.Schedule.{Visit, own}
-use Rattle.model.specs.Checks.{noVisit, visitAt}
+use Rattle.model.specs.Schedule.{Passage, own}
+use Rattle.model.specs.Checks.{noPassage, passageAt}
 use Rattle.model.specs.Machine.{Node}
 use Rattle.model.specs.Run.{Setting, readyOfNth, Run, Stand, sleeping, sending, listening, finishing, adding, working, taking, elsewhere, nowhere, standOf, due, someDue, overdue, late, lateNodes}
 use Rattle.model.proofs.Own.{own-here}
@@ -63,29 +63,29 @@ module _ (g : Setting) (now : ℕ) (r : Node) where
 -- ## The next passage
 
 -- the ready of the first of these
-abbrev firstReady : List Visit → Option ℕ
+abbrev firstReady : List Passage → Option ℕ
 firstReady [] = none
 firstReady (v ∷ vs) = some (v .ready)
 
 -- the ready of passage k is that of the first one from there on
-nth-first : (vs : List Visit) (k : ℕ) → readyOfNth vs k ≡ firstReady (drop k vs)
+nth-first : (vs : List Passage) (k : ℕ) → readyOfNth vs k ≡ firstReady (drop k vs)
 nth-first [] k = sym (ap firstReady (drop-nil k))
 nth-first (v ∷ vs) zero = refl
 nth-first (v ∷ vs) (suc k) = nth-first vs k
 
 -- the row knows it
-row-overdue : (g : Setting) (now : ℕ) (S : List Visit) (c k row : ℕ) → RowIs S c k row → now < never
+row-overdue : (g : Setting) (now : ℕ) (S : List Passage) (c k row : ℕ) → RowIs S c k row → now < never
     → overdue g (readyOfNth (own c S) k) now ≡ ltb (readyAt S row) now
 row-overdue g now S c k row R h =
     ap (λ (o : Option ℕ). overdue g o now) (nth-first (own c S) k ∙ ap firstReady (sym (R .rest))) ∙ go (ltb row (length S)) refl
   where
-    go : (t : Bool) → ltb row (length S) ≡ t → overdue g (firstReady (own c (drop row S))) now ≡ ltb (cond t (visitAt S row .ready) never) now
+    go : (t : Bool) → ltb row (length S) ≡ t → overdue g (firstReady (own c (drop row S))) now ≡ ltb (cond t (passageAt S row .ready) never) now
     go true e =
         let there : row < length S = ltb-true row (length S) e in
-        ap (λ (vs : List Visit). overdue g (firstReady vs) now)
-        (ap (own c) (drop-cons S row noVisit there) ∙ own-here c (visitAt S row) (drop (suc row) S) (R .there there))
+        ap (λ (vs : List Passage). overdue g (firstReady vs) now)
+        (ap (own c) (drop-cons S row noPassage there) ∙ own-here c (passageAt S row) (drop (suc row) S) (R .there there))
     go false e =
-        ap (λ (vs : List Visit). overdue g (firstReady (own c vs)) now) (drop-of-length-le S (ltb-false row (length S) e))
+        ap (λ (vs : List Passage). overdue g (firstReady (own c vs)) now) (drop-of-length-le S (ltb-false row (length S) e))
         ∙ sym (le-ltb never now (omega arith))
 
 -- ## All nodes

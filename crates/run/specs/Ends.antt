@@ -8,8 +8,8 @@ use Rattle.model.specs.Lists.{each, below, accepted}
 use Rattle.model.specs.Table.{Component}
 use Rattle.model.specs.Reader.{byte}
 use Rattle.model.specs.Places.{readOf}
-use Rattle.model.specs.Schedule.{Visit, light}
-use Rattle.model.specs.Checks.{planOf}
+use Rattle.model.specs.Schedule.{Passage, light}
+use Rattle.model.specs.Checks.{acceptedScheduleOf}
 use Rattle.model.specs.Machine.{startNode, partBytes}
 use Rattle.model.specs.Run.{Counts, Setting, startRun, run, observationBytes}
 use Rattle.rows.specs.Rows.{rowsOf}
@@ -66,8 +66,8 @@ pub record Started (table program rows : List ℕ) (n : ℕ) (l : List ℕ) (v :
 
 -- the rows are the schedule of an accepted table
 pub record Planned (table rows : List ℕ) (n : ℕ) : Type 0 where
-  pub passages : List Visit
-  pub plan : planOf (readOf table) ≡ accepted passages
+  pub passages : List Passage
+  pub acceptedSchedule : acceptedScheduleOf (readOf table) ≡ accepted passages
   pub count : n ≡ length passages
   pub listed : rowsOf rows n ≡ map light passages
   pub stand : RowsStand rows n

@@ -7,8 +7,8 @@ ghost use lib.ListN.{length};
 ghost use Rattle.model.specs.Lists.{any, below, accepted};
 ghost use Rattle.model.specs.Reader.{byte};
 ghost use Rattle.model.specs.Places.{Valid, readOf};
-ghost use Rattle.model.specs.Schedule.{Visit};
-ghost use Rattle.model.specs.Checks.{planOf};
+ghost use Rattle.model.specs.Schedule.{Passage};
+ghost use Rattle.model.specs.Checks.{acceptedScheduleOf};
 ghost use Rattle.model.specs.Program.{programBytes};
 ghost use Rattle.model.specs.Run.{settingOf, startRun};
 ghost use Rattle.table.specs.Directory.{startsOf};
@@ -187,7 +187,7 @@ fn run_program(
     out: &mut [u8],
 ) -> Ended
     requires { ⌜ Valid (now table) × (starts ≡ startsOf (now table) (byte (now table) 3)) × (now program ≡ programBytes (readOf (now table))) × Planned (now table) (now rows) n × (n * 32 ≤ length (now out)) × (length (now choices) ≤ 1000000) ⌝ }
-    ensures { λ e. ⌜ ((S : List Visit) → planOf (readOf (now (table .entry))) ≡ accepted S → EndsAs (settingOf (readOf (now (table .entry))) S) (now (choices .entry)) (now (out .entry)) e (now (out .exit))) ⌝ }
+    ensures { λ e. ⌜ ((S : List Passage) → acceptedScheduleOf (readOf (now (table .entry))) ≡ accepted S → EndsAs (settingOf (readOf (now (table .entry))) S) (now (choices .entry)) (now (out .entry)) e (now (out .exit))) ⌝ }
 {
     let mut l = [0u64; 256];
     let mut v = [0i16; 32];
@@ -217,7 +217,7 @@ pub fn run_table(
     out: &mut [u8],
 ) -> Ended
     requires { ⌜ Valid (now table) × (starts ≡ startsOf (now table) (byte (now table) 3)) × Planned (now table) (now rows) n × (n * 32 ≤ length (now out)) × (length (now choices) ≤ 1000000) ⌝ }
-    ensures { λ e. ⌜ ((S : List Visit) → planOf (readOf (now (table .entry))) ≡ accepted S → EndsAs (settingOf (readOf (now (table .entry))) S) (now (choices .entry)) (now (out .entry)) e (now (out .exit))) ⌝ }
+    ensures { λ e. ⌜ ((S : List Passage) → acceptedScheduleOf (readOf (now (table .entry))) ≡ accepted S → EndsAs (settingOf (readOf (now (table .entry))) S) (now (choices .entry)) (now (out .entry)) e (now (out .exit))) ⌝ }
 {
     let mut program = [0u8; 24576];
     let long = translator::write_program(table, starts, &mut program);

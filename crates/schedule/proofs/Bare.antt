@@ -7,7 +7,7 @@ use Prim.Native.Nat.{ℕ}
 use Rattle.model.specs.Lists.{any, only, first, Answer, accepted}
 use Rattle.model.specs.Table.{Table}
 use Rattle.model.specs.Window.{channelOf, listens}
-use Rattle.model.specs.Schedule.{Visit, visitArc, heardBy, endsSooner, sooner, earliest, carried, messageIn, withMessage, finished, light, bare}
+use Rattle.model.specs.Schedule.{Passage, passageArc, heardBy, endsSooner, sooner, earliest, carried, messageIn, withMessage, finished, light, bare}
 use Rattle.model.specs.Checks.{isSend, isReceive, meets, collides, mayHear, heardWell, unheard, two, crowded, faultOf, checked}
 use Rattle.model.specs.Calls.{verdictOf}
 use Rattle.model.proofs.Independence.{only-map}
@@ -15,7 +15,7 @@ use Rattle.model.proofs.Independence.{only-map}
 -- ## Messages
 
 -- the sooner of two is the same
-sooner-bare : (b : Option Visit) (s : Visit) → sooner (Option·map bare b) (bare s) ≡ Option·map bare (sooner b s)
+sooner-bare : (b : Option Passage) (s : Passage) → sooner (Option·map bare b) (bare s) ≡ Option·map bare (sooner b s)
 sooner-bare none s = refl
 sooner-bare (some b) s = go (endsSooner s b)
   where
@@ -24,7 +24,7 @@ sooner-bare (some b) s = go (endsSooner s b)
     go false = refl
 
 -- the earliest is the same
-earliest-bare : (p : Visit → Bool) → ((s : Visit) → p (bare s) ≡ p s) → (vs : List Visit) (b : Option Visit)
+earliest-bare : (p : Passage → Bool) → ((s : Passage) → p (bare s) ≡ p s) → (vs : List Passage) (b : Option Passage)
     → earliest p (map bare vs) (Option·map bare b) ≡ Option·map bare (earliest p vs b)
 earliest-bare p same [] b = refl
 earliest-bare p same (s ∷ vs) b = ap (earliest p (map bare vs)) (rw (same s) (go (p s))) ∙ earliest-bare p same vs (cond (p s) (sooner b s) b)
@@ -33,25 +33,25 @@ earliest-bare p same (s ∷ vs) b = ap (earliest p (map bare vs)) (rw (same s) (
     go true = sooner-bare b s
     go false = refl
 
-carried-bare : (T : Table) (o : Option Visit) → carried T (Option·map bare o) ≡ carried T o
+carried-bare : (T : Table) (o : Option Passage) → carried T (Option·map bare o) ≡ carried T o
 carried-bare T none = refl
 carried-bare T (some s) = refl
 
 -- a bare passage's message among bare passages is the passage's
-pub message-of-bare : (T : Table) (H : ℕ) (vs : List Visit) (v : Visit) → messageIn T H (map bare vs) (bare v) ≡ messageIn T H vs v
+pub message-of-bare : (T : Table) (H : ℕ) (vs : List Passage) (v : Passage) → messageIn T H (map bare vs) (bare v) ≡ messageIn T H vs v
 unfolding messageIn
 message-of-bare T H vs v =
-    ap (λ o. cond (listens (visitArc T v)) o (channelOf (visitArc T v)))
+    ap (λ o. cond (listens (passageArc T v)) o (channelOf (passageArc T v)))
     (ap (carried T) (earliest-bare (heardBy T H v) (λ s. refl) vs none) ∙ carried-bare T (earliest (heardBy T H v) vs none))
 
 -- bare passages, finished, are the passages finished, without clocks and variables
-pub finished-bare : (T : Table) (H : ℕ) (vs : List Visit) → finished T H (map bare vs) ≡ map light (finished T H vs)
+pub finished-bare : (T : Table) (H : ℕ) (vs : List Passage) → finished T H (map bare vs) ≡ map light (finished T H vs)
 unfolding finished
 finished-bare T H vs = go vs
   where
-    go : (ws : List Visit) → map (λ v. withMessage v (messageIn T H (map bare vs) v)) (map bare ws) ≡ map light (map (λ v. withMessage v (messageIn T H vs v)) ws)
+    go : (ws : List Passage) → map (λ v. withMessage v (messageIn T H (map bare vs) v)) (map bare ws) ≡ map light (map (λ v. withMessage v (messageIn T H vs v)) ws)
     go [] = refl
-    go (w ∷ ws) = ap₂ (λ (x : Visit) (xs : List Visit). x ∷ xs) (ap (withMessage (bare w)) (message-of-bare T H vs w)) (go ws)
+    go (w ∷ ws) = ap₂ (λ (x : Passage) (xs : List Passage). x ∷ xs) (ap (withMessage (bare w)) (message-of-bare T H vs w)) (go ws)
 
 -- ## Checks 10 to 12
 
@@ -68,30 +68,30 @@ first-map f p q e (x ∷ S) = rw (e x, first-map f p q e S) (go (q x))
     go true = refl
     go false = refl
 
-heard-light : (s : Visit) (rs : List Visit) → heardWell (light s) (map light rs) ≡ heardWell s rs
+heard-light : (s : Passage) (rs : List Passage) → heardWell (light s) (map light rs) ≡ heardWell s rs
 heard-light s [] = refl
 heard-light s (r ∷ []) = refl
 heard-light s (r ∷ q ∷ rs) = refl
 
-two-light : (ss : List Visit) → two (map light ss) ≡ two ss
+two-light : (ss : List Passage) → two (map light ss) ≡ two ss
 two-light [] = refl
 two-light (s ∷ []) = refl
 two-light (s ∷ t ∷ ss) = refl
 
-fault-light : (n : ℕ) (o : Option Visit) (a b : Answer (List Visit)) → verdictOf a ≡ verdictOf b → verdictOf (faultOf n (Option·map light o) a) ≡ verdictOf (faultOf n o b)
+fault-light : (n : ℕ) (o : Option Passage) (a b : Answer (List Passage)) → verdictOf a ≡ verdictOf b → verdictOf (faultOf n (Option·map light o) a) ≡ verdictOf (faultOf n o b)
 fault-light n none a b e = e
 fault-light n (some v) a b e = refl
 
-module _ (T : Table) (H : ℕ) (S : List Visit) where
-  pub collides-light : (s : Visit) → collides T H (map light S) (light s) ≡ collides T H S s
+module _ (T : Table) (H : ℕ) (S : List Passage) where
+  pub collides-light : (s : Passage) → collides T H (map light S) (light s) ≡ collides T H S s
   collides-light s = ap (λ b. isSend T H s && b) (any-map light (meets T H s) S)
 
-  pub unheard-light : (s : Visit) → unheard T H (map light S) (light s) ≡ unheard T H S s
+  pub unheard-light : (s : Passage) → unheard T H (map light S) (light s) ≡ unheard T H S s
   unheard-light s =
       ap (λ b. isSend T H s && not b)
       (ap (heardWell (light s)) (only-map light (λ r. mayHear T r s) S) ∙ heard-light s (only (λ r. mayHear T r s) S))
 
-  pub crowded-light : (r : Visit) → crowded T H (map light S) (light r) ≡ crowded T H S r
+  pub crowded-light : (r : Passage) → crowded T H (map light S) (light r) ≡ crowded T H S r
   crowded-light r =
       ap (λ b. isReceive T r && b)
       (ap two (only-map light (λ s. isSend T H s && mayHear T r s) S) ∙ two-light (only (λ s. isSend T H s && mayHear T r s) S))

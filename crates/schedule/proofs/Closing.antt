@@ -14,15 +14,15 @@ use lib.ListN.{length, getD, drop, drop-of-length-le}
 use lib.Seq.{drop-cons}
 use Rattle.model.specs.Lists.{snoc, Answer, accepted, refused, _after_}
 use Rattle.model.specs.Table.{Component, Table, noComponent, size, componentOf}
-use Rattle.model.specs.Schedule.{Visit, startEntry, opening, begin, next, closing, goOn, Plan}
+use Rattle.model.specs.Schedule.{Passage, startEntry, opening, begin, next, closing, goOn, OpenedSoFar}
 use Rattle.model.specs.Schedule.{opened as put}
-use Rattle.model.specs.Checks.{visitAt}
+use Rattle.model.specs.Checks.{passageAt}
 use Rattle.model.proofs.Soonest.{EndsBefore, closes-next}
 use Rattle.schedule.specs.Going.{Soonest}
 
 -- ## The openings at tick 0
 
-module _ (Cs : List Component) (room c : ℕ) (vs : List Visit) (x : Answer (List Visit)) (i : begin room c (drop c Cs) vs ≡ x) where
+module _ (Cs : List Component) (room c : ℕ) (vs : List Passage) (x : Answer (List Passage)) (i : begin room c (drop c Cs) vs ≡ x) where
   -- component c opens
   module _ (C : Component) (is : getD Cs c noComponent ≡ C) (there : c < length Cs) (left : 0 < room) where
     here : begin (suc (room - 1)) c (C ∷ drop (suc c) Cs) vs ≡ x
@@ -32,7 +32,7 @@ module _ (Cs : List Component) (room c : ℕ) (vs : List Visit) (x : Answer (Lis
         (subst (λ D. begin room c (D ∷ drop (suc c) Cs) vs ≡ x) is
         (subst (λ l. begin room c l vs ≡ x) (drop-cons Cs c noComponent there) i))
 
-    pub begin-turn : (w : Visit) → opening c C (startEntry C) ≡ accepted w → begin (room - 1) (c + 1) (drop (c + 1) Cs) (snoc vs w) ≡ x
+    pub begin-turn : (w : Passage) → opening c C (startEntry C) ≡ accepted w → begin (room - 1) (c + 1) (drop (c + 1) Cs) (snoc vs w) ≡ x
     unfolding begin
     begin-turn w e = rw (add-one c) (rw e at here)
 
@@ -47,11 +47,11 @@ module _ (Cs : List Component) (room c : ℕ) (vs : List Visit) (x : Answer (Lis
 
 -- ## The passage that closes next
 
-module _ (T : Table) (H : ℕ) (p : Plan) (ends : List ℕ) (c : ℕ) (s : Soonest ends (size T) c) (full : length (p .current) ≡ size T)
-    (each : (j : ℕ) → j < size T → (visitAt (p .current) j .component ≡ j) × (visitAt (p .current) j .end ≡ getD ends j 0)) where
+module _ (T : Table) (H : ℕ) (p : OpenedSoFar) (ends : List ℕ) (c : ℕ) (s : Soonest ends (size T) c) (full : length (p .current) ≡ size T)
+    (each : (j : ℕ) → j < size T → (passageAt (p .current) j .component ≡ j) × (passageAt (p .current) j .end ≡ getD ends j 0)) where
   -- the open passage of component c
-  abbrev v : Visit
-  v = visitAt (p .current) c
+  abbrev v : Passage
+  v = passageAt (p .current) c
 
   pub its-component : v .component ≡ c
   its-component = each c (s .there) .0
@@ -62,16 +62,16 @@ module _ (T : Table) (H : ℕ) (p : Plan) (ends : List ℕ) (c : ℕ) (s : Soone
   closes : next (p .current) ≡ some v
   closes = closes-next (p .current) c (omega (arith, s .there)) before
     where
-      above : (j : ℕ) → j < size T → (j ≡ c → ⊥) → v .end ≡ visitAt (p .current) j .end → (t : Bool) → ltb j c ≡ t → c < j
+      above : (j : ℕ) → j < size T → (j ≡ c → ⊥) → v .end ≡ passageAt (p .current) j .end → (t : Bool) → ltb j c ≡ t → c < j
       above j h n q true e = absurd (omega (arith, s .lowest j (ltb-true j c e), each j h, its-end))
       above j h n q false e = omega (arith, ltb-false j c e, n)
 
-      apart : (j : ℕ) → j < size T → (j ≡ c → ⊥) → Dec (v .end ≡ visitAt (p .current) j .end) → EndsBefore v (visitAt (p .current) j)
+      apart : (j : ℕ) → j < size T → (j ≡ c → ⊥) → Dec (v .end ≡ passageAt (p .current) j .end) → EndsBefore v (passageAt (p .current) j)
       apart j h n (yes q) = inr (q, omega (arith, each j h, its-component, above j h n q (ltb j c) refl))
       apart j h n (no q) = inl (omega (arith, s .least j h, each j h, its-end, q))
 
-      before : (j : ℕ) → j < length (p .current) → (j ≡ c → ⊥) → EndsBefore v (visitAt (p .current) j)
-      before j h n = apart j (omega arith) n (ℕ-discrete (v .end) (visitAt (p .current) j .end))
+      before : (j : ℕ) → j < length (p .current) → (j ≡ c → ⊥) → EndsBefore v (passageAt (p .current) j)
+      before j h n = apart j (omega arith) n (ℕ-discrete (v .end) (passageAt (p .current) j .end))
 
   -- it reaches the horizon
   pub stops : (room : ℕ) → H ≤ getD ends c 0 → goOn T H room p ≡ accepted (p .listed)
@@ -98,5 +98,5 @@ module _ (T : Table) (H : ℕ) (p : Plan) (ends : List ℕ) (c : ℕ) (s : Soone
       fails k e = on ∙ ap (λ a. a after λ w. goOn T H (room - 1) (put p w)) e
 
       -- w opens
-      pub goes : (w : Visit) → opening c (componentOf T c) (closing T H (p .listed) v) ≡ accepted w → goOn T H room p ≡ goOn T H (room - 1) (put p w)
+      pub goes : (w : Passage) → opening c (componentOf T c) (closing T H (p .listed) v) ≡ accepted w → goOn T H room p ≡ goOn T H (room - 1) (put p w)
       goes w e = on ∙ ap (λ a. a after λ w. goOn T H (room - 1) (put p w)) e

@@ -21,7 +21,7 @@ use Rattle.model.specs.Lists.{All, empty, more, orElse, Answer, accepted, refus
 use Rattle.model.specs.Table.{Arc, Component, sizesOf, noLocation, noArc, locationOf, arcOf}
 use Rattle.model.specs.Limits.{PairIn, ActionIn, ArcIn, ComponentIn}
 use Rattle.model.specs.Window.{Entry, Pick, readyOf, pastOf, dataHolds, considered, chosen, choice, inRange, newValue, updated, masked, aged, paired, leadsTo, leaves, receives, channelOf}
-use Rattle.model.specs.Schedule.{Visit, startEntry, visitOf, ranged, picked, opening}
+use Rattle.model.specs.Schedule.{Passage, startEntry, passageOf, ranged, picked, opening}
 use Rattle.model.proofs.Walk.{all-at}
 use Rattle.model.proofs.Own.{all-then}
 use Rattle.model.proofs.Choice.{choice-taken}
@@ -91,7 +91,7 @@ replicate-cut (suc m) (suc n) a h = ap (λ l. a ∷ l) (replicate-cut m n a (ome
 -- ## A component in the limits
 
 -- the answer with another entry
-abbrev pub recast : Entry → Answer Visit → Answer Visit
+abbrev pub recast : Entry → Answer Passage → Answer Passage
 recast at (accepted v) =
     accepted (record { component = v .component; edge = v .edge; entry = at; ready = v .ready; end = v .end; message = v .message })
 recast at (refused n c) = refused n c
@@ -121,15 +121,15 @@ module _ (channels : ℕ) (C : Component) (i : ComponentIn channels C) where
   unfolding opening
   opening-cut c e h = ap (picked c C (cut C e)) (choice-cut e h) ∙ go (choice C e) refl
     where
-      within : (p : Pick) (o : Option (List ℤ)) → ranged c (Option·map (take (C .variables)) o) (visitOf c (cut C e) p (channelOf (arcOf C (p .edge))))
-          ≡ recast (cut C e) (ranged c o (visitOf c e p (channelOf (arcOf C (p .edge)))))
+      within : (p : Pick) (o : Option (List ℤ)) → ranged c (Option·map (take (C .variables)) o) (passageOf c (cut C e) p (channelOf (arcOf C (p .edge))))
+          ≡ recast (cut C e) (ranged c o (passageOf c e p (channelOf (arcOf C (p .edge)))))
       within p none = refl
       within p (some vs) = refl
 
       go : (k : Option Pick) → choice C e ≡ k → picked c C (cut C e) k ≡ recast (cut C e) (picked c C e k)
       go none q = refl
       go (some p) q =
-          ap (λ o. ranged c o (visitOf c (cut C e) p (channelOf (arcOf C (p .edge))))) (updated-cut (C .variables) (e .values) (arc-updates (p .edge) (choice-taken C e q .there)))
+          ap (λ o. ranged c o (passageOf c (cut C e) p (channelOf (arcOf C (p .edge))))) (updated-cut (C .variables) (e .values) (arc-updates (p .edge) (choice-taken C e q .there)))
           ∙ within p (updated (arcOf C (p .edge) .updates) (e .values))
 
   -- the entry that an edge leads to from an entry cut is the entry that it leads to, cut

@@ -13,9 +13,9 @@ use lib.ListN.{length, drop, set, length-append}
 use lib.Seq.{sets, sets-eq}
 use Rattle.model.specs.Lists.{each, snoc, orElse}
 use Rattle.model.specs.declared.Verdict.the-variants.{Accepted}
-use Rattle.model.specs.Schedule.{Visit, sevenOf, light}
+use Rattle.model.specs.Schedule.{Passage, sevenOf, light}
 use Rattle.model.specs.Calls.{refusing, laid}
-use Rattle.rows.specs.Rows.{num, messageOf, rowVisit, rowsOf}
+use Rattle.rows.specs.Rows.{num, messageOf, rowPassage, rowsOf}
 use Rattle.rows.proofs.Grown.{rows-snoc}
 use Rattle.schedule.proofs.Grown.{length-rows}
 
@@ -30,7 +30,7 @@ number-of-message m = go (eqb m 255) refl
 -- the seven stores of a row
 pub seven-stored : (l out : List ℕ) (i k a b c d e f g : ℕ) → a ≡ num l i 0 → b ≡ num l i 1 → c ≡ num l i 2 → d ≡ num l i 3 → e ≡ num l i 4 → f ≡ num l i 5 → g ≡ num l i 6
     → set (set (set (set (set (set (set out (k * 7) a) (k * 7 + 1) b) (k * 7 + 2) c) (k * 7 + 3) d) (k * 7 + 4) e) (k * 7 + 5) f) (k * 7 + 6) g
-    ≡ sets out (k * 7) (sevenOf (rowVisit l i))
+    ≡ sets out (k * 7) (sevenOf (rowPassage l i))
 seven-stored l out i k a b c d e f g p q r s t u v = rw (p, q, r, s, t, u, v, number-of-message (num l i 6)) (simp towards-suc)
 
 -- a run of stores after a run of stores
@@ -45,38 +45,38 @@ each-snoc f (y ∷ xs) x = ap (λ l. f y ++ l) (each-snoc f xs x) ∙ sym (appen
 
 -- ## Seven numbers a passage
 
-pub fields-length : (P : List Visit) → length (each sevenOf P) ≡ length P * 7
+pub fields-length : (P : List Passage) → length (each sevenOf P) ≡ length P * 7
 unfolding each
 fields-length [] = refl
 fields-length (v ∷ P) = simp length-append (omega (arith, fields-length P))
 
 -- they say nothing of clocks and variables at entry
-pub fields-light : (P : List Visit) → each sevenOf (map light P) ≡ each sevenOf P
+pub fields-light : (P : List Passage) → each sevenOf (map light P) ≡ each sevenOf P
 unfolding each
 fields-light [] = refl
 fields-light (v ∷ P) = ap (λ (l : List ℕ). sevenOf v ++ l) (fields-light P)
 
 -- one passage more
-pub fields-more : (P : List Visit) (v : Visit) (k : ℕ) (out out₁ out₂ : List ℕ) → k ≡ length P → out₁ ≡ sets out 0 (each sevenOf P) → out₂ ≡ sets out₁ (k * 7) (sevenOf v)
+pub fields-more : (P : List Passage) (v : Passage) (k : ℕ) (out out₁ out₂ : List ℕ) → k ≡ length P → out₁ ≡ sets out 0 (each sevenOf P) → out₂ ≡ sets out₁ (k * 7) (sevenOf v)
     → out₂ ≡ sets out 0 (each sevenOf (snoc P v))
 fields-more P v k out out₁ out₂ n p q =
     let e : k * 7 ≡ 0 + length (each sevenOf P) = omega (arith, fields-length P) in
     q ∙ rw (p, e) (sym (sets-append (each sevenOf P) (sevenOf v) out 0)) ∙ ap (sets out 0) (sym (each-snoc sevenOf P v))
 
 -- all of them: what lies past them stays
-pub fields-laid : (P : List Visit) (k : ℕ) (out : List ℕ) → k ≡ length P → k * 7 ≤ length out → sets out 0 (each sevenOf P) ≡ each sevenOf P ++ drop (k * 7) out
+pub fields-laid : (P : List Passage) (k : ℕ) (out : List ℕ) → k ≡ length P → k * 7 ≤ length out → sets out 0 (each sevenOf P) ≡ each sevenOf P ++ drop (k * 7) out
 fields-laid P k out n h =
     let z : 0 + length (each sevenOf P) ≡ k * 7 = omega (arith, fields-length P) in
     sets-eq (each sevenOf P) out 0 (omega arith) ∙ ap (λ m. each sevenOf P ++ drop m out) z
 
 -- a result that fits is laid over the front, one that does not is refused
-pub laid-fits : (P : List Visit) (k : ℕ) (listed lent : List ℕ) → k ≡ length P → listed ≡ each sevenOf P → k * 7 ≤ length lent
+pub laid-fits : (P : List Passage) (k : ℕ) (listed lent : List ℕ) → k ≡ length P → listed ≡ each sevenOf P → k * 7 ≤ length lent
     → laid (length P) (each sevenOf P) lent ≡ record { verdict = Accepted; size = k; lent = listed ++ drop (k * 7) lent }
 laid-fits P k listed lent e f h =
     let m : k * 7 ≡ length (each sevenOf P) = omega (arith, fields-length P) in
     rw (le-leb (length (each sevenOf P)) (length lent) (omega arith), e, f, ← e, m)
 
-pub laid-short : (P : List Visit) (k : ℕ) (lent : List ℕ) → k ≡ length P → length lent < k * 7 → laid (length P) (each sevenOf P) lent ≡ refusing 13 255 lent
+pub laid-short : (P : List Passage) (k : ℕ) (lent : List ℕ) → k ≡ length P → length lent < k * 7 → laid (length P) (each sevenOf P) lent ≡ refusing 13 255 lent
 laid-short P k lent e h =
     let n : length lent < length (each sevenOf P) = omega (arith, fields-length P) in
     rw (lt-leb (length (each sevenOf P)) (length lent) n)
@@ -84,10 +84,10 @@ laid-short P k lent e h =
 -- ## Rows
 
 -- one row more
-pub fields-turn : (l out out₁ out₂ : List ℕ) (i : ℕ) → out₁ ≡ sets out 0 (each sevenOf (rowsOf l i)) → out₂ ≡ sets out₁ (i * 7) (sevenOf (rowVisit l i))
+pub fields-turn : (l out out₁ out₂ : List ℕ) (i : ℕ) → out₁ ≡ sets out 0 (each sevenOf (rowsOf l i)) → out₂ ≡ sets out₁ (i * 7) (sevenOf (rowPassage l i))
     → out₂ ≡ sets out 0 (each sevenOf (rowsOf l (i + 1)))
 fields-turn l out out₁ out₂ i p q =
-    fields-more (rowsOf l i) (rowVisit l i) i out out₁ out₂ (sym (length-rows l 0 i)) p q
+    fields-more (rowsOf l i) (rowPassage l i) i out out₁ out₂ (sym (length-rows l 0 i)) p q
     ∙ ap (λ P. sets out 0 (each sevenOf P)) (sym (rows-snoc l i))
 
 pub fields-done : (l out : List ℕ) (n : ℕ) → n * 7 ≤ length out → sets out 0 (each sevenOf (rowsOf l n)) ≡ each sevenOf (rowsOf l n) ++ drop (n * 7) out

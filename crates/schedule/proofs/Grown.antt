@@ -14,9 +14,9 @@ use Rattle.model.specs.Table.{size, arcOf}
 use Rattle.model.specs.Limits.{ComponentIn}
 use Rattle.model.specs.Window.{channelOf}
 use Rattle.model.specs.Places.{startOf, readOf, componentIn}
-use Rattle.model.specs.Schedule.{Visit, visitOf, opening, Plan, bare}
+use Rattle.model.specs.Schedule.{Passage, passageOf, opening, OpenedSoFar, bare}
 use Rattle.model.specs.Schedule.{opened as put}
-use Rattle.model.specs.Checks.{visitAt}
+use Rattle.model.specs.Checks.{passageAt}
 use Rattle.model.proofs.Own.{at-set, at-snoc}
 use Rattle.model.proofs.Opening.{opened}
 use Rattle.window.specs.declared.Entry.{Entry}
@@ -24,9 +24,9 @@ use Rattle.window.specs.declared.Opening.{Opening}
 use Rattle.window.specs.declared.Opening.the-variants.{Opens, Fails}
 use Rattle.window.specs.declared.TakenEdge.{TakenEdge}
 use Rattle.window.specs.Views.{entryOf, openingOf, Placed}
-use Rattle.rows.specs.Rows.{num, rowVisit, rowsFrom, rowsOf, RowsPlaced}
+use Rattle.rows.specs.Rows.{num, rowPassage, rowsFrom, rowsOf, RowsPlaced}
 use Rattle.rows.proofs.Stored.{row-others, row-written}
-use Rattle.rows.proofs.Grown.{rows-added, visit-added, placed-added}
+use Rattle.rows.proofs.Grown.{rows-added, passage-added, placed-added}
 use Rattle.schedule.specs.declared.Node.{Node}
 use Rattle.schedule.specs.Going.{cut, keptOf, Soonest, Stands, Open, blank, Going, fresh}
 use Rattle.schedule.proofs.Cut.{recast, opening-cut, opens-cut}
@@ -34,9 +34,9 @@ use Rattle.schedule.proofs.Cut.{recast, opening-cut, opens-cut}
 -- ## What opens
 
 -- the passage over that edge, entered there
-abbrev pub made : List ℕ → ℕ → Entry → TakenEdge → Visit
+abbrev pub made : List ℕ → ℕ → Entry → TakenEdge → Passage
 made bs c at t =
-    visitOf c (cut (componentIn bs c) (entryOf at)) (record { edge = t .edge; ready = t .ready; end = t .end }) (channelOf (arcOf (componentIn bs c) (t .edge)))
+    passageOf c (cut (componentIn bs c) (entryOf at)) (record { edge = t .edge; ready = t .ready; end = t .end }) (channelOf (arcOf (componentIn bs c) (t .edge)))
 
 module _ (bs : List ℕ) (c : ℕ) {channels : ℕ} (i : ComponentIn channels (componentIn bs c)) (at : Entry) (there : at .location < length (componentIn bs c .locations))
     (r : Opening) (e : openingOf c (componentIn bs c) (entryOf at) r ≡ opening c (componentIn bs c) (entryOf at)) where
@@ -76,14 +76,14 @@ map-snoc f [] x = refl
 map-snoc f (y ∷ xs) x = ap (λ l. f y ∷ l) (map-snoc f xs x)
 
 -- the row of an open passage
-pub stands : {bs l : List ℕ} {n c : ℕ} {node : Node} {until : ℕ} {v : Visit} → Open bs l n c node until v → Stands l n c node until
+pub stands : {bs l : List ℕ} {n c : ℕ} {node : Node} {until : ℕ} {v : Passage} → Open bs l n c node until v → Stands l n c node until
 stands {bs} {l} {n} {c} {node} {until} {v} o =
     record {
       row = o .row;
-      component = ap (λ (x : Visit). x .component) (o .shown) ∙ o .component;
+      component = ap (λ (x : Passage). x .component) (o .shown) ∙ o .component;
       place = o .place;
-      tick = ap (λ (x : Visit). x .entry .tick) (o .shown) ∙ ap (λ (x : Rattle.model.specs.Window.Entry). x .tick) (o .entry);
-      end = ap (λ (x : Visit). x .end) (o .shown) ∙ o .end;
+      tick = ap (λ (x : Passage). x .entry .tick) (o .shown) ∙ ap (λ (x : Rattle.model.specs.Window.Entry). x .tick) (o .entry);
+      end = ap (λ (x : Passage). x .end) (o .shown) ∙ o .end;
       young = o .young;
     }
 
@@ -106,8 +106,8 @@ module _ (bs l : List ℕ) (n back c : ℕ) (at : Entry) (t : TakenEdge) (fits :
     pub new-end : num l′ n 5 ≡ at .tick + t .end
     new-end = new 5 (omega arith)
 
-    same-visit : (j : ℕ) → j < n → rowVisit l′ j ≡ rowVisit l j
-    same-visit j h =
+    same-passage : (j : ℕ) → j < n → rowPassage l′ j ≡ rowPassage l j
+    same-passage j h =
         rw (
           same j 0 h (omega arith),
           same j 1 h (omega arith),
@@ -119,20 +119,20 @@ module _ (bs l : List ℕ) (n back c : ℕ) (at : Entry) (t : TakenEdge) (fits :
         )
 
     -- the open passages stay
-    pub still : (d : ℕ) (node : Node) (until : ℕ) (v : Visit) → Open bs l n d node until v → Open bs l′ (n + 1) d node until v
+    pub still : (d : ℕ) (node : Node) (until : ℕ) (v : Passage) → Open bs l n d node until v → Open bs l′ (n + 1) d node until v
     still d node until v o =
         record {
           component = o .component;
           entry = o .entry;
           end = o .end;
           row = omega (arith, o .row);
-          shown = same-visit (node .row) (o .row) ∙ o .shown;
+          shown = same-passage (node .row) (o .row) ∙ o .shown;
           place = same (node .row) 7 (o .row) (omega arith) ∙ o .place;
           young = o .young;
         }
 
-    new-visit : rowVisit l′ n ≡ bare (made bs c at t)
-    new-visit = rw is (visit-added l n c (t .edge) (at .location) (at .tick) (at .tick + t .ready) (at .tick + t .end) (t .place) back fits)
+    new-passage : rowPassage l′ n ≡ bare (made bs c at t)
+    new-passage = rw is (passage-added l n c (t .edge) (at .location) (at .tick) (at .tick + t .ready) (at .tick + t .end) (t .place) back fits)
 
     -- the passage is open
     pub opened-now : All (λ x. x ≤ at .tick) (at .clocks)
@@ -143,13 +143,13 @@ module _ (bs l : List ℕ) (n back c : ℕ) (at : Entry) (t : TakenEdge) (fits :
           entry = refl;
           end = refl;
           row = omega arith;
-          shown = new-visit;
+          shown = new-passage;
           place = new 7 (omega arith);
           young = y;
         }
 
     -- the rows are the passages
-    pub rows-now : (vs : List Visit) → rowsOf l n ≡ map bare vs → rowsOf l′ (n + 1) ≡ map bare (snoc vs (made bs c at t))
+    pub rows-now : (vs : List Passage) → rowsOf l n ≡ map bare vs → rowsOf l′ (n + 1) ≡ map bare (snoc vs (made bs c at t))
     rows-now vs e =
         rw is (rows-added l n c (t .edge) (at .location) (at .tick) (at .tick + t .ready) (at .tick + t .end) (t .place) back fits)
         ∙ ap (λ xs. snoc xs (bare (made bs c at t))) e
@@ -200,7 +200,7 @@ module _ (bs l : List ℕ) (n back c : ℕ) (at : Entry) (t : TakenEdge) (fits :
       (opened-now bs l n back c at t fits l′ is young)
 
   -- the others are kept
-  others : (d : ℕ) (v : Visit) → (d ≡ c → ⊥) → Open bs l n d (getD nodes d blank) (getD ends d 0) v
+  others : (d : ℕ) (v : Passage) → (d ≡ c → ⊥) → Open bs l n d (getD nodes d blank) (getD ends d 0) v
       → Open bs l′ (n + 1) d (getD (keeps nodes n c at t) d blank) (getD (until ends c at t) d 0) v
   others d v e k =
       rw (getD-set-other nodes c d (keptOf at t n) blank e, getD-set-other ends c d (at .tick + t .end) 0 e)
@@ -212,7 +212,7 @@ module _ (bs l : List ℕ) (n back c : ℕ) (at : Entry) (t : TakenEdge) (fits :
       below-more (λ (j : ℕ). num l′ j 3 ≡ 0) n (λ j h. same bs l n back c at t fits l′ is j 3 h (omega arith) ∙ first j h) (new-entry bs l n back c at t fits l′ is ∙ e)
 
   -- one of the openings at tick 0
-  pub begun-on : (vs : List Visit) → Going bs l n n nodes ends (fresh vs) → n ≡ c → back ≡ n → at .tick ≡ 0 → ((j : ℕ) → j < n → num l j 3 ≡ 0)
+  pub begun-on : (vs : List Passage) → Going bs l n n nodes ends (fresh vs) → n ≡ c → back ≡ n → at .tick ≡ 0 → ((j : ℕ) → j < n → num l j 3 ≡ 0)
       → Going bs l′ (n + 1) (n + 1) (keeps nodes n c at t) (until ends c at t) (fresh (snoc vs (made bs c at t)))
   begun-on vs g nc z e first =
       record {
@@ -222,14 +222,14 @@ module _ (bs l : List ℕ) (n back c : ℕ) (at : Entry) (t : TakenEdge) (fits :
         each = λ k h. at-snoc vs c (made bs c at t) (omega (arith, g .full))
             (λ d v. Open bs l′ (n + 1) d (getD (keeps nodes n c at t) d blank) (getD (until ends c at t) d 0) v)
             here
-            (λ d b. others d (visitAt vs d) (λ q. omega arith) (g .each d (omega arith)))
+            (λ d b. others d (passageAt vs d) (λ q. omega arith) (g .each d (omega arith)))
             k
             (omega arith);
         entered = λ i d a b. omega (arith, first-on e first i a);
       }
 
   -- the passage that closed first is replaced
-  pub going-on : {k : ℕ} {q : Plan} → Going bs l n k nodes ends q → Soonest ends k c → at .tick ≡ getD ends c 0 → back ≤ n
+  pub going-on : {k : ℕ} {q : OpenedSoFar} → Going bs l n k nodes ends q → Soonest ends k c → at .tick ≡ getD ends c 0 → back ≤ n
       → ((i : ℕ) → back ≤ i → i < n → num l i 5 ≤ at .tick + t .end)
       → Going bs l′ (n + 1) k (keeps nodes n c at t) (until ends c at t) (put q (made bs c at t))
   going-on {k} {q} g s e among skips =
@@ -241,7 +241,7 @@ module _ (bs l : List ℕ) (n back c : ℕ) (at : Entry) (t : TakenEdge) (fits :
             (λ d v. Open bs l′ (n + 1) d (getD (keeps nodes n c at t) d blank) (getD (until ends c at t) d 0) v)
             here
             d
-            (λ u. others d (visitAt (q .current) d) u (g .each d h));
+            (λ u. others d (passageAt (q .current) d) u (g .each d h));
         entered = λ i d a b. omega (arith, now g s e i a, later s e d b);
       }
     where

@@ -11,13 +11,13 @@ use Rattle.model.specs.Table.{Arc, sizesOf, size}
 use Rattle.model.specs.Limits.{ComponentIn}
 use Rattle.model.specs.Window.{leadsTo, leaves}
 use Rattle.model.specs.Places.{arcAt, readOf, componentIn}
-use Rattle.model.specs.Schedule.{visitArc, messageIn}
+use Rattle.model.specs.Schedule.{passageArc, messageIn}
 use Rattle.model.proofs.Located.{valid-in}
 use Rattle.parts.proofs.Skim.{tail}
 use Rattle.window.specs.declared.Entry.{Entry}
 use Rattle.window.specs.Views.{ArcReady, entryOf}
 use Rattle.window.proofs.Ready.{valid-ready}
-use Rattle.rows.specs.Rows.{num, messageOf, rowVisit, rowsOf, RowsPlaced, RowPlaced, RowKnown}
+use Rattle.rows.specs.Rows.{num, messageOf, rowPassage, rowsOf, RowsPlaced, RowPlaced, RowKnown}
 use Rattle.rows.proofs.Placed.{known-bytes, row-known, at-within, at-arc}
 use Rattle.schedule.specs.declared.Node.{Node}
 use Rattle.schedule.specs.Going.{Stands}
@@ -34,7 +34,7 @@ module _ (bs l : List ℕ) (n c : ℕ) (node : Node) (tick : ℕ) (b : (j : ℕ)
   place-within = at-within bs l (node .row) (node .place) b known (sym (s .place))
 
   -- the bytes there are its edge
-  pub place-arc : arcAt (take (length bs - node .place) (drop (node .place) bs)) ≡ visitArc (readOf bs .table) (rowVisit l (node .row))
+  pub place-arc : arcAt (take (length bs - node .place) (drop (node .place) bs)) ≡ passageArc (readOf bs .table) (rowPassage l (node .row))
   place-arc = at-arc bs l (node .row) (node .place) b known (sym (s .place))
 
   pub place-ready : ArcReady (take (length bs - node .place) (drop (node .place) bs))
@@ -56,8 +56,8 @@ module _ (bs l : List ℕ) (n c : ℕ) (node : Node) (tick : ℕ) (b : (j : ℕ)
   pub leads-there : (m : Option ℕ) → leadsTo (arcAt (take (length bs - node .place) (drop (node .place) bs))) m < length (componentIn bs c .locations)
   leads-there m =
       subst (λ (a : Arc). leadsTo a m < length (componentIn bs c .locations)) (sym place-arc)
-      (subst (λ (k : ℕ). leadsTo (visitArc (readOf bs .table) (rowVisit l (node .row))) m < length (componentIn bs k .locations)) (s .component)
-      (leads-in (sizesOf (readOf bs .table .channels) (componentIn bs (num l (node .row) 0))) (visitArc (readOf bs .table) (rowVisit l (node .row))) m
+      (subst (λ (k : ℕ). leadsTo (passageArc (readOf bs .table) (rowPassage l (node .row))) m < length (componentIn bs k .locations)) (s .component)
+      (leads-in (sizesOf (readOf bs .table .channels) (componentIn bs (num l (node .row) 0))) (passageArc (readOf bs .table) (rowPassage l (node .row))) m
       (arc-in (readOf bs .table .channels) (componentIn bs (num l (node .row) 0)) (valid-in bs (known-bytes bs b) (r .valid) (num l (node .row) 0) (placed .present)) (num l (node .row) 1) (placed .there))))
 
   module _ (H m : ℕ) (at : Entry) (is : entryOf at ≡ leaves (arcAt (take (length bs - node .place) (drop (node .place) bs))) (messageOf m) tick (entryOf (node .entry))) where
@@ -66,6 +66,6 @@ module _ (bs l : List ℕ) (n c : ℕ) (node : Node) (tick : ℕ) (b : (j : ℕ)
     location-there =
         subst (λ (k : ℕ). k < length (componentIn bs c .locations)) (sym (ap (λ (e : Rattle.model.specs.Window.Entry). e .location) is)) (leads-there (messageOf m))
 
-    pub leaves-row : messageOf m ≡ messageIn (readOf bs .table) H (rowsOf l n) (rowVisit l (node .row))
-        → entryOf at ≡ leaves (visitArc (readOf bs .table) (rowVisit l (node .row))) (messageIn (readOf bs .table) H (rowsOf l n) (rowVisit l (node .row))) tick (entryOf (node .entry))
+    pub leaves-row : messageOf m ≡ messageIn (readOf bs .table) H (rowsOf l n) (rowPassage l (node .row))
+        → entryOf at ≡ leaves (passageArc (readOf bs .table) (rowPassage l (node .row))) (messageIn (readOf bs .table) H (rowsOf l n) (rowPassage l (node .row))) tick (entryOf (node .entry))
     leaves-row e = is ∙ ap₂ (λ (a : Arc) (k : Option ℕ). leaves a k tick (entryOf (node .entry))) place-arc e

@@ -14,16 +14,16 @@ use Rattle.model.specs.Lists.{All, empty, more, snoc, Answer, accepted, refused
 use Rattle.model.specs.Table.{Component, size, arcOf}
 use Rattle.model.specs.Window.{leaves}
 use Rattle.model.specs.Places.{startOf, Valid, readOf, componentIn}
-use Rattle.model.specs.Schedule.{Visit, visitArc, messageIn, startEntry, opening, closing, begin, goOn, Plan, bare}
+use Rattle.model.specs.Schedule.{Passage, passageArc, messageIn, startEntry, opening, closing, begin, goOn, OpenedSoFar, bare}
 use Rattle.model.specs.Schedule.{opened as put}
-use Rattle.model.specs.Checks.{visitAt}
+use Rattle.model.specs.Checks.{passageAt}
 use Rattle.model.specs.Calls.{verdictOf}
 use Rattle.window.specs.declared.Entry.{Entry}
 use Rattle.window.specs.declared.Opening.{Opening}
 use Rattle.window.specs.declared.Opening.the-variants.{Opens, Fails}
 use Rattle.window.specs.declared.TakenEdge.{TakenEdge}
 use Rattle.window.specs.Views.{entryOf, openingOf, Placed}
-use Rattle.rows.specs.Rows.{num, rowVisit, rowsFrom, rowsOf, RowsPlaced}
+use Rattle.rows.specs.Rows.{num, rowPassage, rowsFrom, rowsOf, RowsPlaced}
 use Rattle.schedule.specs.declared.Node.{Node}
 use Rattle.schedule.specs.declared.Turn.{Turn}
 use Rattle.schedule.specs.declared.Scheduled.{Scheduled}
@@ -42,7 +42,7 @@ zeros-young (suc n) t = more {x = 0} (omega arith) (zeros-young n t)
 
 -- components below c have opened
 pub record Beginning (bs l : List ℕ) (c : ℕ) (nodes : List Node) (ends : List ℕ) : Type 0 where
-  pub first : List Visit
+  pub first : List Passage
   pub begins : begin (1024 - c) c (drop c (readOf bs .table .components)) first ≡ begun bs
   pub going : Going bs l c c nodes ends (fresh first)
   pub zero : (j : ℕ) → j < c → num l j 3 ≡ 0
@@ -128,14 +128,14 @@ module _ (bs l : List ℕ) (b : (j : ℕ) → Fits w8 (getD bs j 0)) (c : ℕ) (
 
 -- so many passages have opened
 pub record Progress (bs l : List ℕ) (n : ℕ) (nodes : List Node) (ends : List ℕ) : Type 0 where
-  pub plan : Plan
-  pub same : goOn (readOf bs .table) (readOf bs .horizon) (1024 - n) plan ≡ unfinished bs
-  pub going : Going bs l n (size (readOf bs .table)) nodes ends plan
+  pub soFar : OpenedSoFar
+  pub same : goOn (readOf bs .table) (readOf bs .horizon) (1024 - n) soFar ≡ unfinished bs
+  pub going : Going bs l n (size (readOf bs .table)) nodes ends soFar
 
 pub progress-first : (bs l : List ℕ) (n : ℕ) (nodes : List Node) (ends : List ℕ) → Started bs l nodes ends → n ≡ size (readOf bs .table) → Progress bs l n nodes ends
 progress-first bs l n nodes ends s e =
     record {
-      plan = fresh (s .first);
+      soFar = fresh (s .first);
       same = rw e (sym (ap (λ a. a after λ vs. goOn (readOf bs .table) (readOf bs .horizon) (1024 - size (readOf bs .table)) (fresh vs)) (s .begins)));
       going = subst (λ m. Going bs l m (size (readOf bs .table)) nodes ends (fresh (s .first))) (sym e) (s .going);
     }
@@ -149,7 +149,7 @@ pub listed-is : (r : Scheduled) (n : ℕ) → r .verdict ≡ Accepted → r .cou
 listed-is r n p q = rw (← p, ← q)
 
 -- the answer of a loop that ends
-pub listed-accepted : {bs l : List ℕ} {n : ℕ} {a : Answer (List Visit)} (S : List Visit) → a ≡ accepted S → rowsOf l n ≡ map bare S → RowsPlaced bs l n
+pub listed-accepted : {bs l : List ℕ} {n : ℕ} {a : Answer (List Passage)} (S : List Passage) → a ≡ accepted S → rowsOf l n ≡ map bare S → RowsPlaced bs l n
     → Listed bs a (record { verdict = Accepted; count = n }) l
 listed-accepted {bs} {l} {n} {a} S e r p =
     record {
@@ -160,10 +160,10 @@ listed-accepted {bs} {l} {n} {a} S e r p =
       none = λ k c q. (let z : _≡_ {A = ℕ} 0 1 = cc in absurd (omega arith));
     }
   where
-    same-list : {W : List Visit} → a ≡ accepted W → S ≡ W
+    same-list : {W : List Passage} → a ≡ accepted W → S ≡ W
     same-list q = cc
 
-pub listed-refused : {bs l : List ℕ} {n : ℕ} {a : Answer (List Visit)} (r : Scheduled) (k c : ℕ) → a ≡ refused k c → RowsPlaced bs l n → r .verdict ≡ Refused k c → r .count ≡ 0
+pub listed-refused : {bs l : List ℕ} {n : ℕ} {a : Answer (List Passage)} (r : Scheduled) (k c : ℕ) → a ≡ refused k c → RowsPlaced bs l n → r .verdict ≡ Refused k c → r .count ≡ 0
     → Listed bs a r l
 listed-refused {bs} {l} {n} {a} r k c e p v z =
     record {
@@ -185,14 +185,14 @@ module _ (bs l : List ℕ) (b : (j : ℕ) → Fits w8 (getD bs j 0)) (n : ℕ) (
   abbrev C : Component
   C = componentIn bs c
 
-  abbrev v : Visit
-  v = visitAt (g .plan .current) c
+  abbrev v : Passage
+  v = passageAt (g .soFar .current) c
 
   -- its open passage
   open-now : Open bs l n c (getD nodes c blank) (getD ends c 0) v
   open-now = g .going .each c (s .there)
 
-  ends-are : (j : ℕ) → j < size T → (visitAt (g .plan .current) j .component ≡ j) × (visitAt (g .plan .current) j .end ≡ getD ends j 0)
+  ends-are : (j : ℕ) → j < size T → (passageAt (g .soFar .current) j .component ≡ j) × (passageAt (g .soFar .current) j .end ≡ getD ends j 0)
   ends-are j h = let o = g .going .each j h in (o .component, o .end)
 
   -- it goes with its row
@@ -202,40 +202,40 @@ module _ (bs l : List ℕ) (b : (j : ℕ) → Fits w8 (getD bs j 0)) (n : ℕ) (
   -- it reaches the horizon
   pub loop-stops : H ≤ getD ends c 0 → Listed bs (unfinished bs) (record { verdict = Accepted; count = n }) l
   loop-stops h =
-      listed-accepted (g .plan .listed) (sym (g .same) ∙ stops T H (g .plan) ends c s (g .going .full) ends-are (1024 - n) h) (g .going .rows) (g .going .placed)
+      listed-accepted (g .soFar .listed) (sym (g .same) ∙ stops T H (g .soFar) ends c s (g .going .full) ends-are (1024 - n) h) (g .going .rows) (g .going .placed)
 
   module _ (below : getD ends c 0 < H) where
     -- 7
     pub loop-full : 1024 ≤ n → (r : Scheduled) → r .verdict ≡ Refused 7 c → r .count ≡ 0 → Listed bs (unfinished bs) r l
     loop-full h r p q =
-        listed-refused r 7 c (sym (g .same) ∙ no-room T H (g .plan) ends c s (g .going .full) ends-are below (1024 - n) (omega arith)) (g .going .placed) p q
+        listed-refused r 7 c (sym (g .same) ∙ no-room T H (g .soFar) ends c s (g .going .full) ends-are below (1024 - n) (omega arith)) (g .going .placed) p q
 
     module _ (room : n < 1024) (t : Turn) (u : Turned bs l n c H (getD nodes c blank) (getD ends c 0) t) where
-      its-arc : arcOf C (v .edge) ≡ visitArc T v
+      its-arc : arcOf C (v .edge) ≡ passageArc T v
       its-arc = ap (λ k. arcOf (componentIn bs k) (v .edge)) (sym (open-now .component))
 
       edge-there : v .edge < length (C .arcs)
       edge-there =
           let i = getD nodes c blank .row in
           subst (λ k. v .edge < length (componentIn bs k .arcs)) (node-stands .component)
-          (subst (λ e. e < length (componentIn bs (num l i 0) .arcs)) (ap (λ (x : Visit). x .edge) (open-now .shown)) (g .going .placed .row i (open-now .row) .there))
+          (subst (λ e. e < length (componentIn bs (num l i 0) .arcs)) (ap (λ (x : Passage). x .edge) (open-now .shown)) (g .going .placed .row i (open-now .row) .there))
 
-      message-is : messageIn T H (rowsOf l n) (rowVisit l (getD nodes c blank .row)) ≡ messageIn T H (g .plan .listed) v
-      message-is = ap₂ (messageIn T H) (g .going .rows) (open-now .shown) ∙ message-of-bare T H (g .plan .listed) v
+      message-is : messageIn T H (rowsOf l n) (rowPassage l (getD nodes c blank .row)) ≡ messageIn T H (g .soFar .listed) v
+      message-is = ap₂ (messageIn T H) (g .going .rows) (open-now .shown) ∙ message-of-bare T H (g .soFar .listed) v
 
-      entry-is : entryOf (t .at) ≡ leaves (arcOf C (v .edge)) (messageIn T H (g .plan .listed) v) (getD ends c 0) (entryOf (getD nodes c blank .entry))
+      entry-is : entryOf (t .at) ≡ leaves (arcOf C (v .edge)) (messageIn T H (g .soFar .listed) v) (getD ends c 0) (entryOf (getD nodes c blank .entry))
       entry-is =
           u .leads
-          ∙ ap₂ (λ (x : Visit) (m : Option ℕ). leaves (visitArc T x) m (getD ends c 0) (entryOf (getD nodes c blank .entry))) (open-now .shown) message-is
-          ∙ ap (λ a. leaves a (messageIn T H (g .plan .listed) v) (getD ends c 0) (entryOf (getD nodes c blank .entry))) (sym its-arc)
+          ∙ ap₂ (λ (x : Passage) (m : Option ℕ). leaves (passageArc T x) m (getD ends c 0) (entryOf (getD nodes c blank .entry))) (open-now .shown) message-is
+          ∙ ap (λ a. leaves a (messageIn T H (g .soFar .listed) v) (getD ends c 0) (entryOf (getD nodes c blank .entry))) (sym its-arc)
 
       -- what it leads to
-      leads : closing T H (g .plan .listed) v ≡ cut C (entryOf (t .at))
+      leads : closing T H (g .soFar .listed) v ≡ cut C (entryOf (t .at))
       leads =
-          ap (λ a. leaves a (messageIn T H (g .plan .listed) v) (v .end) (v .entry)) (sym its-arc)
-          ∙ ap₂ (λ k e. leaves (arcOf C (v .edge)) (messageIn T H (g .plan .listed) v) k e) (open-now .end) (open-now .entry)
+          ap (λ a. leaves a (messageIn T H (g .soFar .listed) v) (v .end) (v .entry)) (sym its-arc)
+          ∙ ap₂ (λ k e. leaves (arcOf C (v .edge)) (messageIn T H (g .soFar .listed) v) k e) (open-now .end) (open-now .entry)
           ∙ leaves-cut (readOf bs .table .channels) C (limits-of bs b (g .going .placed .valid) c (s .there)) (v .edge) edge-there
-          (messageIn T H (g .plan .listed) v) (getD ends c 0) (entryOf (getD nodes c blank .entry))
+          (messageIn T H (g .soFar .listed) v) (getD ends c 0) (entryOf (getD nodes c blank .entry))
           ∙ ap (cut C) (sym entry-is)
 
       tick-is : t .at .tick ≡ getD ends c 0
@@ -248,7 +248,7 @@ module _ (bs l : List ℕ) (b : (j : ℕ) → Fits w8 (getD bs j 0)) (n : ℕ) (
       pub loop-fails : {k : ℕ} → t .opening ≡ Fails k → (r : Scheduled) → r .verdict ≡ Refused k c → r .count ≡ 0 → Listed bs (unfinished bs) r l
       loop-fails {k} q r p z =
           listed-refused r k c
-          (sym (g .same) ∙ fails T H (g .plan) ends c s (g .going .full) ends-are below (1024 - n) (omega arith) k
+          (sym (g .same) ∙ fails T H (g .soFar) ends c s (g .going .full) ends-are below (1024 - n) (omega arith) k
           (ap (opening c C) leads ∙ opens-not bs c (limits-of bs b (g .going .placed .valid) c present) (t .at) (u .there) (t .opening) (u .opens) q))
           (g .going .placed) p z
 
@@ -263,10 +263,10 @@ module _ (bs l : List ℕ) (b : (j : ℕ) → Fits w8 (getD bs j 0)) (n : ℕ) (
           let w = made bs c (t .at) e in
           let m : 1024 - n - 1 ≡ 1024 - (n + 1) = omega arith in
           record {
-            plan = put (g .plan) w;
+            soFar = put (g .soFar) w;
             same =
-                ap (λ r. goOn T H r (put (g .plan) w)) (sym m)
-                ∙ sym (goes T H (g .plan) ends c s (g .going .full) ends-are below (1024 - n) (omega arith) w (ap (opening c C) leads ∙ o))
+                ap (λ r. goOn T H r (put (g .soFar) w)) (sym m)
+                ∙ sym (goes T H (g .soFar) ends c s (g .going .full) ends-are below (1024 - n) (omega arith) w (ap (opening c C) leads ∙ o))
                 ∙ g .same;
             going = going-on bs l n back c (t .at) e fits l′ is o present p (omega (arith, horizon-small bs b (g .going .placed .valid), tick-is)) room
                 (rw tick-is (u .young)) nodes ends h k (g .going) s tick-is among skips;

@@ -9,15 +9,15 @@ use Rattle.model.specs.declared.Verdict.the-variants.{Accepted, Refused}
 use Rattle.model.specs.Lists.{Answer, accepted, refused, _after_}
 use Rattle.model.specs.Table.{size}
 use Rattle.model.specs.Places.{readOf}
-use Rattle.model.specs.Schedule.{Visit, messageIn, withMessage, goOn, finished, schedule, light}
-use Rattle.model.specs.Checks.{limit, checked, plan}
+use Rattle.model.specs.Schedule.{Passage, messageIn, withMessage, goOn, finished, schedule, light}
+use Rattle.model.specs.Checks.{limit, checked, acceptedSchedule}
 use Rattle.model.specs.Calls.{verdictOf}
 use Rattle.model.proofs.Heard.{checked-is}
 use Rattle.table.proofs.Answered.{verdict-accepted}
 use Rattle.rows.specs.Rows.{rowsOf, RowsPlaced, MessagesPut}
 use Rattle.rows.proofs.Grown.{put-placed, rows-finished}
 use Rattle.schedule.specs.declared.Scheduled.{Scheduled}
-use Rattle.schedule.specs.Filled.{Filled, scheduleOf, planIn}
+use Rattle.schedule.specs.Filled.{Filled, scheduleOf, acceptedScheduleIn}
 use Rattle.schedule.specs.Going.{fresh, begun, unfinished, Listed}
 use Rattle.schedule.proofs.Bare.{finished-bare, checked-light}
 
@@ -35,7 +35,7 @@ module _ (bs : List ℕ) where
       (λ ws. accepted (finished (readOf bs .table) (readOf bs .horizon) ws))
 
   -- a refusal
-  pub filled-refused : {a : Answer (List Visit)} (r : Scheduled) (l : List ℕ) (k c : ℕ) → a ≡ refused k c → r .verdict ≡ Refused k c → r .count ≡ 0 → Filled bs a r l
+  pub filled-refused : {a : Answer (List Passage)} (r : Scheduled) (l : List ℕ) (k c : ℕ) → a ≡ refused k c → r .verdict ≡ Refused k c → r .count ≡ 0 → Filled bs a r l
   filled-refused {a} r l k c e v z =
       record {
         verdict = v ∙ sym (ap verdictOf e);
@@ -50,7 +50,7 @@ module _ (bs : List ℕ) where
   unfolding schedule
   begun-refused {v} {k} {c} l p q = go (begun bs) refl (sym p ∙ q)
     where
-      go : (a : Answer (List Visit)) → begun bs ≡ a → verdictOf a ≡ Refused k c → Filled bs (scheduleOf bs) (record { verdict = Refused k c; count = 0 }) l
+      go : (a : Answer (List Passage)) → begun bs ≡ a → verdictOf a ≡ Refused k c → Filled bs (scheduleOf bs) (record { verdict = Refused k c; count = 0 }) l
       go (accepted vs) e f = let z : _≡_ {A = ℕ} 0 1 = cc in absurd (omega arith)
       go (refused m d) e f =
           filled-refused (record { verdict = Refused k c; count = 0 }) l m d
@@ -58,7 +58,7 @@ module _ (bs : List ℕ) where
           (sym f) refl
 
   -- accepted passages with their messages
-  filled-accepted : {a : Answer (List Visit)} (r : Scheduled) (l : List ℕ) (S : List Visit) → a ≡ accepted S → r .verdict ≡ Accepted → r .count ≡ length S
+  filled-accepted : {a : Answer (List Passage)} (r : Scheduled) (l : List ℕ) (S : List Passage) → a ≡ accepted S → r .verdict ≡ Accepted → r .count ≡ length S
       → rowsOf l (r .count) ≡ map light S → RowsPlaced bs l (r .count) → Filled bs a r l
   filled-accepted {a} r l S e v n rows p =
       record {
@@ -69,7 +69,7 @@ module _ (bs : List ℕ) where
         none = λ k c q. (let z : _≡_ {A = ℕ} 0 1 = cc in absurd (omega arith));
       }
     where
-      same-list : {W : List Visit} → a ≡ accepted W → S ≡ W
+      same-list : {W : List Passage} → a ≡ accepted W → S ≡ W
       same-list q = cc
 
   -- the loops end, and the messages are put in
@@ -77,7 +77,7 @@ module _ (bs : List ℕ) where
   unfolding finished
   filled-put r l l′ H h g p = go (unfinished bs) refl
     where
-      go : (a : Answer (List Visit)) → unfinished bs ≡ a → Filled bs (scheduleOf bs) r l′
+      go : (a : Answer (List Passage)) → unfinished bs ≡ a → Filled bs (scheduleOf bs) r l′
       go (refused k c) e =
           filled-refused r l′ k c (schedule-is ∙ ap (λ a. a after λ ws. accepted (finished (readOf bs .table) (readOf bs .horizon) ws)) e) (g .verdict ∙ ap verdictOf e) (g .none k c e)
       go (accepted ws) e =
@@ -92,18 +92,18 @@ module _ (bs : List ℕ) where
 
 module _ (bs : List ℕ) (r : Scheduled) (l : List ℕ) (f : Filled bs (scheduleOf bs) r l) where
   -- 7 to 9
-  pub plan-refused : {k c : ℕ} → r .verdict ≡ Refused k c → Filled bs (planIn bs) r l
-  unfolding plan
+  pub plan-refused : {k c : ℕ} → r .verdict ≡ Refused k c → Filled bs (acceptedScheduleIn bs) r l
+  unfolding acceptedSchedule
   plan-refused {k} {c} v = go (scheduleOf bs) refl
     where
-      go : (a : Answer (List Visit)) → scheduleOf bs ≡ a → Filled bs (planIn bs) r l
+      go : (a : Answer (List Passage)) → scheduleOf bs ≡ a → Filled bs (acceptedScheduleIn bs) r l
       go (accepted S) e = let q : Accepted ≡ Refused k c = sym (f .verdict ∙ ap verdictOf e) ∙ v in let z : _≡_ {A = ℕ} 0 1 = cc in absurd (omega arith)
       go (refused m d) e =
           filled-refused bs r l m d (ap (λ a. a after λ S. checked (readOf bs .table) (readOf bs .horizon) S) e) (f .verdict ∙ ap verdictOf e) (f .none m d e)
 
   module _ (v : r .verdict ≡ Accepted) where
     -- what was accepted
-    pub was : (S : List Visit) × (scheduleOf bs ≡ accepted S)
+    pub was : (S : List Passage) × (scheduleOf bs ≡ accepted S)
     was = verdict-accepted (scheduleOf bs) (sym (f .verdict) ∙ v)
 
     -- the rows to check
@@ -118,23 +118,23 @@ module _ (bs : List ℕ) (r : Scheduled) (l : List ℕ) (f : Filled bs (schedule
           ∙ ap (λ vs. verdictOf (checked (readOf bs .table) (readOf bs .horizon) vs)) (ap (rowsOf l) (f .count (was .0) (was .1)) ∙ f .rows (was .0) (was .1))
           ∙ checked-light (readOf bs .table) (readOf bs .horizon) (was .0)
 
-      plan-is : planIn bs ≡ checked (readOf bs .table) (readOf bs .horizon) (was .0)
-      unfolding plan
+      plan-is : acceptedScheduleIn bs ≡ checked (readOf bs .table) (readOf bs .horizon) (was .0)
+      unfolding acceptedSchedule
       plan-is = ap (λ a. a after λ S. checked (readOf bs .table) (readOf bs .horizon) S) (was .1)
 
       -- 10 to 12
-      pub plan-faulty : {k c : ℕ} → w ≡ Refused k c → Filled bs (planIn bs) (record { verdict = Refused k c; count = 0 }) l
+      pub plan-faulty : {k c : ℕ} → w ≡ Refused k c → Filled bs (acceptedScheduleIn bs) (record { verdict = Refused k c; count = 0 }) l
       plan-faulty {k} {c} q = go (checked (readOf bs .table) (readOf bs .horizon) (was .0)) refl
         where
-          go : (a : Answer (List Visit)) → checked (readOf bs .table) (readOf bs .horizon) (was .0) ≡ a → Filled bs (planIn bs) (record { verdict = Refused k c; count = 0 }) l
+          go : (a : Answer (List Passage)) → checked (readOf bs .table) (readOf bs .horizon) (was .0) ≡ a → Filled bs (acceptedScheduleIn bs) (record { verdict = Refused k c; count = 0 }) l
           go (accepted S) p = let x : Accepted ≡ Refused k c = sym (verdict-is ∙ ap verdictOf p) ∙ q in let z : _≡_ {A = ℕ} 0 1 = cc in absurd (omega arith)
           go (refused m d) p = filled-refused bs (record { verdict = Refused k c; count = 0 }) l m d (plan-is ∙ p) (sym q ∙ verdict-is ∙ ap verdictOf p) refl
 
       -- all passed
-      pub plan-accepted : w ≡ Accepted → Filled bs (planIn bs) r l
+      pub plan-accepted : w ≡ Accepted → Filled bs (acceptedScheduleIn bs) r l
       plan-accepted q = go (checked (readOf bs .table) (readOf bs .horizon) (was .0)) refl
         where
-          go : (a : Answer (List Visit)) → checked (readOf bs .table) (readOf bs .horizon) (was .0) ≡ a → Filled bs (planIn bs) r l
+          go : (a : Answer (List Passage)) → checked (readOf bs .table) (readOf bs .horizon) (was .0) ≡ a → Filled bs (acceptedScheduleIn bs) r l
           go (refused m d) p = let x : Accepted ≡ Refused m d = sym q ∙ verdict-is ∙ ap verdictOf p in let z : _≡_ {A = ℕ} 0 1 = cc in absurd (omega arith)
           go (accepted S) p =
               let s : was .0 ≡ S = checked-is (readOf bs .table) (readOf bs .horizon) (was .0) S .0 p .0 in

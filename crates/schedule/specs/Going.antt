@@ -7,13 +7,13 @@ use Rattle.model.specs.Lists.{All, Answer, accepted, refused, _after_}
 use Rattle.model.specs.Table.{Component, size}
 use Rattle.model.specs.Window.{Entry, leaves}
 use Rattle.model.specs.Places.{startOf, readOf, componentIn}
-use Rattle.model.specs.Schedule.{Visit, visitArc, messageIn, opening, Plan, begin, goOn, bare}
-use Rattle.model.specs.Checks.{limit, visitAt}
+use Rattle.model.specs.Schedule.{Passage, passageArc, messageIn, opening, OpenedSoFar, begin, goOn, bare}
+use Rattle.model.specs.Checks.{limit, passageAt}
 use Rattle.model.specs.Calls.{verdictOf}
 use Rattle.model.specs.declared.Verdict.the-variants.{Accepted}
 use Rattle.window.specs.declared.TakenEdge.{TakenEdge}
 use Rattle.window.specs.Views.{entryOf, openingOf, Placed}
-use Rattle.rows.specs.Rows.{num, rowVisit, rowsOf, RowsPlaced}
+use Rattle.rows.specs.Rows.{num, rowPassage, rowsOf, RowsPlaced}
 use Rattle.schedule.specs.declared.Node.{Node}
 use Rattle.schedule.specs.declared.Turn.{Turn}
 use Rattle.schedule.specs.declared.Opened.{Opened}
@@ -43,7 +43,7 @@ pub record Stands (l : List ℕ) (n c : ℕ) (node : Node) (until : ℕ) : Type 
 -- the entry that the passage leads to, and what opens there
 pub record Turned (bs l : List ℕ) (n c H : ℕ) (node : Node) (end : ℕ) (t : Turn) : Type 0 where
   pub leads : entryOf (t .at)
-      ≡ leaves (visitArc (readOf bs .table) (rowVisit l (node .row))) (messageIn (readOf bs .table) H (rowsOf l n) (rowVisit l (node .row))) end (entryOf (node .entry))
+      ≡ leaves (passageArc (readOf bs .table) (rowPassage l (node .row))) (messageIn (readOf bs .table) H (rowsOf l n) (rowPassage l (node .row))) end (entryOf (node .entry))
   pub there : t .at .location < length (componentIn bs c .locations)
   pub young : All (λ x. x ≤ end) (t .at .clocks)
   pub opens : openingOf c (componentIn bs c) (entryOf (t .at)) (t .opening) ≡ opening c (componentIn bs c) (entryOf (t .at))
@@ -56,12 +56,12 @@ abbrev pub keptOf : Rattle.window.specs.declared.Entry.Entry → TakenEdge → 
 keptOf at t row = record { entry = at; place = t .place; row = row }
 
 -- node and until are what the code keeps of v, the open passage of component c
-pub record Open (bs l : List ℕ) (n c : ℕ) (node : Node) (until : ℕ) (v : Visit) : Type 0 where
+pub record Open (bs l : List ℕ) (n c : ℕ) (node : Node) (until : ℕ) (v : Passage) : Type 0 where
   pub component : v .component ≡ c
   pub entry : v .entry ≡ cut (componentIn bs c) (entryOf (node .entry))
   pub end : v .end ≡ until
   pub row : node .row < n
-  pub shown : rowVisit l (node .row) ≡ bare v
+  pub shown : rowPassage l (node .row) ≡ bare v
   pub place : num l (node .row) 7 ≡ node .place
   pub young : All (λ x. x ≤ node .entry .tick) (node .entry .clocks)
 
@@ -70,24 +70,24 @@ abbrev pub blank : Node
 blank = record { entry = record { location = 0; tick = 0; clocks = []; values = [] }; place = 0; row = 0 }
 
 -- the first k components have an open passage
-pub record Going (bs l : List ℕ) (n k : ℕ) (nodes : List Node) (ends : List ℕ) (p : Plan) : Type 0 where
+pub record Going (bs l : List ℕ) (n k : ℕ) (nodes : List Node) (ends : List ℕ) (p : OpenedSoFar) : Type 0 where
   pub placed : RowsPlaced bs l n
   pub rows : rowsOf l n ≡ map bare (p .listed)
   pub full : length (p .current) ≡ k
-  pub each : (c : ℕ) → c < k → Open bs l n c (getD nodes c blank) (getD ends c 0) (visitAt (p .current) c)
+  pub each : (c : ℕ) → c < k → Open bs l n c (getD nodes c blank) (getD ends c 0) (passageAt (p .current) c)
   pub entered : (i c : ℕ) → i < n → c < k → num l i 3 ≤ getD ends c 0
 
 -- the passages so far are those that opened at tick 0
-abbrev pub fresh : List Visit → Plan
+abbrev pub fresh : List Passage → OpenedSoFar
 fresh vs = record { listed = vs; current = vs }
 
 -- the openings at tick 0
-abbrev pub begun : List ℕ → Answer (List Visit)
+abbrev pub begun : List ℕ → Answer (List Passage)
 begun bs = begin limit 0 (readOf bs .table .components) []
 
 -- all components have opened at tick 0
 pub record Started (bs l : List ℕ) (nodes : List Node) (ends : List ℕ) : Type 0 where
-  pub first : List Visit
+  pub first : List Passage
   pub begins : begun bs ≡ accepted first
   pub going : Going bs l (size (readOf bs .table)) (size (readOf bs .table)) nodes ends (fresh first)
 
@@ -97,12 +97,12 @@ pub record Begins (bs later : List ℕ) (r : Opened) : Type 0 where
 
 -- ## The whole schedule, its messages not yet put in
 
-abbrev pub unfinished : List ℕ → Answer (List Visit)
+abbrev pub unfinished : List ℕ → Answer (List Passage)
 unfinished bs = begun bs after λ vs. goOn (readOf bs .table) (readOf bs .horizon) (limit - size (readOf bs .table)) (fresh vs)
 
-pub record Listed (bs : List ℕ) (a : Answer (List Visit)) (r : Scheduled) (later : List ℕ) : Type 0 where
+pub record Listed (bs : List ℕ) (a : Answer (List Passage)) (r : Scheduled) (later : List ℕ) : Type 0 where
   pub verdict : r .verdict ≡ verdictOf a
-  pub count : (S : List Visit) → a ≡ accepted S → r .count ≡ length S
-  pub rows : (S : List Visit) → a ≡ accepted S → rowsOf later (r .count) ≡ map bare S
+  pub count : (S : List Passage) → a ≡ accepted S → r .count ≡ length S
+  pub rows : (S : List Passage) → a ≡ accepted S → rowsOf later (r .count) ≡ map bare S
   pub placed : RowsPlaced bs later (r .count)
   pub none : (k c : ℕ) → a ≡ refused k c → r .count ≡ 0

@@ -11,8 +11,8 @@ ghost use Rattle.model.specs.Reader.{byte};
 ghost use Rattle.model.specs.Places.{Valid, startOf};
 ghost use Rattle.model.specs.Schedule.{sevenOf};
 ghost use Rattle.table.specs.Directory.{startsOf};
-ghost use Rattle.rows.specs.Rows.{rowVisit, rowsOf, RowsPlaced};
-ghost use Rattle.schedule.specs.Filled.{Filled, scheduleOf, planIn};
+ghost use Rattle.rows.specs.Rows.{rowPassage, rowsOf, RowsPlaced};
+ghost use Rattle.schedule.specs.Filled.{Filled, scheduleOf, acceptedScheduleIn};
 ghost use Rattle.schedule.specs.Going.{keptOf, Soonest, Stands, Turned, Started, Begins, Listed, unfinished};
 use model::Verdict;
 use window::Entry;
@@ -281,7 +281,7 @@ pub fn schedule_rows(s: &[u8], starts: [u16; 8], l: &mut [u32]) -> Scheduled
 // The same with checks 10 to 12.
 pub fn plan_rows(s: &[u8], starts: [u16; 8], l: &mut [u32]) -> Scheduled
     requires { ⌜ Valid (now s) × (starts ≡ startsOf (now s) (byte (now s) 3)) × (9216 ≤ length (now l)) ⌝ }
-    ensures { λ r. ⌜ Filled (now (s .entry)) (planIn (now (s .entry))) r (now (l .exit)) ⌝ }
+    ensures { λ r. ⌜ Filled (now (s .entry)) (acceptedScheduleIn (now (s .entry))) r (now (l .exit)) ⌝ }
 {
     let r = schedule_rows(s, starts, l);
     let v = r.verdict;
@@ -303,7 +303,7 @@ pub fn plan_rows(s: &[u8], starts: [u16; 8], l: &mut [u32]) -> Scheduled
 // The seven fields of row i, as passage number k of the list.
 pub fn put_seven(l: &[u32], i: usize, out: &mut [u32], k: usize)
     requires { ⌜ (i * 9 + 9 ≤ length (now l)) × (k * 7 + 7 ≤ length (now out)) × (k ≤ 1024) ⌝ }
-    ensures { λ _. ⌜ now (out .exit) ≡ sets (now (out .entry)) (k * 7) (sevenOf (rowVisit (now (l .entry)) i)) ⌝ }
+    ensures { λ _. ⌜ now (out .exit) ≡ sets (now (out .entry)) (k * 7) (sevenOf (rowPassage (now (l .entry)) i)) ⌝ }
 {
     let at = k * 7;
     out[at] = rows::number(l, i, 0);

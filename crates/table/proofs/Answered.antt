@@ -8,8 +8,8 @@ use Rattle.model.specs.Lists.{Answer, accepted, refused, _after_}
 use Rattle.model.specs.Table.{Read}
 use Rattle.model.specs.Reader.{byte, readTable}
 use Rattle.model.specs.Places.{Valid, isAccepted}
-use Rattle.model.specs.Checks.{planOf}
-use Rattle.model.specs.Calls.{verdictOf, planIn}
+use Rattle.model.specs.Checks.{acceptedScheduleOf}
+use Rattle.model.specs.Calls.{verdictOf, acceptedScheduleIn}
 use Rattle.table.specs.declared.Reading.{Reading}
 use Rattle.table.specs.Directory.{startsOf, foundIn, readingOf}
 
@@ -42,6 +42,6 @@ module _ (bs : List ℕ) (r : Reading) (e : r ≡ readingOf bs) where
   pub read-refused : {n c : ℕ} → r .verdict ≡ Refused n c → readTable bs ≡ refused n c
   read-refused v = verdict-refused (readTable bs) (sym by-answer ∙ v)
 
-  pub was-refused : {n c : ℕ} → r .verdict ≡ Refused n c → planIn bs ≡ refused n c
-  unfolding planIn
-  was-refused v = ap (λ (a : Answer Read). a after planOf) (read-refused v)
+  pub was-refused : {n c : ℕ} → r .verdict ≡ Refused n c → acceptedScheduleIn bs ≡ refused n c
+  unfolding acceptedScheduleIn
+  was-refused v = ap (λ (a : Answer Read). a after acceptedScheduleOf) (read-refused v)

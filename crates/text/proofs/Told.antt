@@ -15,9 +15,9 @@ use Rattle.model.specs.Table.{Arc, Component, Read, noArc, noComponent, arcOf}
 use Rattle.model.specs.Limits.{ActionIn, ArcIn, ComponentIn}
 use Rattle.model.specs.Reader.{readTable}
 use Rattle.model.specs.Window.{sends, channelOf, listens}
-use Rattle.model.specs.Schedule.{Visit, visitArc, earliest, heardBy, carried, messageIn, sevenOf}
-use Rattle.model.specs.Checks.{limit, planOf}
-use Rattle.model.specs.Calls.{planIn}
+use Rattle.model.specs.Schedule.{Passage, passageArc, earliest, heardBy, carried, messageIn, sevenOf}
+use Rattle.model.specs.Checks.{limit, acceptedScheduleOf}
+use Rattle.model.specs.Calls.{acceptedScheduleIn}
 use Rattle.model.proofs.Parts.{after-ok}
 use Rattle.model.proofs.Own.{in-all, all-in}
 use Rattle.model.proofs.RoundTrip.{written-read}
@@ -61,34 +61,34 @@ components-tell few empty = empty
 components-tell few (more {x = C} h a) =
     more {x = C} (any-at (λ (x : Arc). Tells (channelOf x)) noArc refl (arcs-tell few (h .arcs))) (components-tell few a)
 
-module _ (t : Read) (S : List Visit) (G : Given t (t .horizon) S) where
-  visit-tells : (v : Visit) → Tells (channelOf (visitArc (t .table) v))
-  visit-tells v =
+module _ (t : Read) (S : List Passage) (G : Given t (t .horizon) S) where
+  passage-tells : (v : Passage) → Tells (channelOf (passageArc (t .table) v))
+  passage-tells v =
       any-at AllTell noComponent (λ e. refl) (components-tell (G .limits .channels) (G .limits .components)) (v .component) (v .edge)
 
-  message-tells : (H : ℕ) (v : Visit) → Tells (messageIn (t .table) H S v)
+  message-tells : (H : ℕ) (v : Passage) → Tells (messageIn (t .table) H S v)
   unfolding messageIn
-  message-tells H v = go (listens (visitArc (t .table) v)) (earliest (heardBy (t .table) H v) S none)
+  message-tells H v = go (listens (passageArc (t .table) v)) (earliest (heardBy (t .table) H v) S none)
     where
-      go : (b : Bool) (o : Option Visit) → Tells (cond b (carried (t .table) o) (channelOf (visitArc (t .table) v)))
+      go : (b : Bool) (o : Option Passage) → Tells (cond b (carried (t .table) o) (channelOf (passageArc (t .table) v)))
       go true none = refl
-      go true (some s) = visit-tells s
-      go false o = visit-tells v
+      go true (some s) = passage-tells s
+      go false o = passage-tells v
 
-  all-tell : All (λ (v : Visit). Tells (v .message)) S
+  all-tell : All (λ (v : Passage). Tells (v .message)) S
   all-tell = in-all S (λ v i. subst Tells (sym (all-in (G .sched .messages) i)) (message-tells (t .horizon) v))
 
 -- ## An accepted table's schedule
 
-module _ (bs : List ℕ) (b : Bytes bs) (S : List Visit) (e : planIn bs ≡ accepted S) where
-  its-read : (t : Read) × (readTable bs ≡ accepted t) × (planOf t ≡ accepted S)
-  unfolding planIn
-  its-read = after-ok (readTable bs) planOf e
+module _ (bs : List ℕ) (b : Bytes bs) (S : List Passage) (e : acceptedScheduleIn bs ≡ accepted S) where
+  its-read : (t : Read) × (readTable bs ≡ accepted t) × (acceptedScheduleOf t ≡ accepted S)
+  unfolding acceptedScheduleIn
+  its-read = after-ok (readTable bs) acceptedScheduleOf e
 
   its-given : Given (its-read .0) (its-read .0 .horizon) S
   its-given = given (its-read .0) S (written-read bs (its-read .0) b (its-read .1) .0) (its-read .2)
 
-  pub told : All (λ (v : Visit). Tells (v .message)) S
+  pub told : All (λ (v : Passage). Tells (v .message)) S
   told = all-tell (its-read .0) S its-given
 
   pub few-passages : length S ≤ 1024
@@ -96,11 +96,11 @@ module _ (bs : List ℕ) (b : Bytes bs) (S : List Visit) (e : planIn bs ≡ acce
 
 -- ## The lines from the numbers
 
-line-is : (v : Visit) (rest : List ℕ) → Tells (v .message) → passageLine (passageOf (sevenOf v ++ rest)) ≡ passageLine v
+line-is : (v : Passage) (rest : List ℕ) → Tells (v .message) → passageLine (passageOf (sevenOf v ++ rest)) ≡ passageLine v
 unfolding passageLine
 line-is v rest e = ap (λ (m : Option ℕ). placeText v ++ ticksText v ++ messageText m ++ ascii "\n") e
 
-pub lines-are : (S : List Visit) (rest : List ℕ) → All (λ (v : Visit). Tells (v .message)) S → each passageLine (passagesOf (each sevenOf S ++ rest) (length S)) ≡ each passageLine S
+pub lines-are : (S : List Passage) (rest : List ℕ) → All (λ (v : Passage). Tells (v .message)) S → each passageLine (passagesOf (each sevenOf S ++ rest) (length S)) ≡ each passageLine S
 unfolding each sevens
 lines-are [] rest empty = refl
 lines-are (v ∷ S) rest (more e a) = ap₂ _++_ (line-is v (each sevenOf S ++ rest) e) (lines-are S rest a)

@@ -13,7 +13,7 @@ use Rattle.model.specs.declared.Verdict.the-variants.{Accepted, Refused}
 use Rattle.model.specs.Lists.{only, first, Answer, accepted, refused, _after_, each}
 use Rattle.model.specs.Table.{Read, Table}
 use Rattle.model.specs.Reader.{readTable}
-use Rattle.model.specs.Schedule.{Visit, schedule, sevenOf}
+use Rattle.model.specs.Schedule.{Passage, schedule, sevenOf}
 use Rattle.model.specs.Checks.{limit, isSend, meets, collides, mayHear, unheard, crowded}
 use Rattle.model.specs.Calls.{Call, laid, checkCall}
 use Rattle.model.specs.Meetings.{sendsMet, listenersMet, sendsHeard, withMet, concerned, concernedIn, listOr, meetingsIn, meetingsCall}
@@ -24,7 +24,7 @@ use Rattle.text.proofs.ScheduleCalled.{seven-long}
 
 -- ## At most one passage more than a schedule has
 
-only-short : (p : Visit → Bool) (S : List Visit) → length (only p S) ≤ length S
+only-short : (p : Passage → Bool) (S : List Passage) → length (only p S) ≤ length S
 only-short p [] = le-refl 0
 only-short p (v ∷ S) = pick (p v) (only-short p S)
   where
@@ -32,12 +32,12 @@ only-short p (v ∷ S) = pick (p v) (only-short p S)
     pick true h = omega (arith, h)
     pick false h = omega (arith, h)
 
-with-short : (S : List Visit) (met : Visit → List Visit) (o : Option Visit) (further : List Visit) → ((v : Visit) → length (met v) ≤ length S)
+with-short : (S : List Passage) (met : Passage → List Passage) (o : Option Passage) (further : List Passage) → ((v : Passage) → length (met v) ≤ length S)
     → length further ≤ 1 + length S → length (withMet met o further) ≤ 1 + length S
 with-short S met none further h k = k
 with-short S met (some v) further h k = omega (arith, h v)
 
-concerned-short : (T : Table) (H : ℕ) (S : List Visit) → length (concerned T H S) ≤ 1 + length S
+concerned-short : (T : Table) (H : ℕ) (S : List Passage) → length (concerned T H S) ≤ 1 + length S
 unfolding concerned
 concerned-short T H S =
     with-short S (sendsMet T H S) (first (collides T H S) S) _ (λ s. only-short (meets T H s) S)
@@ -48,7 +48,7 @@ pub meetings-few : (table : List ℕ) → length (meetingsIn table) ≤ 1025
 unfolding meetingsIn
 meetings-few table = go (readTable table)
   where
-    planned : (t : Read) (a : Answer (List Visit)) → schedule limit (t .table) (t .horizon) ≡ a
+    planned : (t : Read) (a : Answer (List Passage)) → schedule limit (t .table) (t .horizon) ≡ a
         → length (listOr (a after λ S. accepted (concerned (t .table) (t .horizon) S))) ≤ 1025
     planned t (refused n c) e = omega arith
     planned t (accepted S) e = omega (arith, concerned-short (t .table) (t .horizon) S, schedule-is (t .table) (t .horizon) limit e .few)
@@ -59,7 +59,7 @@ meetings-few table = go (readTable table)
 
 -- ## What the call leaves
 
-mets-are : (M : List Visit) (rest : List ℕ) → metsOf (each sevenOf M ++ rest) (length M) ≡ map metOf M
+mets-are : (M : List Passage) (rest : List ℕ) → metsOf (each sevenOf M ++ rest) (length M) ≡ map metOf M
 unfolding each sevens
 mets-are [] rest = refl
 mets-are (v ∷ M) rest = ap (λ (l : List Met). metOf v ∷ l) (mets-are M rest)

@@ -8,7 +8,7 @@ use Prim.Native.String.{String}
 use Rattle.model.specs.declared.Verdict.{Verdict}
 use Rattle.model.specs.declared.Verdict.the-variants.{Accepted, Refused}
 use Rattle.model.specs.Lists.{orElse, each}
-use Rattle.model.specs.Schedule.{Visit}
+use Rattle.model.specs.Schedule.{Passage}
 use Rattle.model.specs.Calls.{checkCall}
 use Rattle.model.specs.Meetings.{meetingsIn}
 use Rattle.text.specs.Words.{ascii, decimal, field, sevens}
@@ -60,7 +60,7 @@ pub record Met : Type 0 where
   pub end : ℕ
   pub channel : ℕ
 
-abbrev pub metOf : Visit → Met
+abbrev pub metOf : Passage → Met
 metOf v = record { component = v .component; edge = v .edge; ready = v .ready; end = v .end; channel = orElse (v .message) 255 }
 
 abbrev pub placeWords : Met → List ℕ
@@ -120,7 +120,7 @@ meetingsText number (fault ∷ ws) = faultText number fault ++ metLines number f
 
 -- ## The whole text, for any bytes
 
-abbrev pub verdictWith : Verdict → List Visit → List ℕ
+abbrev pub verdictWith : Verdict → List Passage → List ℕ
 verdictWith Accepted M = ascii "accepted\n"
 verdictWith (Refused number component) M = refusalText number component ++ meetingsText number (map metOf M)
 

@@ -15,7 +15,7 @@ use Rattle.model.specs.Lists.{accepted, refused}
 use Rattle.model.specs.Table.{Arc, Component, noArc, locationOf, arcOf}
 use Rattle.model.specs.Window.{Entry, Pick, windowOf, better, eligible, considered, chosen, choice, channelOf, updated}
 use Rattle.model.specs.Places.{arcPlace, componentIn}
-use Rattle.model.specs.Schedule.{visitOf, opening}
+use Rattle.model.specs.Schedule.{passageOf, opening}
 use Rattle.window.specs.declared.Choice.{Choice}
 use Rattle.window.specs.Views.{pickOf, Kept}
 use Rattle.window.proofs.Considering.{pickFrom, pick-some}
@@ -99,6 +99,6 @@ module _ (c : ℕ) (C : Component) (at : Entry) where
     open-out u = rw (← e, ← u)
 
     pub open-ranged : {vs : List ℤ} → some vs ≡ updated (arcOf C (p .edge) .updates) (at .values)
-        → accepted (visitOf c at p (channelOf (arcOf C (p .edge)))) ≡ opening c C at
+        → accepted (passageOf c at p (channelOf (arcOf C (p .edge)))) ≡ opening c C at
     unfolding opening
     open-ranged u = rw (← e, ← u)

@@ -11,7 +11,7 @@ use Rattle.model.specs.Table.{Component, arcOf}
 use lib.ListN.{length}
 use Rattle.model.specs.Places.{arcAt, arcPlace, componentIn}
 use Rattle.model.specs.Window.{Pick, channelOf, inRange}
-use Rattle.model.specs.Schedule.{Visit, visitOf}
+use Rattle.model.specs.Schedule.{Passage, passageOf}
 use Rattle.decoder.specs.Decoded.{Decodable}
 use Rattle.window.specs.declared.Entry.{Entry}
 use Rattle.window.specs.declared.Updated.{Updated}
@@ -51,8 +51,8 @@ abbrev pub messageOf : ℕ → Option ℕ
 messageOf m = cond (eqb m 255) none (some m)
 
 -- what an opening gives
-abbrev pub openingOf : ℕ → Component → Rattle.model.specs.Window.Entry → Opening → Answer Visit
-openingOf c C at (Opens t) = accepted (visitOf c at (record { edge = t .edge; ready = t .ready; end = t .end }) (channelOf (arcOf C (t .edge))))
+abbrev pub openingOf : ℕ → Component → Rattle.model.specs.Window.Entry → Opening → Answer Passage
+openingOf c C at (Opens t) = accepted (passageOf c at (record { edge = t .edge; ready = t .ready; end = t .end }) (channelOf (arcOf C (t .edge))))
 openingOf c C at (Fails n) = refused n c
 
 -- An edge stands at the front, whole, and names clocks and variables that have a place.

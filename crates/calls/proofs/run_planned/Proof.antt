@@ -17,7 +17,7 @@ returns : tie.Need-returns
 returns c =
     let a = c .before .before .before .before .before .before .args in
     let P = c .before .before .before .before .before .before .pre .2 in
-    let k = too-short (a .table .now) (a .choices .now) (a .observations .now) (c .before .before .before .before .before .before .pre .0) (P .passages) (P .plan) (omega (arith, P .count, c .before .if1 .taken)) in
+    let k = too-short (a .table .now) (a .choices .now) (a .observations .now) (c .before .before .before .before .before .before .pre .0) (P .passages) (P .acceptedSchedule) (omega (arith, P .count, c .before .if1 .taken)) in
     rw k (c .not-run .ensures (a .observations .now))
 
 not-run-requires-2 : tie.Need-not-run-requires-2
@@ -27,7 +27,7 @@ returns-2 : tie.Need-returns-2
 returns-2 c =
     let a = c .before .before .before .before .before .before .before .args in
     let P = c .before .before .before .before .before .before .before .pre .2 in
-    let k = too-many (a .table .now) (a .choices .now) (a .observations .now) (c .before .before .before .before .before .before .before .pre .0) (P .passages) (P .plan) (omega (arith, P .count, c .before .before .if1 .left)) (omega (arith, c .before .if2 .taken)) in
+    let k = too-many (a .table .now) (a .choices .now) (a .observations .now) (c .before .before .before .before .before .before .before .pre .0) (P .passages) (P .acceptedSchedule) (omega (arith, P .count, c .before .before .if1 .left)) (omega (arith, c .before .if2 .taken)) in
     rw k (c .not-run2 .ensures (a .observations .now))
 
 run-table-requires : tie.Need-run-table-requires
@@ -40,16 +40,16 @@ cast-t15 : tie.Need-cast-t15
 cast-t15 c =
     let a = c .before .before .before .before .before .before .before .before .before .before .before .before .args in
     let P = c .before .before .before .before .before .before .before .before .before .before .before .before .pre .2 in
-    let E = c .before .before .before .before .run-table .ensures (P .passages) (P .plan) in
-    let k = tick-most (a .table .now) (a .choices .now) (a .observations .now) (c .before .before .before .before .before .before .before .before .before .before .before .before .pre .0) (P .passages) (P .plan) in
+    let E = c .before .before .before .before .run-table .ensures (P .passages) (P .acceptedSchedule) in
+    let k = tick-most (a .table .now) (a .choices .now) (a .observations .now) (c .before .before .before .before .before .before .before .before .before .before .before .before .pre .0) (P .passages) (P .acceptedSchedule) in
     omega (arith, E .tick, k, c .before .before .before .before .before .before .if2 .left)
 
 cast-t16 : tie.Need-cast-t16
 cast-t16 c =
     let a = c .before .before .before .before .before .before .before .before .before .before .before .before .before .args in
     let P = c .before .before .before .before .before .before .before .before .before .before .before .before .before .pre .2 in
-    let E = c .before .before .before .before .before .run-table .ensures (P .passages) (P .plan) in
-    let k = used-most (a .table .now) (a .choices .now) (a .observations .now) (c .before .before .before .before .before .before .before .before .before .before .before .before .before .pre .0) (P .passages) (P .plan) in
+    let E = c .before .before .before .before .before .run-table .ensures (P .passages) (P .acceptedSchedule) in
+    let k = used-most (a .table .now) (a .choices .now) (a .observations .now) (c .before .before .before .before .before .before .before .before .before .before .before .before .before .pre .0) (P .passages) (P .acceptedSchedule) in
     omega (arith, E .used, k, c .before .before .before .before .before .before .before .if2 .left)
 
 same-length : tie.Need-same-length
@@ -59,8 +59,8 @@ returns-3 : tie.Need-returns-3
 returns-3 c =
     let a = c .before .before .before .before .before .before .before .before .before .before .before .before .before .args in
     let P = c .before .before .before .before .before .before .before .before .before .before .before .before .before .pre .2 in
-    let E = c .before .before .before .before .before .run-table .ensures (P .passages) (P .plan) in
-    let k = is-done (a .table .now) (a .choices .now) (a .observations .now) (c .before .before .before .before .before .before .before .before .before .before .before .before .before .pre .0) (P .passages) (P .plan) (omega (arith, P .count, c .before .before .before .before .before .before .before .before .if1 .left)) (omega (arith, c .before .before .before .before .before .before .before .if2 .left)) in
+    let E = c .before .before .before .before .before .run-table .ensures (P .passages) (P .acceptedSchedule) in
+    let k = is-done (a .table .now) (a .choices .now) (a .observations .now) (c .before .before .before .before .before .before .before .before .before .before .before .before .before .pre .0) (P .passages) (P .acceptedSchedule) (omega (arith, P .count, c .before .before .before .before .before .before .before .before .if1 .left)) (omega (arith, c .before .before .before .before .before .before .before .if2 .left)) in
     rw k
     (record {
       verdict = refl;
@@ -68,8 +68,8 @@ returns-3 c =
       tick = E .tick;
       used = E .used;
       size = E .written;
-      lent = bytes-done (a .table .now) (a .choices .now) (a .observations .now) (c .before .before .before .before .before .before .before .before .before .before .before .before .before .pre .0) (P .passages) (P .plan) _ (E .bytes);
-      few = omega (arith, E .written, seen-most (a .table .now) (a .choices .now) (a .observations .now) (c .before .before .before .before .before .before .before .before .before .before .before .before .before .pre .0) (P .passages) (P .plan), P .count, P .stand .few);
+      lent = bytes-done (a .table .now) (a .choices .now) (a .observations .now) (c .before .before .before .before .before .before .before .before .before .before .before .before .before .pre .0) (P .passages) (P .acceptedSchedule) _ (E .bytes);
+      few = omega (arith, E .written, seen-most (a .table .now) (a .choices .now) (a .observations .now) (c .before .before .before .before .before .before .before .before .before .before .before .before .before .pre .0) (P .passages) (P .acceptedSchedule), P .count, P .stand .few);
     })
 
 pub run-planned-spec : {M : Type 1} → statement M

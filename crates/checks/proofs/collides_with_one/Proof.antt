@@ -7,7 +7,7 @@ use Rattle.model.specs.Lists.{only}
 use Rattle.model.specs.Places.{readOf}
 use Rattle.model.specs.Checks.{meets}
 use Rattle.model.proofs.Members.{only-none, any-none}
-use Rattle.rows.specs.Rows.{rowVisit, rowsOf}
+use Rattle.rows.specs.Rows.{rowPassage, rowsOf}
 use Rattle.rows.proofs.Placed.{row-known}
 use Rattle.checks.proofs.Questions.{meets-near, not-asked, collides-none, collides-one, collides-before}
 use Rattle.checks.proofs.Swept.{rest, Swept, swept-at, swept-in, swept-out, swept-stop, swept-done}
@@ -15,7 +15,7 @@ use Rattle.checks.proofs.collides_with_one.Statement.{statement}
 use Rattle.checks.proofs.collides_with_one.Tie as tie
 
 abbrev Inv-loop : tie.InvT-loop
-Inv-loop s l n i h until j₀ j = (j ≤ n) × Swept (meets (readOf s .table) h (rowVisit l i)) l n j []
+Inv-loop s l n i h until j₀ j = (j ≤ n) × Swept (meets (readOf s .table) h (rowPassage l i)) l n j []
 
 abbrev μ-loop : tie.MeasureT-loop
 μ-loop s l n i h until j₀ j = n - j
@@ -29,7 +29,7 @@ is-send-requires c κs =
 returns : tie.Need-returns Inv-loop μ-loop
 returns c =
     let a = c .before .before .before .before .args in
-    not-asked (readOf (a .s .now) .table) (a .h) (rowVisit (a .l .now) (a .i)) (c .before .is-send .result) _ (c .before .is-send .ensures) (c .if1 .taken)
+    not-asked (readOf (a .s .now) .table) (a .h) (rowPassage (a .l .now) (a .i)) (c .before .is-send .result) _ (c .before .is-send .ensures) (c .if1 .taken)
 
 is-met-before-requires : tie.Need-is-met-before-requires Inv-loop μ-loop
 is-met-before-requires c κs = c .before .before .before .before .pre
@@ -38,7 +38,7 @@ returns-2 : tie.Need-returns-2 Inv-loop μ-loop
 returns-2 c =
     let e = c .before .before .before .before .before .before in
     let a = e .args in
-    collides-before (readOf (a .s .now) .table) (a .h) (a .l .now) (a .n) (a .i) (omega (arith, e .pre .1)) (rowVisit (a .l .now) (a .i)) (c .before .before .before .is-send .result) (c .before .before .before .is-send .ensures) (c .before .before .if1 .left) (sym (c .before .is-met-before .ensures) ∙ c .if2 .taken)
+    collides-before (readOf (a .s .now) .table) (a .h) (a .l .now) (a .n) (a .i) (omega (arith, e .pre .1)) (rowPassage (a .l .now) (a .i)) (c .before .before .before .is-send .result) (c .before .before .before .is-send .ensures) (c .before .before .if1 .left) (sym (c .before .is-met-before .ensures) ∙ c .if2 .taken)
 
 number-requires : tie.Need-number-requires Inv-loop μ-loop
 number-requires c κs = omega (arith, c .before .before .before .before .before .before .pre .0 .fits, c .before .before .before .before .before .before .pre .1)
@@ -48,7 +48,7 @@ loop-holds c =
     let e = c .before .before .before .before .before .before .before in
     let a = e .args in
     let T = readOf (a .s .now) .table in
-    let p = meets T (a .h) (rowVisit (a .l .now) (a .i)) in
+    let p = meets T (a .h) (rowPassage (a .l .now) (a .i)) in
     let none = only-none p (rowsOf (a .l .now) (a .i)) .1 (any-none p (rowsOf (a .l .now) (a .i)) .0 (sym (c .before .before .is-met-before .ensures) ∙ c .before .if2 .left)) in
     (omega (arith, e .pre .1), swept-at p (a .s .now) (a .l .now) (a .n) (a .i) (e .pre .0) (e .pre .1) (meets-near T (a .h) (a .l .now) (a .i)) [] none)
 
@@ -61,7 +61,7 @@ returns-3 c =
     let a = e .args in
     let l = c .before .before .before .loop in
     let T = readOf (a .s .now) .table in
-    let v = rowVisit (a .l .now) (a .i) in
+    let v = rowPassage (a .l .now) (a .i) in
     collides-none T (a .h) (rowsOf (a .l .now) (a .n)) v (c .before .before .before .before .before .before .before .before .is-send .result) (c .before .before .before .before .before .before .before .before .is-send .ensures) (c .before .before .before .before .before .before .before .if1 .left)
     (swept-stop (meets T (a .h) v) (a .s .now) (a .l .now) (a .n) (a .i) (e .pre .0) (e .pre .1) (meets-near T (a .h) (a .l .now) (a .i)) (l .j) [] (c .before .before .loop-test .taken) (omega (arith, c .before .before .before .before .number .ensures, c .before .number2 .ensures)) (l .inv .1))
 
@@ -76,8 +76,8 @@ returns-4 c =
     let a = c .before .before .before .before .before .before .before .before .before .before .before .before .before .args in
     let l = c .before .before .before .before .before .loop in
     let T = readOf (a .s .now) .table in
-    let v = rowVisit (a .l .now) (a .i) in
-    collides-one T (a .h) (rowsOf (a .l .now) (a .n)) v (c .before .before .before .before .before .before .before .before .before .before .is-send .result) (c .before .before .before .before .before .before .before .before .before .before .is-send .ensures) (c .before .before .before .before .before .before .before .before .before .if1 .left) (rowVisit (a .l .now) (l .j)) (only (meets T (a .h) v) (rest (a .l .now) (a .n) (l .j + 1)))
+    let v = rowPassage (a .l .now) (a .i) in
+    collides-one T (a .h) (rowsOf (a .l .now) (a .n)) v (c .before .before .before .before .before .before .before .before .before .before .is-send .result) (c .before .before .before .before .before .before .before .before .before .before .is-send .ensures) (c .before .before .before .before .before .before .before .before .before .if1 .left) (rowPassage (a .l .now) (l .j)) (only (meets T (a .h) v) (rest (a .l .now) (a .n) (l .j + 1)))
     (swept-in (meets T (a .h) v) (a .l .now) (a .n) (l .j) [] (c .before .is-met .result) (c .before .before .before .before .loop-test .taken) (c .before .is-met .ensures) (c .if4 .taken) (l .inv .1))
 
 add-j : tie.Need-add-j Inv-loop μ-loop
@@ -90,14 +90,14 @@ loop-again : tie.Need-loop-again Inv-loop μ-loop
 loop-again c =
     let a = c .before .before .before .before .before .before .before .before .before .before .before .before .before .args in
     let l = c .before .before .before .before .before .loop in
-    (omega (arith, c .before .before .before .before .before .before .before .before .before .before .before .before .before .pre .1), swept-out (meets (readOf (a .s .now) .table) (a .h) (rowVisit (a .l .now) (a .i))) (a .l .now) (a .n) (l .j) [] (c .before .is-met .result) (c .before .before .before .before .loop-test .taken) (c .before .is-met .ensures) (c .if4 .left) (l .inv .1))
+    (omega (arith, c .before .before .before .before .before .before .before .before .before .before .before .before .before .pre .1), swept-out (meets (readOf (a .s .now) .table) (a .h) (rowPassage (a .l .now) (a .i))) (a .l .now) (a .n) (l .j) [] (c .before .is-met .result) (c .before .before .before .before .loop-test .taken) (c .before .is-met .ensures) (c .if4 .left) (l .inv .1))
 
 returns-5 : tie.Need-returns-5 Inv-loop μ-loop
 returns-5 c =
     let a = c .before .before .before .before .before .before .before .before .before .args in
     let l = c .before .loop in
     let T = readOf (a .s .now) .table in
-    let v = rowVisit (a .l .now) (a .i) in
+    let v = rowPassage (a .l .now) (a .i) in
     collides-none T (a .h) (rowsOf (a .l .now) (a .n)) v (c .before .before .before .before .before .before .is-send .result) (c .before .before .before .before .before .before .is-send .ensures) (c .before .before .before .before .before .if1 .left) (swept-done (meets T (a .h) v) (a .l .now) (a .n) (l .j) [] (omega arith) (l .inv .1))
 
 pub collides-with-one-spec : {M : Type 1} → statement M

@@ -6,7 +6,7 @@ use Prim.Native.Nat.{ℕ, _+_, _-_, _≤_}
 use native.Mathlib.Omega.{arith}
 use Rattle.model.specs.Lists.{only}
 use Rattle.model.specs.Places.{readOf}
-use Rattle.rows.specs.Rows.{rowVisit, rowsOf}
+use Rattle.rows.specs.Rows.{rowPassage, rowsOf}
 use Rattle.rows.proofs.Placed.{row-known}
 use Rattle.checks.proofs.Swept.{rest, Counted, counted-in, counted-out, swept-at, swept-stop, swept-done}
 use Rattle.checks.proofs.Questions.{heardSend, heard-near, not-crowded, is-receive, crowded-few, crowded-two}
@@ -14,7 +14,7 @@ use Rattle.checks.proofs.is_crowded.Statement.{statement}
 use Rattle.checks.proofs.is_crowded.Tie as tie
 
 abbrev Inv-loop : tie.InvT-loop
-Inv-loop s l n i h until sends₀ j₀ sends j = (j ≤ n) × (sends ≤ 1) × Counted (heardSend (readOf s .table) h (rowVisit l i)) l n j sends
+Inv-loop s l n i h until sends₀ j₀ sends j = (j ≤ n) × (sends ≤ 1) × Counted (heardSend (readOf s .table) h (rowPassage l i)) l n j sends
 
 abbrev μ-loop : tie.MeasureT-loop
 μ-loop s l n i h until sends₀ j₀ sends j = n - j
@@ -28,7 +28,7 @@ row-receives-requires c κs =
 returns : tie.Need-returns Inv-loop μ-loop
 returns c =
     let a = c .before .before .before .before .args in
-    not-crowded (readOf (a .s .now) .table) (a .h) (rowsOf (a .l .now) (a .n)) (rowVisit (a .l .now) (a .i)) (c .before .row-receives .result) (c .before .row-receives .ensures) (c .if1 .taken)
+    not-crowded (readOf (a .s .now) .table) (a .h) (rowsOf (a .l .now) (a .n)) (rowPassage (a .l .now) (a .i)) (c .before .row-receives .result) (c .before .row-receives .ensures) (c .if1 .taken)
 
 number-requires : tie.Need-number-requires Inv-loop μ-loop
 number-requires c κs = omega (arith, c .before .before .before .before .pre .0 .fits, c .before .before .before .before .pre .1)
@@ -37,14 +37,14 @@ sends-before-requires : tie.Need-sends-before-requires Inv-loop μ-loop
 sends-before-requires c κs =
     let e = c .before .before .before .before .before in
     let a = e .args in
-    (e .pre .0, e .pre .1, is-receive (readOf (a .s .now) .table) 0 [] (rowVisit (a .l .now) (a .i)) (c .before .before .row-receives .result) (c .before .before .row-receives .ensures) (c .before .if1 .left))
+    (e .pre .0, e .pre .1, is-receive (readOf (a .s .now) .table) 0 [] (rowPassage (a .l .now) (a .i)) (c .before .before .row-receives .result) (c .before .before .row-receives .ensures) (c .before .if1 .left))
 
 returns-2 : tie.Need-returns-2 Inv-loop μ-loop
 returns-2 c =
     let e = c .before .before .before .before .before .before .before in
     let a = e .args in
     let T = readOf (a .s .now) .table in
-    let v = rowVisit (a .l .now) (a .i) in
+    let v = rowPassage (a .l .now) (a .i) in
     let p = heardSend T (a .h) v in
     crowded-two T (a .h) (rowsOf (a .l .now) (a .n)) v (c .before .before .before .before .row-receives .result) (c .before .before .before .before .row-receives .ensures) (c .before .before .before .if1 .left) (only p (rowsOf (a .l .now) (a .i))) (only p (rest (a .l .now) (a .n) (a .i))) (omega (arith, c .before .sends-before .ensures, c .if2 .taken)) (swept-at p (a .s .now) (a .l .now) (a .n) (a .i) (e .pre .0) (e .pre .1) (heard-near T (a .h) (a .l .now) (a .i)) _ refl)
 
@@ -53,7 +53,7 @@ loop-holds c =
     let e = c .before .before .before .before .before .before .before in
     let a = e .args in
     let T = readOf (a .s .now) .table in
-    let p = heardSend T (a .h) (rowVisit (a .l .now) (a .i)) in (
+    let p = heardSend T (a .h) (rowPassage (a .l .now) (a .i)) in (
       omega (arith, e .pre .1),
       omega (arith, c .if2 .left),
       record {
@@ -72,7 +72,7 @@ returns-3 c =
     let a = e .args in
     let l = c .before .before .before .loop in
     let T = readOf (a .s .now) .table in
-    let v = rowVisit (a .l .now) (a .i) in
+    let v = rowPassage (a .l .now) (a .i) in
     crowded-few T (a .h) (rowsOf (a .l .now) (a .n)) v (c .before .before .before .before .before .before .before .before .row-receives .result) (c .before .before .before .before .before .before .before .before .row-receives .ensures) (c .before .before .before .before .before .before .before .if1 .left) (l .inv .2 .found) (omega (arith, l .inv .2 .count))
     (swept-stop (heardSend T (a .h) v) (a .s .now) (a .l .now) (a .n) (a .i) (e .pre .0) (e .pre .1) (heard-near T (a .h) (a .l .now) (a .i)) (l .j) (l .inv .2 .found) (c .before .before .loop-test .taken) (omega (arith, c .before .before .before .before .before .before .number .ensures, c .before .number2 .ensures)) (l .inv .2 .swept))
 
@@ -80,7 +80,7 @@ hears-send-requires : tie.Need-hears-send-requires Inv-loop μ-loop
 hears-send-requires c κs =
     let e = c .before .before .before .before .before .before .before .before .before .before .before in
     let a = e .args in
-    (row-known (a .s .now) (a .l .now) (a .n) (a .i) (e .pre .0) (e .pre .1), row-known (a .s .now) (a .l .now) (a .n) (c .before .before .before .loop .j) (e .pre .0) (c .before .before .loop-test .taken), is-receive (readOf (a .s .now) .table) 0 [] (rowVisit (a .l .now) (a .i)) (c .before .before .before .before .before .before .before .before .row-receives .result) (c .before .before .before .before .before .before .before .before .row-receives .ensures) (c .before .before .before .before .before .before .before .if1 .left))
+    (row-known (a .s .now) (a .l .now) (a .n) (a .i) (e .pre .0) (e .pre .1), row-known (a .s .now) (a .l .now) (a .n) (c .before .before .before .loop .j) (e .pre .0) (c .before .before .loop-test .taken), is-receive (readOf (a .s .now) .table) 0 [] (rowPassage (a .l .now) (a .i)) (c .before .before .before .before .before .before .before .before .row-receives .result) (c .before .before .before .before .before .before .before .before .row-receives .ensures) (c .before .before .before .before .before .before .before .if1 .left))
 
 add-sends : tie.Need-add-sends Inv-loop μ-loop
 add-sends c = omega (arith, c .before .before .before .before .before .loop .inv .1)
@@ -90,7 +90,7 @@ returns-4 c =
     let a = c .before .before .before .before .before .before .before .before .before .before .before .before .before .before .args in
     let l = c .before .before .before .before .before .before .loop in
     let T = readOf (a .s .now) .table in
-    let v = rowVisit (a .l .now) (a .i) in
+    let v = rowPassage (a .l .now) (a .i) in
     let more = counted-in (heardSend T (a .h) v) (a .l .now) (a .n) (l .j) (l .sends) (c .before .before .hears-send .result) (c .before .before .before .before .before .loop-test .taken) (c .before .before .hears-send .ensures) (l .inv .2) (c .before .if4 .taken) in
     crowded-two T (a .h) (rowsOf (a .l .now) (a .n)) v (c .before .before .before .before .before .before .before .before .before .before .before .row-receives .result) (c .before .before .before .before .before .before .before .before .before .before .before .row-receives .ensures) (c .before .before .before .before .before .before .before .before .before .before .if1 .left) (more .found) (only (heardSend T (a .h) v) (rest (a .l .now) (a .n) (l .j + 1))) (omega (arith, more .count, c .if5 .taken)) (more .swept)
 
@@ -104,7 +104,7 @@ loop-again : tie.Need-loop-again Inv-loop μ-loop
 loop-again c =
     let a = c .before .before .before .before .before .before .before .before .before .before .before .before .before .args in
     let l = c .before .before .before .before .before .loop in
-    let p = heardSend (readOf (a .s .now) .table) (a .h) (rowVisit (a .l .now) (a .i)) in
+    let p = heardSend (readOf (a .s .now) .table) (a .h) (rowPassage (a .l .now) (a .i)) in
     ⊎-elim
     (λ w. (omega (arith, c .before .before .before .before .before .before .before .before .before .before .before .before .before .pre .1), omega (arith, w .1 .left, w .2), subst (λ (k : ℕ). Counted p (a .l .now) (a .n) (l .j + 1) k) (sym (w .2)) (counted-in p (a .l .now) (a .n) (l .j) (l .sends) (c .before .hears-send .result) (c .before .before .before .before .loop-test .taken) (c .before .hears-send .ensures) (l .inv .2) (w .0 .taken))))
     (λ w. (omega (arith, c .before .before .before .before .before .before .before .before .before .before .before .before .before .pre .1), omega (arith, l .inv .1, w .1), subst (λ (k : ℕ). Counted p (a .l .now) (a .n) (l .j + 1) k) (sym (w .1)) (counted-out p (a .l .now) (a .n) (l .j) (l .sends) (c .before .hears-send .result) (c .before .before .before .before .loop-test .taken) (c .before .hears-send .ensures) (l .inv .2) (w .0 .left))))
@@ -115,7 +115,7 @@ returns-5 c =
     let a = c .before .before .before .before .before .before .before .before .before .args in
     let l = c .before .loop in
     let T = readOf (a .s .now) .table in
-    let v = rowVisit (a .l .now) (a .i) in
+    let v = rowPassage (a .l .now) (a .i) in
     crowded-few T (a .h) (rowsOf (a .l .now) (a .n)) v (c .before .before .before .before .before .before .row-receives .result) (c .before .before .before .before .before .before .row-receives .ensures) (c .before .before .before .before .before .if1 .left) (l .inv .2 .found) (omega (arith, l .inv .2 .count)) (swept-done (heardSend T (a .h) v) (a .l .now) (a .n) (l .j) (l .inv .2 .found) (omega arith) (l .inv .2 .swept))
 
 pub is-crowded-spec : {M : Type 1} → statement M

@@ -4,7 +4,7 @@ use borrow.Author.Needs.{needs}
 use lib.Count.{trailing-le}
 use Rattle.model.specs.Lists.{only}
 use Rattle.model.specs.Places.{readOf}
-use Rattle.rows.specs.Rows.{rowVisit, rowsOf}
+use Rattle.rows.specs.Rows.{rowPassage, rowsOf}
 use Rattle.rows.proofs.Placed.{row-known}
 use Rattle.checks.proofs.Questions.{hearing}
 use Rattle.checks.proofs.Sending.{row-small}
@@ -28,14 +28,14 @@ returns : tie.Need-returns
 returns c =
     let a = c .before .before .before .before .before .before .args in
     let r = c .before .listeners-from in
-    let v = rowVisit (a .l .now) (a .i) in
+    let v = rowPassage (a .l .now) (a .i) in
     not-one (a .l .now) (a .n) (r .result .listening) (r .result .repeated) (r .result .row) v (only (hearing (readOf (a .s .now) .table) v) (rowsOf (a .l .now) (a .n))) (r .ensures) (λ z. omega (arith, z, c .if1 .taken))
 
 returns-2 : tie.Need-returns-2
 returns-2 c =
     let a = c .before .before .before .before .before .before .before .args in
     let r = c .before .before .listeners-from in
-    let v = rowVisit (a .l .now) (a .i) in
+    let v = rowPassage (a .l .now) (a .i) in
     not-once (a .l .now) (a .n) (r .result .listening) (r .result .repeated) (r .result .row) v (only (hearing (readOf (a .s .now) .table) v) (rowsOf (a .l .now) (a .n))) (r .ensures) (λ z. omega (arith, z, c .if2 .taken))
 
 cast-listener : tie.Need-cast-listener
@@ -45,7 +45,7 @@ mul-surrounds : tie.Need-mul-surrounds
 mul-surrounds c = omega (arith, trailing-le 8 (c .before .before .listeners-from .result .listening))
 
 -- the listener's number, its row and the one window found
-alone : (c : tie.Else2) → AloneAt (c .before .before .before .before .before .before .before .args .l .now) (c .before .before .before .before .before .before .before .args .n) (c .before .before .listeners-from .result .listening) (c .before .before .listeners-from .result .row) (only (hearing (readOf (c .before .before .before .before .before .before .before .args .s .now) .table) (rowVisit (c .before .before .before .before .before .before .before .args .l .now) (c .before .before .before .before .before .before .before .args .i))) (rowsOf (c .before .before .before .before .before .before .before .args .l .now) (c .before .before .before .before .before .before .before .args .n)))
+alone : (c : tie.Else2) → AloneAt (c .before .before .before .before .before .before .before .args .l .now) (c .before .before .before .before .before .before .before .args .n) (c .before .before .listeners-from .result .listening) (c .before .before .listeners-from .result .row) (only (hearing (readOf (c .before .before .before .before .before .before .before .args .s .now) .table) (rowPassage (c .before .before .before .before .before .before .before .args .l .now) (c .before .before .before .before .before .before .before .args .i))) (rowsOf (c .before .before .before .before .before .before .before .args .l .now) (c .before .before .before .before .before .before .before .args .n)))
 alone c =
     let e = c .before .before .before .before .before .before .before in
     let a = e .args in
@@ -63,7 +63,7 @@ surrounds-requires c κs =
 returns-3 : tie.Need-returns-3
 returns-3 c =
     let a = c .before .before .before .before .before .before .before .before .before .args in
-    heard-alone (a .l .now) (rowVisit (a .l .now) (a .i)) _ _ (c .surrounds .result) (alone (c .before .before) .only) (c .surrounds .ensures)
+    heard-alone (a .l .now) (rowPassage (a .l .now) (a .i)) _ _ (c .surrounds .result) (alone (c .before .before) .only) (c .surrounds .ensures)
 
 pub is-heard-well-spec : {M : Type 1} → statement M
 is-heard-well-spec =

@@ -1,7 +1,7 @@
 -- `checks::is_met` meets its contract. Assumes nothing.
 use borrow.Author.Needs.{needs}
 use Rattle.model.specs.Places.{readOf}
-use Rattle.rows.specs.Rows.{rowVisit}
+use Rattle.rows.specs.Rows.{rowPassage}
 use Rattle.checks.proofs.Questions.{not-met, met}
 use Rattle.checks.proofs.is_met.Statement.{statement}
 use Rattle.checks.proofs.is_met.Tie as tie
@@ -12,7 +12,7 @@ overlap-requires c κs = search needs
 returns : tie.Need-returns
 returns c =
     let a = c .before .before .before .before .args in
-    not-met (readOf (a .s .now) .table) (a .h) (rowVisit (a .l .now) (a .i)) (rowVisit (a .l .now) (a .j)) (c .before .overlap .result) (c .before .overlap .ensures) (c .if1 .taken)
+    not-met (readOf (a .s .now) .table) (a .h) (rowPassage (a .l .now) (a .i)) (rowPassage (a .l .now) (a .j)) (c .before .overlap .result) (c .before .overlap .ensures) (c .if1 .taken)
 
 is-send-requires : tie.Need-is-send-requires
 is-send-requires c κs = search needs
@@ -20,7 +20,7 @@ is-send-requires c κs = search needs
 returns-2 : tie.Need-returns-2
 returns-2 c =
     let a = c .before .before .before .before .before .args in
-    met (readOf (a .s .now) .table) (a .h) (rowVisit (a .l .now) (a .i)) (rowVisit (a .l .now) (a .j)) (c .before .before .overlap .result) (c .is-send .result) (c .before .before .overlap .ensures) (c .before .if1 .left) (c .is-send .ensures)
+    met (readOf (a .s .now) .table) (a .h) (rowPassage (a .l .now) (a .i)) (rowPassage (a .l .now) (a .j)) (c .before .before .overlap .result) (c .is-send .result) (c .before .before .overlap .ensures) (c .before .if1 .left) (c .is-send .ensures)
 
 pub is-met-spec : {M : Type 1} → statement M
 is-met-spec = tie.close (tie.spec overlap-requires returns is-send-requires returns-2)

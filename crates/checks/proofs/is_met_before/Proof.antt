@@ -7,7 +7,7 @@ use Rattle.model.specs.Lists.{only}
 use Rattle.model.specs.Places.{readOf}
 use Rattle.model.specs.Checks.{meets}
 use Rattle.model.proofs.Members.{only-none, any-none}
-use Rattle.rows.specs.Rows.{rowVisit, rowsFrom, rowsOf}
+use Rattle.rows.specs.Rows.{rowPassage, rowsFrom, rowsOf}
 use Rattle.rows.proofs.Placed.{row-known}
 use Rattle.rows.proofs.Sought.{linked-below}
 use Rattle.checks.proofs.Questions.{meets-near}
@@ -16,7 +16,7 @@ use Rattle.checks.proofs.is_met_before.Statement.{statement}
 use Rattle.checks.proofs.is_met_before.Tie as tie
 
 abbrev Inv-loop : tie.InvT-loop
-Inv-loop s l n i h ready j₀ j = (j ≤ i) × (only (meets (readOf s .table) h (rowVisit l i)) (rowsFrom l j (i - j)) ≡ [])
+Inv-loop s l n i h ready j₀ j = (j ≤ i) × (only (meets (readOf s .table) h (rowPassage l i)) (rowsFrom l j (i - j)) ≡ [])
 
 abbrev μ-loop : tie.MeasureT-loop
 μ-loop s l n i h ready j₀ j = j
@@ -33,7 +33,7 @@ loop-holds c =
     let a = e .args in
     let r = c .open-before in
     let T = readOf (a .s .now) .table in
-    (r .ensures .0, back-start (meets T (a .h) (rowVisit (a .l .now) (a .i))) (a .s .now) (a .l .now) (a .n) (a .i) (e .pre .0) (e .pre .1) (meets-near T (a .h) (a .l .now) (a .i)) (r .result) (r .ensures .0) (λ t x y. omega (arith, r .ensures .1 t x y, c .before .number .ensures)))
+    (r .ensures .0, back-start (meets T (a .h) (rowPassage (a .l .now) (a .i))) (a .s .now) (a .l .now) (a .n) (a .i) (e .pre .0) (e .pre .1) (meets-near T (a .h) (a .l .now) (a .i)) (r .result) (r .ensures .0) (λ t x y. omega (arith, r .ensures .1 t x y, c .before .number .ensures)))
 
 sub-k : tie.Need-sub-k Inv-loop μ-loop
 sub-k c = omega (arith, c .loop-test .taken)
@@ -50,7 +50,7 @@ returns c =
     let a = e .args in
     let l = c .before .before .before .loop in
     let T = readOf (a .s .now) .table in
-    sym (back-any (meets T (a .h) (rowVisit (a .l .now) (a .i))) (a .s .now) (a .l .now) (a .n) (a .i) (e .pre .0) (e .pre .1) (meets-near T (a .h) (a .l .now) (a .i)) (l .j - 1) (c .before .is-met .result) (omega (arith, c .before .before .loop-test .taken, l .inv .0)) (c .before .is-met .ensures) (c .if1 .taken))
+    sym (back-any (meets T (a .h) (rowPassage (a .l .now) (a .i))) (a .s .now) (a .l .now) (a .n) (a .i) (e .pre .0) (e .pre .1) (meets-near T (a .h) (a .l .now) (a .i)) (l .j - 1) (c .before .is-met .result) (omega (arith, c .before .before .loop-test .taken, l .inv .0)) (c .before .is-met .ensures) (c .if1 .taken))
 
 open-before-requires-2 : tie.Need-open-before-requires-2 Inv-loop μ-loop
 open-before-requires-2 c κs = linked-below (c .before .before .before .before .before .before .before .before .pre .0) (c .before .before .before .loop .j - 1) (omega (arith, c .before .before .before .loop .inv .0, c .before .before .before .before .before .before .before .before .pre .1))
@@ -67,7 +67,7 @@ loop-again c =
     let k = l .j - 1 in
     let z : l .j ≡ k + 1 = omega (arith, c .before .before .before .loop-test .taken) in
     let T = readOf (a .s .now) .table in
-    let p = meets T (a .h) (rowVisit (a .l .now) (a .i)) in
+    let p = meets T (a .h) (rowPassage (a .l .now) (a .i)) in
     let q = subst (λ (m : ℕ). only p (rowsFrom (a .l .now) m (a .i - m)) ≡ []) z (l .inv .1) in
     (omega (arith, r .ensures .0, l .inv .0), back-out p (a .s .now) (a .l .now) (a .n) (a .i) (e .pre .0) (e .pre .1) (meets-near T (a .h) (a .l .now) (a .i)) (r .result) k [] (omega (arith, c .before .before .before .loop-test .taken, l .inv .0)) (r .ensures .0) (λ t x y. omega (arith, r .ensures .1 t x y, c .before .before .before .before .before .before .number .ensures)) q (c .before .before .is-met .result) (c .before .before .is-met .ensures) (c .before .if1 .left))
 
@@ -77,7 +77,7 @@ returns-2 c =
     let a = e .args in
     let l = c .before .loop in
     let T = readOf (a .s .now) .table in
-    let p = meets T (a .h) (rowVisit (a .l .now) (a .i)) in
+    let p = meets T (a .h) (rowPassage (a .l .now) (a .i)) in
     let none = back-done p (a .s .now) (a .l .now) (a .n) (a .i) (e .pre .0) (e .pre .1) (meets-near T (a .h) (a .l .now) (a .i)) (l .j) [] (omega (arith, c .loop-test .left)) (l .inv .1) in
     sym (any-none p (rowsOf (a .l .now) (a .i)) .1 (only-none p (rowsOf (a .l .now) (a .i)) .0 none))
 

@@ -1,7 +1,7 @@
 -- `checks::is_unheard` meets its contract. Assumes nothing.
 use borrow.Author.Needs.{needs}
 use Rattle.model.specs.Places.{readOf}
-use Rattle.rows.specs.Rows.{rowVisit, rowsOf}
+use Rattle.rows.specs.Rows.{rowPassage, rowsOf}
 use Rattle.rows.proofs.Placed.{row-known}
 use Rattle.checks.proofs.Questions.{not-asked, heard-or-not}
 use Rattle.checks.proofs.is_unheard.Statement.{statement}
@@ -16,7 +16,7 @@ is-send-requires c κs =
 returns : tie.Need-returns
 returns c =
     let a = c .before .before .before .before .args in
-    not-asked (readOf (a .s .now) .table) (a .h) (rowVisit (a .l .now) (a .i)) (c .before .is-send .result) _ (c .before .is-send .ensures) (c .if1 .taken)
+    not-asked (readOf (a .s .now) .table) (a .h) (rowPassage (a .l .now) (a .i)) (c .before .is-send .result) _ (c .before .is-send .ensures) (c .if1 .taken)
 
 is-heard-well-requires : tie.Need-is-heard-well-requires
 is-heard-well-requires c κs = search needs
@@ -24,7 +24,7 @@ is-heard-well-requires c κs = search needs
 returns-2 : tie.Need-returns-2
 returns-2 c =
     let a = c .before .before .before .before .before .args in
-    heard-or-not (readOf (a .s .now) .table) (a .h) (rowsOf (a .l .now) (a .n)) (rowVisit (a .l .now) (a .i)) (c .before .before .is-send .result) (c .before .before .is-send .ensures) (c .before .if1 .left) (c .is-heard-well .result) (c .is-heard-well .ensures)
+    heard-or-not (readOf (a .s .now) .table) (a .h) (rowsOf (a .l .now) (a .n)) (rowPassage (a .l .now) (a .i)) (c .before .before .is-send .result) (c .before .before .is-send .ensures) (c .before .if1 .left) (c .is-heard-well .result) (c .is-heard-well .ensures)
 
 pub is-unheard-spec : {M : Type 1} → statement M
 is-unheard-spec = tie.close (tie.spec is-send-requires returns is-heard-well-requires returns-2)

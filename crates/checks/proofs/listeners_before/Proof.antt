@@ -5,8 +5,8 @@ use mathlib.Core.List.{List, []}
 use Prim.Native.Nat.{ℕ, _+_, _-_, _≤_, _<_}
 use native.Mathlib.Omega.{arith}
 use Rattle.model.specs.Places.{readOf}
-use Rattle.model.specs.Schedule.{Visit}
-use Rattle.rows.specs.Rows.{num, rowVisit}
+use Rattle.model.specs.Schedule.{Passage}
+use Rattle.rows.specs.Rows.{num, rowPassage}
 use Rattle.rows.proofs.Placed.{row-known}
 use Rattle.rows.proofs.Sought.{linked-below}
 use Rattle.checks.specs.Listening.{Noted}
@@ -19,7 +19,7 @@ use Rattle.checks.proofs.listeners_before.Tie as tie
 
 abbrev Inv-loop : tie.InvT-loop
 Inv-loop s l n i channel listening₀ repeated₀ row₀ ready j₀ listening repeated row j =
-    (j ≤ i) × ListenedBack (hearing (readOf s .table) (rowVisit l i)) l n i j listening repeated row
+    (j ≤ i) × ListenedBack (hearing (readOf s .table) (rowPassage l i)) l n i j listening repeated row
 
 abbrev μ-loop : tie.MeasureT-loop
 μ-loop s l n i channel listening₀ repeated₀ row₀ ready j₀ listening repeated row j = j
@@ -39,7 +39,7 @@ loop-holds c =
       r .ensures .0,
       record {
         found = [];
-        back = back-start (hearing T (rowVisit (a .l .now) (a .i))) (a .s .now) (a .l .now) (a .n) (a .i) (e .pre .0) (e .pre .1) (hear-near T (a .l .now) (a .i)) (r .result) (r .ensures .0) (λ t x y. omega (arith, r .ensures .1 t x y, c .before .number .ensures));
+        back = back-start (hearing T (rowPassage (a .l .now) (a .i))) (a .s .now) (a .l .now) (a .n) (a .i) (e .pre .0) (e .pre .1) (hear-near T (a .l .now) (a .i)) (r .result) (r .ensures .0) (λ t x y. omega (arith, r .ensures .1 t x y, c .before .number .ensures));
         noted = noted-none (a .l .now) _ (a .n) refl;
       },
     )
@@ -90,7 +90,7 @@ loop-again c =
     let k = l .j - 1 in
     let z : l .j ≡ k + 1 = omega (arith, c .before .before .before .loop-test .taken) in
     let T = readOf (a .s .now) .table in
-    let p = hearing T (rowVisit (a .l .now) (a .i)) in
+    let p = hearing T (rowPassage (a .l .now) (a .i)) in
     let q = subst (λ (m : ℕ). ListenedBack p (a .l .now) (a .n) (a .i) m (l .listening) (l .repeated) (l .row)) z (l .inv .1) in
     let below : k < a .i = omega (arith, c .before .before .before .loop-test .taken, l .inv .0) in
     let ended : (t : ℕ) → r .result ≤ t → t < k → num (a .l .now) t 5 < num (a .l .now) (a .i) 4 = λ t x y. omega (arith, r .ensures .1 t x y, c .before .before .before .before .before .before .number .ensures) in
@@ -108,9 +108,9 @@ returns c =
     let a = e .args in
     let l = c .before .loop in
     let T = readOf (a .s .now) .table in
-    let p = hearing T (rowVisit (a .l .now) (a .i)) in
+    let p = hearing T (rowPassage (a .l .now) (a .i)) in
     subst
-    (λ (vs : List Visit). Noted (a .l .now) (a .n) vs (l .listening) (l .repeated) (l .row))
+    (λ (vs : List Passage). Noted (a .l .now) (a .n) vs (l .listening) (l .repeated) (l .row))
     (sym (back-done p (a .s .now) (a .l .now) (a .n) (a .i) (e .pre .0) (e .pre .1) (hear-near T (a .l .now) (a .i)) (l .j) (l .inv .1 .found) (omega (arith, c .loop-test .left)) (l .inv .1 .back)))
     (l .inv .1 .noted)
 

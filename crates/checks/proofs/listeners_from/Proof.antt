@@ -6,8 +6,8 @@ use Prim.Native.Nat.{ℕ, _+_, _-_, _≤_, _<_}
 use native.Mathlib.Omega.{arith}
 use Rattle.model.specs.Lists.{only}
 use Rattle.model.specs.Places.{readOf}
-use Rattle.model.specs.Schedule.{Visit}
-use Rattle.rows.specs.Rows.{num, rowVisit, rowsOf}
+use Rattle.model.specs.Schedule.{Passage}
+use Rattle.rows.specs.Rows.{num, rowPassage, rowsOf}
 use Rattle.rows.proofs.Placed.{row-known}
 use Rattle.checks.specs.Listening.{Noted}
 use Rattle.checks.proofs.Questions.{hearing, hear-near}
@@ -19,7 +19,7 @@ use Rattle.checks.proofs.listeners_from.Tie as tie
 
 abbrev Inv-loop : tie.InvT-loop
 Inv-loop s l n i channel until listening₀ repeated₀ row₀ j₀ listening repeated row j =
-    (j ≤ n) × Listened (hearing (readOf s .table) (rowVisit l i)) l n j listening repeated row
+    (j ≤ n) × Listened (hearing (readOf s .table) (rowPassage l i)) l n j listening repeated row
 
 abbrev μ-loop : tie.MeasureT-loop
 μ-loop s l n i channel until listening₀ repeated₀ row₀ j₀ listening repeated row j = n - j
@@ -32,7 +32,7 @@ loop-holds c =
     let e = c .before .before .before .before in
     let a = e .args in
     let T = readOf (a .s .now) .table in
-    let p = hearing T (rowVisit (a .l .now) (a .i)) in (
+    let p = hearing T (rowPassage (a .l .now) (a .i)) in (
       omega (arith, e .pre .1),
       record {
         found = only p (rowsOf (a .l .now) (a .i));
@@ -84,7 +84,7 @@ loop-again c =
     let a = e .args in
     let l = c .before .before .before .before .before .loop in
     let there = c .before .before .before .before .loop-test .taken in
-    let p = hearing (readOf (a .s .now) .table) (rowVisit (a .l .now) (a .i)) in
+    let p = hearing (readOf (a .s .now) .table) (rowPassage (a .l .now) (a .i)) in
     let few = row-small (a .s .now) (a .l .now) (a .n) (l .j) (c .before .before .before .before .before .before .before .before .before .shared-slice-known .given) (e .pre .0) there in (
       omega (arith, there),
       ⊎-elim
@@ -97,9 +97,9 @@ returns : tie.Need-returns Inv-loop μ-loop
 returns c =
     let a = c .before .before .before .before .before .before .args in
     let l = c .before .loop in
-    let p = hearing (readOf (a .s .now) .table) (rowVisit (a .l .now) (a .i)) in
+    let p = hearing (readOf (a .s .now) .table) (rowPassage (a .l .now) (a .i)) in
     subst
-    (λ (vs : List Visit). Noted (a .l .now) (a .n) vs (l .listening) (l .repeated) (l .row))
+    (λ (vs : List Passage). Noted (a .l .now) (a .n) vs (l .listening) (l .repeated) (l .row))
     (swept-done p (a .l .now) (a .n) (l .j) (l .inv .1 .found) (c .loop-test .left) (l .inv .1 .swept))
     (l .inv .1 .noted)
 
@@ -109,9 +109,9 @@ returns-2 c =
     let a = e .args in
     let l = c .before .before .before .loop in
     let T = readOf (a .s .now) .table in
-    let p = hearing T (rowVisit (a .l .now) (a .i)) in
+    let p = hearing T (rowPassage (a .l .now) (a .i)) in
     subst
-    (λ (vs : List Visit). Noted (a .l .now) (a .n) vs (l .listening) (l .repeated) (l .row))
+    (λ (vs : List Passage). Noted (a .l .now) (a .n) vs (l .listening) (l .repeated) (l .row))
     (swept-stop p (a .s .now) (a .l .now) (a .n) (a .i) (e .pre .0) (e .pre .1) (hear-near T (a .l .now) (a .i)) (l .j) (l .inv .1 .found) (c .before .before .loop-test .taken) (omega (arith, c .before .before .before .before .before .number .ensures, c .before .number2 .ensures, c .if1 .taken)) (l .inv .1 .swept))
     (l .inv .1 .noted)
 

@@ -1,7 +1,7 @@
 -- `checks::may_hear` meets its contract. Assumes nothing.
 use borrow.Author.Needs.{needs}
 use Rattle.model.specs.Places.{readOf}
-use Rattle.rows.specs.Rows.{messageOf, rowVisit}
+use Rattle.rows.specs.Rows.{messageOf, rowPassage}
 use Rattle.checks.proofs.Questions.{not-beside, not-receive, hear}
 use Rattle.checks.proofs.may_hear.Statement.{statement}
 use Rattle.checks.proofs.may_hear.Tie as tie
@@ -12,7 +12,7 @@ overlap-requires c κs = search needs
 returns : tie.Need-returns
 returns c =
     let a = c .before .before .before .before .args in
-    not-beside (readOf (a .s .now) .table) (rowVisit (a .l .now) (a .j)) (rowVisit (a .l .now) (a .i)) (c .before .overlap .result) (c .before .overlap .ensures) (c .if1 .taken)
+    not-beside (readOf (a .s .now) .table) (rowPassage (a .l .now) (a .j)) (rowPassage (a .l .now) (a .i)) (c .before .overlap .result) (c .before .overlap .ensures) (c .if1 .taken)
 
 row-receives-requires : tie.Need-row-receives-requires
 row-receives-requires c κs = search needs
@@ -20,7 +20,7 @@ row-receives-requires c κs = search needs
 returns-2 : tie.Need-returns-2
 returns-2 c =
     let a = c .before .before .before .before .before .before .args in
-    not-receive (readOf (a .s .now) .table) (rowVisit (a .l .now) (a .j)) (rowVisit (a .l .now) (a .i)) (c .before .row-receives .result) (c .before .row-receives .ensures) (c .if2 .taken)
+    not-receive (readOf (a .s .now) .table) (rowPassage (a .l .now) (a .j)) (rowPassage (a .l .now) (a .i)) (c .before .row-receives .result) (c .before .row-receives .ensures) (c .if2 .taken)
 
 row-lists-requires : tie.Need-row-lists-requires
 row-lists-requires c κs = search needs
@@ -29,7 +29,7 @@ returns-3 : tie.Need-returns-3
 returns-3 c =
     let e = c .before .before .before .before .before .before .before in
     let a = e .args in
-    hear (readOf (a .s .now) .table) (rowVisit (a .l .now) (a .j)) (rowVisit (a .l .now) (a .i)) (c .before .before .before .before .overlap .result) (c .before .before .row-receives .result) (c .row-lists .result) (messageOf (a .channel)) (c .before .before .before .before .overlap .ensures) (c .before .before .before .if1 .left) (c .before .before .row-receives .ensures) (c .before .if2 .left) (e .pre .2) (c .row-lists .ensures)
+    hear (readOf (a .s .now) .table) (rowPassage (a .l .now) (a .j)) (rowPassage (a .l .now) (a .i)) (c .before .before .before .before .overlap .result) (c .before .before .row-receives .result) (c .row-lists .result) (messageOf (a .channel)) (c .before .before .before .before .overlap .ensures) (c .before .before .before .if1 .left) (c .before .before .row-receives .ensures) (c .before .if2 .left) (e .pre .2) (c .row-lists .ensures)
 
 pub may-hear-spec : {M : Type 1} → statement M
 may-hear-spec =

@@ -7,7 +7,7 @@ use native.Mathlib.Omega.{arith}
 use lib.ListN.{length}
 use Rattle.model.specs.Lists.{only}
 use Rattle.model.specs.Places.{readOf}
-use Rattle.rows.specs.Rows.{num, rowVisit, rowsFrom, rowsOf}
+use Rattle.rows.specs.Rows.{num, rowPassage, rowsFrom, rowsOf}
 use Rattle.rows.proofs.Placed.{row-known}
 use Rattle.rows.proofs.Sought.{linked-below}
 use Rattle.checks.proofs.Questions.{heardSend, heard-near}
@@ -17,7 +17,7 @@ use Rattle.checks.proofs.sends_before.Tie as tie
 
 abbrev Inv-loop : tie.InvT-loop
 Inv-loop s l n i h ready sends₀ j₀ sends j =
-    (j ≤ i) × (sends + j ≤ i) × (sends ≡ length (only (heardSend (readOf s .table) h (rowVisit l i)) (rowsFrom l j (i - j))))
+    (j ≤ i) × (sends + j ≤ i) × (sends ≡ length (only (heardSend (readOf s .table) h (rowPassage l i)) (rowsFrom l j (i - j))))
 
 abbrev μ-loop : tie.MeasureT-loop
 μ-loop s l n i h ready sends₀ j₀ sends j = j
@@ -34,7 +34,7 @@ loop-holds c =
     let a = e .args in
     let r = c .open-before in
     let T = readOf (a .s .now) .table in
-    let none = back-start (heardSend T (a .h) (rowVisit (a .l .now) (a .i))) (a .s .now) (a .l .now) (a .n) (a .i) (e .pre .0) (e .pre .1) (heard-near T (a .h) (a .l .now) (a .i)) (r .result) (r .ensures .0) (λ t x y. omega (arith, r .ensures .1 t x y, c .before .number .ensures)) in
+    let none = back-start (heardSend T (a .h) (rowPassage (a .l .now) (a .i))) (a .s .now) (a .l .now) (a .n) (a .i) (e .pre .0) (e .pre .1) (heard-near T (a .h) (a .l .now) (a .i)) (r .result) (r .ensures .0) (λ t x y. omega (arith, r .ensures .1 t x y, c .before .number .ensures)) in
     (r .ensures .0, omega (arith, r .ensures .0), sym (ap length none))
 
 sub-k : tie.Need-sub-k Inv-loop μ-loop
@@ -64,7 +64,7 @@ loop-again c =
     let k = l .j - 1 in
     let z : l .j ≡ k + 1 = omega (arith, c .before .before .before .loop-test .taken) in
     let T = readOf (a .s .now) .table in
-    let p = heardSend T (a .h) (rowVisit (a .l .now) (a .i)) in
+    let p = heardSend T (a .h) (rowPassage (a .l .now) (a .i)) in
     let f = only p (rowsFrom (a .l .now) (k + 1) (a .i - (k + 1))) in
     let q = subst (λ (m : ℕ). l .sends ≡ length (only p (rowsFrom (a .l .now) m (a .i - m)))) z (l .inv .2) in
     let below : k < a .i = omega (arith, c .before .before .before .loop-test .taken, l .inv .0) in
@@ -80,7 +80,7 @@ returns c =
     let a = e .args in
     let l = c .before .loop in
     let T = readOf (a .s .now) .table in
-    let p = heardSend T (a .h) (rowVisit (a .l .now) (a .i)) in
+    let p = heardSend T (a .h) (rowPassage (a .l .now) (a .i)) in
     l .inv .2 ∙ sym (ap length (back-done p (a .s .now) (a .l .now) (a .n) (a .i) (e .pre .0) (e .pre .1) (heard-near T (a .h) (a .l .now) (a .i)) (l .j) _ (omega (arith, c .loop-test .left)) refl))
 
 pub sends-before-spec : {M : Type 1} → statement M

@@ -1,6 +1,6 @@
 -- `checks::surrounds` meets its contract. Assumes nothing.
 use borrow.Author.Needs.{needs}
-use Rattle.rows.specs.Rows.{rowVisit}
+use Rattle.rows.specs.Rows.{rowPassage}
 use Rattle.checks.proofs.Questions.{surrounds-is}
 use Rattle.checks.proofs.surrounds.Statement.{statement}
 use Rattle.checks.proofs.surrounds.Tie as tie
@@ -23,7 +23,7 @@ both-requires c κs = search needs
 returns : tie.Need-returns
 returns c =
     let a = c .before .before .before .before .before .before .args in
-    surrounds-is (rowVisit (a .l .now) (a .k)) (rowVisit (a .l .now) (a .i)) (c .before .before .before .before .number .result) (c .before .before .before .number2 .result) (c .before .before .number3 .result) (c .before .number4 .result) (c .both .result) (c .before .before .before .before .number .ensures) (c .before .before .before .number2 .ensures) (c .before .before .number3 .ensures) (c .before .number4 .ensures) (c .both .ensures)
+    surrounds-is (rowPassage (a .l .now) (a .k)) (rowPassage (a .l .now) (a .i)) (c .before .before .before .before .number .result) (c .before .before .before .number2 .result) (c .before .before .number3 .result) (c .before .number4 .result) (c .both .result) (c .before .before .before .before .number .ensures) (c .before .before .before .number2 .ensures) (c .before .before .number3 .ensures) (c .before .number4 .ensures) (c .both .ensures)
 
 pub surrounds-spec : {M : Type 1} → statement M
 surrounds-spec =

@@ -4,7 +4,7 @@ use mathlib.Core.Logic.{⊎-elim}
 use Prim.Native.Nat.{ℕ, _+_, _-_, _≤_}
 use native.Mathlib.Omega.{arith}
 use Rattle.model.specs.Places.{readOf}
-use Rattle.rows.specs.Rows.{rowVisit}
+use Rattle.rows.specs.Rows.{rowPassage}
 use Rattle.rows.proofs.Placed.{row-known}
 use Rattle.checks.proofs.Swept.{Counted, counted-in, counted-out}
 use Rattle.meetings.specs.Asked.{metBy}
@@ -13,7 +13,7 @@ use Rattle.meetings.proofs.count_met.Statement.{statement}
 use Rattle.meetings.proofs.count_met.Tie as tie
 
 abbrev Inv-loop : tie.InvT-loop
-Inv-loop s l n i h q count₀ j₀ count j = (j ≤ n) × (count ≤ j) × Counted (metBy q (readOf s .table) h (rowVisit l i)) l n j count
+Inv-loop s l n i h q count₀ j₀ count j = (j ≤ n) × (count ≤ j) × Counted (metBy q (readOf s .table) h (rowPassage l i)) l n j count
 
 abbrev μ-loop : tie.MeasureT-loop
 μ-loop s l n i h q count₀ j₀ count j = n - j
@@ -21,7 +21,7 @@ abbrev μ-loop : tie.MeasureT-loop
 loop-holds : tie.Need-loop-holds Inv-loop μ-loop
 loop-holds c =
     let a = c .before .before .args in
-    (omega arith, omega arith, counted-start (metBy (a .q) (readOf (a .s .now) .table) (a .h) (rowVisit (a .l .now) (a .i))) (a .l .now) (a .n))
+    (omega arith, omega arith, counted-start (metBy (a .q) (readOf (a .s .now) .table) (a .h) (rowPassage (a .l .now) (a .i))) (a .l .now) (a .n))
 
 is-met-requires : tie.Need-is-met-requires Inv-loop μ-loop
 is-met-requires c κs =
@@ -43,7 +43,7 @@ loop-again c =
     let e = c .before .before .before .before .before .before in
     let a = e .args in
     let l = c .before .before .before .loop in
-    let p = metBy (a .q) (readOf (a .s .now) .table) (a .h) (rowVisit (a .l .now) (a .i)) in
+    let p = metBy (a .q) (readOf (a .s .now) .table) (a .h) (rowPassage (a .l .now) (a .i)) in
     ⊎-elim
     (λ w. (omega (arith, e .pre .1), omega (arith, l .inv .1, w .1), subst (λ (k : ℕ). Counted p (a .l .now) (a .n) (l .j + 1) k) (sym (w .1)) (counted-in p (a .l .now) (a .n) (l .j) (l .count) (c .before .is-met .result) (c .before .before .loop-test .taken) (c .before .is-met .ensures) (l .inv .2) (w .0 .taken))))
     (λ w. (omega (arith, e .pre .1), omega (arith, l .inv .1, w .1), subst (λ (k : ℕ). Counted p (a .l .now) (a .n) (l .j + 1) k) (sym (w .1)) (counted-out p (a .l .now) (a .n) (l .j) (l .count) (c .before .is-met .result) (c .before .before .loop-test .taken) (c .before .is-met .ensures) (l .inv .2) (w .0 .left))))
@@ -53,7 +53,7 @@ returns : tie.Need-returns Inv-loop μ-loop
 returns c =
     let a = c .before .before .before .before .args in
     let l = c .before .loop in
-    (counted-done (metBy (a .q) (readOf (a .s .now) .table) (a .h) (rowVisit (a .l .now) (a .i))) (a .l .now) (a .n) (l .j) (l .count) (omega arith) (l .inv .2), omega (arith, l .inv .0, l .inv .1))
+    (counted-done (metBy (a .q) (readOf (a .s .now) .table) (a .h) (rowPassage (a .l .now) (a .i))) (a .l .now) (a .n) (l .j) (l .count) (omega arith) (l .inv .2), omega (arith, l .inv .0, l .inv .1))
 
 pub count-met-spec : {M : Type 1} → statement M
 count-met-spec =

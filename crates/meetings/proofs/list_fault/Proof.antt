@@ -9,7 +9,7 @@ use Rattle.model.specs.declared.Verdict.the-variants.{Refused}
 use Rattle.model.specs.Lists.{each}
 use Rattle.model.specs.Places.{readOf}
 use Rattle.model.specs.Schedule.{sevenOf}
-use Rattle.rows.specs.Rows.{num, rowVisit, rowsOf}
+use Rattle.rows.specs.Rows.{num, rowPassage, rowsOf}
 use Rattle.checks.proofs.Sending.{row-stands}
 use Rattle.meetings.specs.Asked.{numberAsked, foundBy}
 use Rattle.meetings.proofs.Listing.{says-short, says-laid}
@@ -37,7 +37,7 @@ mul-if1 c = search needs
 returns : tie.Need-returns
 returns c =
     let a = c .before .before .before .before .before .before .before .args in
-    let P = foundBy (a .q) (readOf (a .s .now) .table) (a .h) (rowsOf (a .l .now) (a .n)) (rowVisit (a .l .now) (a .i)) in
+    let P = foundBy (a .q) (readOf (a .s .now) .table) (a .h) (rowsOf (a .l .now) (a .n)) (rowPassage (a .l .now) (a .i)) in
     says-short (Refused (numberAsked (a .q)) (num (a .l .now) (a .i) 0)) (a .list .now) _ (c .before .refused .ensures ∙ ap (λ (m : ℕ). Refused m (num (a .l .now) (a .i) 0)) (c .before .before .number-of .ensures)) P (c .before .before .before .count-met .result + 1) (omega (arith, c .before .before .before .count-met .ensures .0)) (c .if1 .taken) refl refl
 
 put-met-requires : tie.Need-put-met-requires
@@ -49,7 +49,7 @@ same-length c = search needs
 returns-2 : tie.Need-returns-2
 returns-2 c =
     let a = c .before .before .before .before .before .before .before .before .before .before .before .args in
-    let P = foundBy (a .q) (readOf (a .s .now) .table) (a .h) (rowsOf (a .l .now) (a .n)) (rowVisit (a .l .now) (a .i)) in
+    let P = foundBy (a .q) (readOf (a .s .now) .table) (a .h) (rowsOf (a .l .now) (a .n)) (rowPassage (a .l .now) (a .i)) in
     let k : c .before .before .before .before .before .before .before .count-met .result + 1 ≡ length P = omega (arith, c .before .before .before .before .before .before .before .count-met .ensures .0) in
     says-laid (Refused (numberAsked (a .q)) (num (a .l .now) (a .i) 0)) (a .list .now) _ (c .before .before .before .before .before .refused .ensures ∙ ap (λ (m : ℕ). Refused m (num (a .l .now) (a .i) 0)) (c .before .before .before .before .before .before .number-of .ensures)) P (c .before .before .before .before .before .before .before .count-met .result + 1) k (omega (arith, c .before .before .before .before .if1 .left)) _
     (c .before .before .put-met .ensures ∙ ap (λ (m : ℕ). each sevenOf P ++ drop (m * 7) (a .list .now)) (sym k)) refl refl

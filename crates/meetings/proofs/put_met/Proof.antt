@@ -4,7 +4,7 @@ use mathlib.Core.Logic.{⊎-elim}
 use Prim.Native.Nat.{_+_, _-_, _≤_}
 use native.Mathlib.Omega.{arith}
 use Rattle.model.specs.Places.{readOf}
-use Rattle.rows.specs.Rows.{rowVisit}
+use Rattle.rows.specs.Rows.{rowPassage}
 use Rattle.rows.proofs.Placed.{row-known}
 use Rattle.meetings.specs.Asked.{metBy}
 use Rattle.meetings.proofs.Collected.{Put, put-start, put-as, put-room, put-in, put-out, put-done}
@@ -12,7 +12,7 @@ use Rattle.meetings.proofs.put_met.Statement.{statement}
 use Rattle.meetings.proofs.put_met.Tie as tie
 
 abbrev Inv-loop : tie.InvT-loop
-Inv-loop s l n i h q list₀ k₀ j₀ list k j = (j ≤ n) × Put (metBy q (readOf s .table) h (rowVisit l i)) l n j k (rowVisit l i) list₀ list
+Inv-loop s l n i h q list₀ k₀ j₀ list k j = (j ≤ n) × Put (metBy q (readOf s .table) h (rowPassage l i)) l n j k (rowPassage l i) list₀ list
 
 abbrev μ-loop : tie.MeasureT-loop
 μ-loop s l n i h q list₀ k₀ j₀ list k j = n - j
@@ -25,7 +25,7 @@ put-seven-requires c κs =
 loop-holds : tie.Need-loop-holds Inv-loop μ-loop
 loop-holds c =
     let a = c .before .before .before .before .before .before .before .args in
-    (omega arith, put-start (metBy (a .q) (readOf (a .s .now) .table) (a .h) (rowVisit (a .l .now) (a .i))) (a .l .now) (a .n) (rowVisit (a .l .now) (a .i)) _)
+    (omega arith, put-start (metBy (a .q) (readOf (a .s .now) .table) (a .h) (rowPassage (a .l .now) (a .i))) (a .l .now) (a .n) (rowPassage (a .l .now) (a .i)) _)
 
 is-met-requires : tie.Need-is-met-requires Inv-loop μ-loop
 is-met-requires c κs =
@@ -38,8 +38,8 @@ put-seven-requires-2 c κs =
     let e = c .before .before .before .before .before .before .before .before .before .before .before .before in
     let a = e .args in
     let l = c .before .before .before .before .loop in
-    let p = metBy (a .q) (readOf (a .s .now) .table) (a .h) (rowVisit (a .l .now) (a .i)) in
-    (omega (arith, e .pre .0 .fits, c .before .before .before .loop-test .taken), put-room p (a .l .now) (a .n) (rowVisit (a .l .now) (a .i)) _ (l .j) (l .k) (l .list) (c .before .before .is-met .result) (c .before .before .before .loop-test .taken) (c .before .before .is-met .ensures) (l .inv .1) (c .before .if1 .taken) (omega (arith, e .pre .2, c .before .before .before .before .before .before .before .put-seven .kept .1 .1 .0)), omega (arith, l .inv .1 .few, e .pre .0 .few, c .before .before .before .loop-test .taken))
+    let p = metBy (a .q) (readOf (a .s .now) .table) (a .h) (rowPassage (a .l .now) (a .i)) in
+    (omega (arith, e .pre .0 .fits, c .before .before .before .loop-test .taken), put-room p (a .l .now) (a .n) (rowPassage (a .l .now) (a .i)) _ (l .j) (l .k) (l .list) (c .before .before .is-met .result) (c .before .before .before .loop-test .taken) (c .before .before .is-met .ensures) (l .inv .1) (c .before .if1 .taken) (omega (arith, e .pre .2, c .before .before .before .before .before .before .before .put-seven .kept .1 .1 .0)), omega (arith, l .inv .1 .few, e .pre .0 .few, c .before .before .before .loop-test .taken))
 
 add-k : tie.Need-add-k Inv-loop μ-loop
 add-k c = omega (arith, c .before .before .before .before .before .before .before .before .before .before .before .before .before .before .before .pre .0 .few, c .before .before .before .before .before .before .before .loop .inv .1 .few, c .before .before .before .before .before .before .loop-test .taken)
@@ -55,10 +55,10 @@ loop-again c =
     let e = c .before .before .before .before .before .before .before .before .before .before .before in
     let a = e .args in
     let l = c .before .before .before .loop in
-    let p = metBy (a .q) (readOf (a .s .now) .table) (a .h) (rowVisit (a .l .now) (a .i)) in
+    let p = metBy (a .q) (readOf (a .s .now) .table) (a .h) (rowPassage (a .l .now) (a .i)) in
     ⊎-elim
-    (λ w. (omega (arith, c .before .before .loop-test .taken), put-as p (a .l .now) (a .n) (rowVisit (a .l .now) (a .i)) _ (l .j + 1) _ _ (w .6) (w .5) (put-in p (a .l .now) (a .n) (rowVisit (a .l .now) (a .i)) _ (l .j) (l .k) (l .list) (c .before .is-met .result) (c .before .before .loop-test .taken) (c .before .is-met .ensures) (l .inv .1) (w .0 .taken) _ (w .2 .kept .1 .1 .0) (w .2 .ensures))))
-    (λ w. (omega (arith, c .before .before .loop-test .taken), put-as p (a .l .now) (a .n) (rowVisit (a .l .now) (a .i)) _ (l .j + 1) _ _ (w .2) (w .1) (put-out p (a .l .now) (a .n) (rowVisit (a .l .now) (a .i)) _ (l .j) (l .k) (l .list) (c .before .is-met .result) (c .before .before .loop-test .taken) (c .before .is-met .ensures) (l .inv .1) (w .0 .left))))
+    (λ w. (omega (arith, c .before .before .loop-test .taken), put-as p (a .l .now) (a .n) (rowPassage (a .l .now) (a .i)) _ (l .j + 1) _ _ (w .6) (w .5) (put-in p (a .l .now) (a .n) (rowPassage (a .l .now) (a .i)) _ (l .j) (l .k) (l .list) (c .before .is-met .result) (c .before .before .loop-test .taken) (c .before .is-met .ensures) (l .inv .1) (w .0 .taken) _ (w .2 .kept .1 .1 .0) (w .2 .ensures))))
+    (λ w. (omega (arith, c .before .before .loop-test .taken), put-as p (a .l .now) (a .n) (rowPassage (a .l .now) (a .i)) _ (l .j + 1) _ _ (w .2) (w .1) (put-out p (a .l .now) (a .n) (rowPassage (a .l .now) (a .i)) _ (l .j) (l .k) (l .list) (c .before .is-met .result) (c .before .before .loop-test .taken) (c .before .is-met .ensures) (l .inv .1) (w .0 .left))))
     (c .if1 .came)
 
 same-length : tie.Need-same-length Inv-loop μ-loop
@@ -69,7 +69,7 @@ returns c =
     let e = c .before .before .before .before .before .before .before .before .before in
     let a = e .args in
     let l = c .before .loop in
-    put-done (metBy (a .q) (readOf (a .s .now) .table) (a .h) (rowVisit (a .l .now) (a .i))) (a .l .now) (a .n) (rowVisit (a .l .now) (a .i)) _ (a .list .now) (l .j) (l .k) (l .list) (c .before .before .before .before .put-seven .ensures) (omega arith) (e .pre .2) (l .inv .1)
+    put-done (metBy (a .q) (readOf (a .s .now) .table) (a .h) (rowPassage (a .l .now) (a .i))) (a .l .now) (a .n) (rowPassage (a .l .now) (a .i)) _ (a .list .now) (l .j) (l .k) (l .list) (c .before .before .before .before .put-seven .ensures) (omega arith) (e .pre .2) (l .inv .1)
 
 pub put-met-spec : {M : Type 1} → statement M
 put-met-spec =

@@ -3,7 +3,7 @@ use mathlib.Core.Option.{none}
 use mathlib.Core.Path.{refl, sym, _∙_}
 use borrow.Author.Tests.{not-true, not-false}
 use Rattle.model.specs.Places.{readOf}
-use Rattle.rows.specs.Rows.{rowVisit, rowsOf, messageOf}
+use Rattle.rows.specs.Rows.{rowPassage, rowsOf, messageOf}
 use Rattle.rows.proofs.Placed.{row-known}
 use Rattle.rows.proofs.Sought.{some-best, none-best, own-message, heard-message}
 use borrow.Author.Needs.{needs}
@@ -25,7 +25,7 @@ row-sent-requires c κs =
 returns : tie.Need-returns
 returns c =
     let a = c .before .before .before .before .before .args in
-    own-message (readOf (a .s .now) .table) (a .h) (rowsOf (a .l .now) (a .n)) (rowVisit (a .l .now) (a .i)) (messageOf (c .row-sent .result)) (sym (c .before .before .row-receives .ensures) ∙ not-true _ (c .before .if1 .taken)) (c .row-sent .ensures)
+    own-message (readOf (a .s .now) .table) (a .h) (rowsOf (a .l .now) (a .n)) (rowPassage (a .l .now) (a .i)) (messageOf (c .row-sent .result)) (sym (c .before .before .row-receives .ensures) ∙ not-true _ (c .before .if1 .taken)) (c .row-sent .ensures)
 
 seek-requires : tie.Need-seek-requires
 seek-requires c κs = search needs
@@ -40,13 +40,13 @@ returns-2 : tie.Need-returns-2
 returns-2 c =
     let a = c .before .before .before .before .before .before .before .args in
     let best = some-best (a .l .now) (a .n) (c .before .before .seek .result) (c .before .if2 .taken) in
-    heard-message (readOf (a .s .now) .table) (a .h) (rowsOf (a .l .now) (a .n)) (rowVisit (a .l .now) (a .i)) (messageOf (c .row-sent2 .result)) _ (sym (c .before .before .before .before .row-receives .ensures) ∙ not-false _ (c .before .before .before .if1 .left)) (sym best ∙ c .before .before .seek .ensures) (c .row-sent2 .ensures)
+    heard-message (readOf (a .s .now) .table) (a .h) (rowsOf (a .l .now) (a .n)) (rowPassage (a .l .now) (a .i)) (messageOf (c .row-sent2 .result)) _ (sym (c .before .before .before .before .row-receives .ensures) ∙ not-false _ (c .before .before .before .if1 .left)) (sym best ∙ c .before .before .seek .ensures) (c .row-sent2 .ensures)
 
 returns-3 : tie.Need-returns-3
 returns-3 c =
     let a = c .before .before .before .before .before .before .args in
     let best = none-best (a .l .now) (a .n) (c .before .seek .result) (c .if2 .left) in
-    heard-message (readOf (a .s .now) .table) (a .h) (rowsOf (a .l .now) (a .n)) (rowVisit (a .l .now) (a .i)) none none (sym (c .before .before .before .row-receives .ensures) ∙ not-false _ (c .before .before .if1 .left)) (sym best ∙ c .before .seek .ensures) refl
+    heard-message (readOf (a .s .now) .table) (a .h) (rowsOf (a .l .now) (a .n)) (rowPassage (a .l .now) (a .i)) none none (sym (c .before .before .before .row-receives .ensures) ∙ not-false _ (c .before .before .if1 .left)) (sym best ∙ c .before .seek .ensures) refl
 
 pub message-spec : {M : Type 1} → statement M
 message-spec =

@@ -6,7 +6,7 @@ use native.Mathlib.Omega.{arith}
 use borrow.Author.Needs.{needs}
 use Rattle.model.specs.Places.{readOf}
 use Rattle.model.specs.Schedule.{heardBy, earliest}
-use Rattle.rows.specs.Rows.{rowVisit, rowsFrom, rowsOf, bestOf}
+use Rattle.rows.specs.Rows.{rowPassage, rowsFrom, rowsOf, bestOf}
 use Rattle.rows.proofs.Sought.{from-row, turn, stop, done}
 use Rattle.rows.proofs.seek.Statement.{statement}
 use Rattle.rows.proofs.seek.Tie as tie
@@ -14,8 +14,8 @@ use Rattle.rows.proofs.seek.Tie as tie
 abbrev Inv-loop : tie.InvT-loop
 Inv-loop s l n i h until best₀ j₀ best j =
     (j ≤ n)
-    × (earliest (heardBy (readOf s .table) h (rowVisit l i)) (rowsFrom l j (n - j)) (bestOf l n best)
-    ≡ earliest (heardBy (readOf s .table) h (rowVisit l i)) (rowsOf l n) none)
+    × (earliest (heardBy (readOf s .table) h (rowPassage l i)) (rowsFrom l j (n - j)) (bestOf l n best)
+    ≡ earliest (heardBy (readOf s .table) h (rowPassage l i)) (rowsOf l n) none)
 
 abbrev μ-loop : tie.MeasureT-loop
 μ-loop s l n i h until best₀ j₀ best j = n - j

@@ -5,14 +5,14 @@ use Prim.Native.Nat.{ℕ, _+_, _-_, _≤_, _<_}
 use native.Mathlib.Omega.{arith}
 use Rattle.model.specs.Places.{readOf}
 use Rattle.model.specs.Schedule.{heardBy, earliest}
-use Rattle.rows.specs.Rows.{num, rowVisit, rowsFrom, bestOf}
+use Rattle.rows.specs.Rows.{num, rowPassage, rowsFrom, bestOf}
 use Rattle.rows.proofs.Sought.{none-best, linked-below, back-start, back-turn}
 use Rattle.rows.proofs.seek_before.Statement.{statement}
 use Rattle.rows.proofs.seek_before.Tie as tie
 
 abbrev Inv-loop : tie.InvT-loop
 Inv-loop s l n i h entry best₀ j₀ best j =
-    (j ≤ i) × (earliest (heardBy (readOf s .table) h (rowVisit l i)) (rowsFrom l j (i - j)) none ≡ bestOf l n best)
+    (j ≤ i) × (earliest (heardBy (readOf s .table) h (rowPassage l i)) (rowsFrom l j (i - j)) none ≡ bestOf l n best)
 
 abbrev μ-loop : tie.MeasureT-loop
 μ-loop s l n i h entry best₀ j₀ best j = j
@@ -50,7 +50,7 @@ loop-again c =
     let r = c .open-before2 in
     let k = l .j - 1 in
     let z : l .j ≡ k + 1 = omega (arith, c .before .before .loop-test .taken) in
-    let p = heardBy (readOf (a .s .now) .table) (a .h) (rowVisit (a .l .now) (a .i)) in
+    let p = heardBy (readOf (a .s .now) .table) (a .h) (rowPassage (a .l .now) (a .i)) in
     let q = subst (λ (m : ℕ). earliest p (rowsFrom (a .l .now) m (a .i - m)) none ≡ bestOf (a .l .now) (a .n) (l .best)) z (l .inv .1) in
     (omega (arith, r .ensures .0, l .inv .0), back-turn (a .s .now) (a .l .now) (a .n) (a .i) (a .h) (e .pre .0) (e .pre .1) (r .result) k (bestOf (a .l .now) (a .n) (l .best)) (bestOf (a .l .now) (a .n) (c .before .heard-before .result)) (omega (arith, c .before .before .loop-test .taken, l .inv .0)) (r .ensures .0) (λ t x y. omega (arith, r .ensures .1 t x y, c .before .before .before .before .before .number .ensures)) q (c .before .heard-before .ensures))
 
@@ -60,7 +60,7 @@ returns c =
     let l = c .before .loop in
     let z : l .j ≡ 0 = omega (arith, c .loop-test .left) in
     let i : a .i - 0 ≡ a .i = omega arith in
-    let p = heardBy (readOf (a .s .now) .table) (a .h) (rowVisit (a .l .now) (a .i)) in
+    let p = heardBy (readOf (a .s .now) .table) (a .h) (rowPassage (a .l .now) (a .i)) in
     sym (subst (λ (m : ℕ). earliest p (rowsFrom (a .l .now) 0 m) none ≡ bestOf (a .l .now) (a .n) (l .best)) i (subst (λ (m : ℕ). earliest p (rowsFrom (a .l .now) m (a .i - m)) none ≡ bestOf (a .l .now) (a .n) (l .best)) z (l .inv .1)))
 
 pub seek-before-spec : {M : Type 1} → statement M
