@@ -9,7 +9,7 @@ corpus="$root/corpus"
 work="$(mktemp -d)"
 trap 'rm -rf -- "$work"' EXIT
 cd "$root"
-rt check schedule_printer verdict_printer translate_table >"$work/built" || { cat "$work/built"; exit 1; }
+rt check schedule_printer verdict_printer translate_table trial_run >"$work/built" || { cat "$work/built"; exit 1; }
 cd "$work"
 
 passed=0 failed=0
@@ -52,6 +52,8 @@ full() {
 }
 full verdict_printer 'The verdict could not be written.'
 full translate_table 'The program could not be written.'
+"$programs/trial_run" "$corpus/probe_and_hub.bin" /dev/null >/dev/full 2>err || true
+check 'trial_run: an output that cannot be written is told' grep -q -F 'The run could not be written.' err
 
 printf '%d passed, %d failed\n' "$passed" "$failed"
 [[ $failed -eq 0 ]]

@@ -3,6 +3,9 @@ pub mod Numerals
 pub mod Lines
 pub mod Questions
 pub mod Meetings
+pub mod Blanks
+pub mod Observations
 pub mod Told
 pub mod ScheduleCalled
 pub mod VerdictCalled
+pub mod RunCalled

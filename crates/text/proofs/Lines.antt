@@ -14,7 +14,7 @@ use Rattle.text.specs.ScheduleText.{passageOf, passagesOf, passageLine, 
 abbrev pub from : List ℕ → ℕ → List ℕ
 from list k = take (length list - k) (drop k list)
 
-from-is : (list : List ℕ) (k : ℕ) → from list k ≡ drop k list
+pub from-is : (list : List ℕ) (k : ℕ) → from list k ≡ drop k list
 from-is list k = take-all (length list - k) (drop k list) (rw length-drop (le-refl (length list - k)))
 
 module _ {A : Type 0} (tell : List ℕ → A) (line : A → List ℕ) where

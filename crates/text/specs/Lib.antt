@@ -1,4 +1,5 @@
 pub mod Words
 pub mod ScheduleText
 pub mod VerdictText
+pub mod RunText
 pub mod PrintedCases

@@ -1,7 +1,11 @@
 // The texts that the programs print, written into a lent slice: each function adds its words after those that stand there, and
 // answers where they end.
+mod run;
 mod verdict;
 
+pub use run::put_counts;
+pub use run::put_end;
+pub use run::put_observations;
 pub use verdict::put_meetings;
 pub use verdict::put_refusal_text;
 ghost use mathlib.Core.Path.{_≡_};

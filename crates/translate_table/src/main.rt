@@ -15,6 +15,13 @@ fn write_program(program: &[u8], size: usize) {
     }
 }
 
+// A refusal in words, on standard error.
+fn say_refused(number: u8, component: u8) {
+    let mut words = [0u8; 170];
+    let n = text::put_refusal_text(&mut words, 0, number, component);
+    report::say(STDERR_FILENO, &words[..n]);
+}
+
 fn main() {
     // One byte more than a table may have, so that a longer input is seen.
     let mut input = [0u8; 8193];
@@ -25,6 +32,6 @@ fn main() {
     let v = r.verdict;
     match v {
         Verdict::Accepted => write_program(&program, r.size),
-        Verdict::Refused(number, component) => report::refusal(STDERR_FILENO, number, component),
+        Verdict::Refused(number, component) => say_refused(number, component),
     }
 }

@@ -3,15 +3,17 @@
 // The two arguments name the files of the table and of the choices, a byte a choice. Standard output has the end in words, the
 // tick, the choices used and the observations as a table, or `refused`, number, component and the question in words. What is
 // wrong with the arguments or the files goes to standard error, and standard output is empty then.
-mod observation;
-
+ghost use mathlib.Core.Path.{_≡_};
+ghost use mathlib.Core.List.{_++_};
+ghost use Prim.Native.Nat.{_*_, _≤_};
+ghost use lib.ListN.{length, take};
+ghost use Rattle.io.specs.Counts.{Counts};
+ghost use Rattle.text.specs.Words.{Added};
+ghost use Rattle.text.specs.RunText.{endText, countsText, firstLine, observationLines, runText};
 use calls::Ran;
 use libc::STDERR_FILENO;
 use libc::STDOUT_FILENO;
-use model::End;
 use model::Verdict;
-use report::byte_field;
-use report::field;
 use report::say;
 
 // The file that an argument names, open for reading; below 0 if there is none, and standard error says why.
@@ -29,41 +31,54 @@ fn open_argument(i: usize) -> i32 {
     fd
 }
 
-// The choice that was not allowed is the first that was not carried out. Choices are numbered from 0.
-fn print_not_allowed(choices: &[u8], used: usize) {
-    field(STDOUT_FILENO, b"choice not allowed: number ", used);
-    if used < choices.len() {
-        byte_field(STDOUT_FILENO, b", byte ", choices[used]);
-    }
-}
-
-fn print_end(end: End, choices: &[u8], used: usize) {
-    match end {
-        End::Horizon => say(STDOUT_FILENO, b"horizon reached"),
-        End::UsedUp => say(STDOUT_FILENO, b"choices used up"),
-        End::Late(node) => byte_field(STDOUT_FILENO, b"late: node ", node),
-        End::NotAllowed => print_not_allowed(choices, used),
-    }
-    say(STDOUT_FILENO, b"\n");
-}
-
-fn print_run(r: Ran, choices: &[u8], observations: &[u8]) {
-    let used = r.used as usize;
+// The end in words, the tick, the choices used, and the observations as a table.
+fn put_run(r: Ran, choices: &[u8], observations: &[u8], out: &mut [u8]) -> usize
+    requires { ⌜ (206100 ≤ length (now out)) × (r .size ≤ 1024) × (r .size * 32 ≤ length (now observations)) ⌝ }
+    ensures { λ n. ⌜ Added (now (out .entry)) 0 (endText (r .end) (now (choices .entry)) (r .used) ++ countsText (r .tick) (r .used) (r .size) ++ firstLine ++ observationLines (now (observations .entry)) (r .size)) (now (out .exit)) n × (n ≤ 206100) ⌝ }
+{
     let end = r.end;
-    print_end(end, choices, used);
-    field(STDOUT_FILENO, b"tick ", r.tick as usize);
-    field(STDOUT_FILENO, b", choices used ", used);
-    field(STDOUT_FILENO, b", observations ", r.size);
-    say(STDOUT_FILENO, b"\n");
-    observation::print_table(observations, r.size);
+    let counts = text::put_end(out, 0, end, choices, r.used);
+    let first = text::put_counts(out, counts, r.tick, r.used, r.size as u32);
+    let lines = text::put(
+        out,
+        first,
+        b"node edge location  tick    x0    x1    x2    x3     v0     v1     v2     v3\n",
+    );
+    text::put_observations(out, lines, observations, r.size)
 }
 
-fn print_answer(r: Ran, choices: &[u8], observations: &[u8]) {
+// All that is printed of a table and choices, at the front of out; answers how many bytes.
+fn put_printed(table: &[u8], choices: &[u8], observations: &mut [u8], out: &mut [u8]) -> usize
+    requires { ⌜ (206100 ≤ length (now out)) × (32768 ≤ length (now observations)) ⌝ }
+    ensures { λ r. ⌜ Counts r (now (out .exit)) ⌝ }
+    ensures { λ r. ⌜ take r (now (out .exit)) ≡ runText (now (table .entry)) (now (choices .entry)) (now (observations .entry)) ⌝ }
+{
+    let r = calls::run(table, choices, observations);
     let v = r.verdict;
     match v {
-        Verdict::Accepted => print_run(r, choices, observations),
-        Verdict::Refused(number, component) => report::refusal(STDOUT_FILENO, number, component),
+        Verdict::Accepted => put_run(r, choices, observations, out),
+        Verdict::Refused(number, component) => text::put_refusal_text(out, 0, number, component),
     }
+}
+
+// The text is made, then written. What is put in out is all that is written.
+fn print(table: &[u8], choices: &[u8], observations: &mut [u8], out: &mut [u8])
+    requires { ⌜ (206100 ≤ length (now out)) × (32768 ≤ length (now observations)) ⌝ }
+{
+    let n = put_printed(table, choices, observations, out);
+    if !io::write_all(STDOUT_FILENO, &out[..n]) {
+        say(STDERR_FILENO, b"The run could not be written.\n");
+    }
+}
+
+// The arrays are lent as arrays first: no proof has to count their zeros then.
+fn print_in_arrays(
+    table: &[u8],
+    choices: &[u8],
+    observations: &mut [u8; 32768],
+    out: &mut [u8; 206100],
+) {
+    print(table, choices, observations, out);
 }
 
 // The bytes of the files are read and run, those of the choices in the space lent.
@@ -74,11 +89,12 @@ fn run_files(table_file: i32, choice_file: i32, choices: &mut [u8]) {
     let m = io::read_full(choice_file, choices);
     // 32 bytes for each of 1,024 passages.
     let mut observations = [0u8; 32768];
-    let r = calls::run(&table[..n], &choices[..m], &mut observations);
-    print_answer(r, &choices[..m], &observations);
+    // At most 208 bytes, and 201 for each observation.
+    let mut out = [0u8; 206100];
+    print_in_arrays(&table[..n], &choices[..m], &mut observations, &mut out);
 }
 
-// The array is lent as an array first: no proof has to count a million zeros then.
+// The array is lent as an array first, likewise.
 fn run_in_array(table_file: i32, choice_file: i32, choices: &mut [u8; 1000001]) {
     run_files(table_file, choice_file, choices);
 }
