@@ -31,7 +31,7 @@ s/\bpub places : List PathPassage\b/pub present : List PathPassage/g
 
 # `plan` is left to the slot planner. Plan was the passages opened so far, plan the schedule that 7 to 12 accept.
 /proofs\.proofs\.plan\b/!{
-/\bPlan\b/{
+/Schedule\.\{[^}]*\bPlan\b|unfoldable pub goOn :/{
 s/([ ({\n])plan([ ,})\n])/\1soFar\2/g
 s/([ ({\n])plan([ ,})\n])/\1soFar\2/g
 s/ \.plan([ ;,)\n])/ .soFar\1/g
@@ -40,6 +40,10 @@ s/\bPlan\b/OpenedSoFar/g
 s/([ ({\n])plan([ ,})\n])/\1acceptedSchedule\2/g
 s/([ ({\n])plan([ ,})\n])/\1acceptedSchedule\2/g
 s/ \.plan([ ;,)\n])/ .acceptedSchedule\1/g
+# in a comment it is a word
+:comment
+s/((^|\n) *-- [^\n]*[ (])acceptedSchedule\b/\1plan/
+tcomment
 }
 s/\bplanOf\b/acceptedScheduleOf/g
 s/\bplanIn\b/acceptedScheduleIn/g
