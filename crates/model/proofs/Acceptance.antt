@@ -27,7 +27,7 @@ was-accepted : {A : Type 0} (a : Answer A) → verdictOf a ≡ Accepted → (x :
 was-accepted (accepted x) e = (x, refl)
 was-accepted (refused n c) e = absurd (let z : _≡_ {A = ℕ} 0 1 = cc in omega arith)
 
--- a acceptedSchedule is a schedule that the checks 10 to 12 accept
+-- what 7 to 12 accept is a schedule that the checks 10 to 12 accept
 plan-is : (most : ℕ) (T : Table) (H : ℕ) (S : List Passage) → (acceptedSchedule most T H ≡ accepted S) ↔ (IsSchedule most T H S × (checked T H S ≡ accepted S))
 unfolding acceptedSchedule
 plan-is most T H S = (schedule-at T H most S, λ p. ap (λ (x : Answer (List Passage)). x after λ X. checked T H X) (is-schedule most T H S .1 (p .0)) ∙ p .1)

@@ -185,7 +185,7 @@ Scheduled T S path = (c : ℕ) → c < size T → PassAs (passagesOn T c (start 
 abbrev pub Kept : Table → List Passage → List Label → State → Type 0
 Kept T S path last = (c : ℕ) → c < size T → SteppedBefore (last .tick) (passagesOn T c (start T) path) (own c S)
 
--- the steps in on the path are the works finished, in their order, at the same ticks; a message is one joint step of the same two nodes
+-- the steps in on the path are the works finished, in their order, at the same ticks; a message between two nodes is "on a path, their joint step"
 abbrev pub Worked : Table → List Label → Result → Type 0
 Worked T path result = worksOn T (start T) path ≡ result .state .works
 
