@@ -100,7 +100,10 @@ fn verdict_numbers(v: Verdict) -> VerdictNumbers
             number: 0,
             component: 255,
         },
-        Verdict::Refused(number, component) => VerdictNumbers { number, component },
+        Verdict::Refused(refusal, concerned) => VerdictNumbers {
+            number: refusal,
+            component: concerned,
+        },
     }
 }
 
