@@ -75,7 +75,7 @@ usage: vanillatarn part PROGRAM NODE [-o FILE]
 Writes the part of a program that belongs to one node (a number, from 0 on), as
 bytes: what is loaded on that node.
 
-Exit status: 0 written, 1 the program has no part for this node.
+Exit status: 0 written, 1 the program has no part for this node, or an empty one.
 TEXT
         run) cat <<'TEXT' ;;
 usage: vanillatarn run TABLE CHOICES

@@ -283,7 +283,7 @@ done
 each_reader long 'longer than 8192 bytes, the most that a table has'
 call list longer
 says 2
-complains 'longer: longer than 65535 bytes, the most that a program has'
+complains 'longer: longer than 65535 bytes, the most that a program can state'
 call run cellar.bin absent
 says 2
 complains 'absent: no such file'
