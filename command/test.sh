@@ -166,7 +166,15 @@ for words in 'translate cellar.bin -o cellar.bin' 'translate ./cellar.bin -o lin
     says 2
     complains '-o names the input'
 done
+ln cellar.bin same.bin
+for file in cellar.bin link.bin same.bin; do
+    call translate - -o "$file" <cellar.bin
+    says 2
+    complains "-o names the input $file"
+done
 check 'the input is as it was' cmp -s cellar.bin "$corpus/probe_and_hub.bin"
+call translate - -o /dev/null <cellar.bin
+says 0
 if command -v script >/dev/null; then
     for words in 'translate cellar.bin' 'part program.bin 0' 'choices cellar.bin' 'table cellar.txt'; do
         what="$words, on a terminal" status=0
