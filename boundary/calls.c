@@ -10,24 +10,34 @@ _Static_assert(sizeof(RunNumbers) == 16 && offsetof(RunNumbers, tick) == 4 &&
                    offsetof(RunNumbers, size) == 12,
                "run");
 _Static_assert(sizeof(Passage) == 16 && offsetof(Passage, entry) == 4, "passage");
+_Static_assert(sizeof(MeetingsNumbers) == 8 && offsetof(MeetingsNumbers, size) == 4,
+               "meetings");
 
+const char *const call_names[CALLS] = {"check",    "schedule", "translate", "part",
+                                       "run",      "passages", "meetings",  "start",
+                                       "step",     "take_message"};
 unsigned long made[CALLS];
 uint32_t list[MAX_LIST];
 uint8_t program[MAX_PROGRAM];
 uint8_t observations[MAX_OBSERVATIONS];
 Passage passages[MAX_PASSAGES];
+uint32_t met[MAX_MET];
 
-static struct place table_place, choices_place, bytes_place;
+static struct place table_place, choices_place, bytes_place, part_place;
 static struct place list_place, program_place, observations_place, passages_place;
+static struct place met_place, node_place;
 
 void calls_start(void) {
     table_place = place_new(MAX_TABLE);
     choices_place = place_new(MAX_CHOICES + 1);
-    bytes_place = place_new(MAX_PROGRAM);
+    bytes_place = place_new(MAX_PART);
+    part_place = place_new(MAX_PART + 1);
     list_place = place_new(sizeof list);
     program_place = place_new(MAX_PROGRAM);
     observations_place = place_new(MAX_OBSERVATIONS);
     passages_place = place_new(sizeof passages);
+    met_place = place_new(sizeof met);
+    node_place = place_new(sizeof(NodeRegisters));
 }
 
 /* What holds for every verdict; `most` is the highest number of the call. */
@@ -48,7 +58,7 @@ static void try_call(CallNumbers answer, size_t most) {
 VerdictNumbers guarded_check(enum where where, struct bytes table) {
     const uint8_t *in = place_input(&table_place, where, table.at, table.length);
     VerdictNumbers answer = timed_network_check(in, table.length);
-    made[0]++;
+    made[CHECK]++;
     place_input_done(&table_place, table.at);
     try_verdict(answer.number, answer.component, 12);
     return answer;
@@ -59,7 +69,7 @@ CallNumbers guarded_schedule(enum where where, struct bytes table, size_t lent) 
     uint8_t *out = place_output(&list_place, where, lent * sizeof list[0]);
     CallNumbers answer =
         timed_network_schedule(in, table.length, (uint32_t *)(void *)out, lent);
-    made[1]++;
+    made[SCHEDULE]++;
     try_call(answer, MAX_PASSAGES);
     place_input_done(&table_place, table.at);
     place_output_done(&list_place, answer.size * FIELDS * sizeof list[0],
@@ -71,7 +81,7 @@ CallNumbers guarded_translate(enum where where, struct bytes table, size_t lent)
     const uint8_t *in = place_input(&table_place, where, table.at, table.length);
     uint8_t *out = place_output(&program_place, where, lent);
     CallNumbers answer = timed_network_translate(in, table.length, out, lent);
-    made[2]++;
+    made[TRANSLATE]++;
     try_call(answer, MAX_PROGRAM);
     place_input_done(&table_place, table.at);
     place_output_done(&program_place, answer.size, program);
@@ -81,7 +91,7 @@ CallNumbers guarded_translate(enum where where, struct bytes table, size_t lent)
 PartNumbers guarded_part(enum where where, struct bytes bytes, uint8_t node) {
     const uint8_t *in = place_input(&bytes_place, where, bytes.at, bytes.length);
     PartNumbers answer = timed_network_part(in, bytes.length, node);
-    made[3]++;
+    made[PART]++;
     place_input_done(&bytes_place, bytes.at);
     if (answer.start > bytes.length || answer.length > bytes.length - answer.start)
         fail("the part runs out of the bytes");
@@ -96,7 +106,7 @@ RunNumbers guarded_run(enum where where, struct bytes table,
     uint8_t *out = place_output(&observations_place, where, lent);
     RunNumbers answer = timed_network_run(in, table.length, chosen,
                                           choices.length, out, lent);
-    made[4]++;
+    made[RUN]++;
     try_verdict(answer.number, answer.component, 14);
     if (answer.end > 3 || (answer.end == 2 ? answer.node >= 8 : answer.node != 255))
         fail("there is no such end");
@@ -127,7 +137,7 @@ CallNumbers guarded_passages(enum where where, struct bytes table, size_t lent) 
     uint8_t *out = place_output(&passages_place, where, lent * sizeof passages[0]);
     CallNumbers answer =
         timed_network_passages(in, table.length, (Passage *)(void *)out, lent);
-    made[5]++;
+    made[PASSAGES]++;
     try_call(answer, MAX_PASSAGES);
     place_input_done(&table_place, table.at);
     place_output_done(&passages_place, answer.size * sizeof passages[0],
@@ -140,4 +150,79 @@ CallNumbers guarded_passages(enum where where, struct bytes table, size_t lent) 
         if (!same_passage(&passages[i], &list[FIELDS * i]))
             fail("another passage than that of the schedule");
     return answer;
+}
+
+/* Two windows, as rows of the schedule, share a tick. */
+static int share_tick(const uint32_t *row, const uint32_t *other) {
+    return row[4] <= other[5] && other[4] <= row[5];
+}
+
+/*
+ * What is listed after refusal 10, 11 or 12: the passage at fault, of the
+ * component concerned, then passages of others that share a tick with it, in
+ * the order of the schedule; as many as the refusal takes.
+ */
+static void try_met(uint8_t refusal, uint8_t concerned, size_t size) {
+    if (size < (refusal == 12 ? 3u : refusal == 10 ? 2u : 1u) || met[0] != concerned)
+        fail("not the passage at fault, or too few that it meets");
+    for (size_t i = 1; i < size; i++) {
+        const uint32_t *row = &met[FIELDS * i];
+        if (row[0] == concerned || row[0] >= 8 || !share_tick(met, row))
+            fail("a passage is listed that does not meet the one at fault");
+        if (i > 1 && row[3] < row[3 - FIELDS])
+            fail("the passages that meet are not in their order");
+    }
+}
+
+/* The verdict is held to that of the check. */
+MeetingsNumbers guarded_meetings(enum where where, struct bytes table, size_t lent) {
+    const uint8_t *in = place_input(&table_place, where, table.at, table.length);
+    uint8_t *out = place_output(&met_place, where, lent * sizeof met[0]);
+    MeetingsNumbers answer =
+        timed_network_meetings(in, table.length, (uint32_t *)(void *)out, lent);
+    made[MEETINGS]++;
+    place_input_done(&table_place, table.at);
+    place_output_done(&met_place, (size_t)answer.size * FIELDS * sizeof met[0],
+                      (uint8_t *)met);
+    VerdictNumbers verdict = guarded_check(where, table);
+    if (answer.refusal != verdict.number || answer.concerned != verdict.component)
+        fail("another verdict than that of the check");
+    if ((answer.number != 0 && answer.number != 13) || answer.component != 255)
+        fail("there is no such answer");
+    int met_some = answer.refusal >= 10 && answer.refusal <= 12;
+    if (answer.number == 13 ? answer.size != 0 || !met_some : !met_some && answer.size != 0)
+        fail("the size cannot be");
+    if (met_some && answer.number == 0)
+        try_met(answer.refusal, answer.concerned, answer.size);
+    return answer;
+}
+
+NodeRegisters guarded_start(enum where where, struct bytes part) {
+    const uint8_t *in = place_input(&part_place, where, part.at, part.length);
+    NodeRegisters node = timed_network_start(in, part.length);
+    made[START]++;
+    place_input_done(&part_place, part.at);
+    return node;
+}
+
+void guarded_step(enum where where, NodeRegisters *node, struct bytes part,
+                  uint8_t clocks, uint8_t variables) {
+    const uint8_t *in = place_input(&part_place, where, part.at, part.length);
+    uint8_t *out = place_output(&node_place, where, sizeof *node);
+    memcpy(out, node, sizeof *node);
+    timed_network_step((NodeRegisters *)(void *)out, in, part.length, clocks, variables);
+    made[STEP]++;
+    place_input_done(&part_place, part.at);
+    place_output_done(&node_place, sizeof *node, (uint8_t *)node);
+}
+
+void guarded_take_message(enum where where, NodeRegisters *node, struct bytes part,
+                          uint8_t channel) {
+    const uint8_t *in = place_input(&part_place, where, part.at, part.length);
+    uint8_t *out = place_output(&node_place, where, sizeof *node);
+    memcpy(out, node, sizeof *node);
+    timed_network_take_message((NodeRegisters *)(void *)out, in, part.length, channel);
+    made[TAKE_MESSAGE]++;
+    place_input_done(&part_place, part.at);
+    place_output_done(&node_place, sizeof *node, (uint8_t *)node);
 }

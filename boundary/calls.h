@@ -9,8 +9,10 @@ enum {
     FIELDS = 7,
     MAX_PASSAGES = 1024,
     MAX_LIST = FIELDS * MAX_PASSAGES,
+    MAX_MET = FIELDS * (MAX_PASSAGES + 1),
     MAX_TABLE = 12288,
-    MAX_PROGRAM = 65535,
+    MAX_PROGRAM = 24576,
+    MAX_PART = 65535,
     OBSERVATION = 32,
     MAX_OBSERVATIONS = OBSERVATION * MAX_PASSAGES,
     MAX_CHOICES = 1000000
@@ -21,8 +23,23 @@ struct bytes {
     size_t length;
 };
 
-/* Calls made so far, by call: check, schedule, translate, part, run, passages. */
-enum { CALLS = 6 };
+/* The exported calls. */
+enum call {
+    CHECK,
+    SCHEDULE,
+    TRANSLATE,
+    PART,
+    RUN,
+    PASSAGES,
+    MEETINGS,
+    START,
+    STEP,
+    TAKE_MESSAGE,
+    CALLS
+};
+extern const char *const call_names[CALLS];
+
+/* Calls made so far. */
 extern unsigned long made[CALLS];
 
 /* What the last call that writes has written, without what was lent past it. */
@@ -30,6 +47,7 @@ extern uint32_t list[MAX_LIST];
 extern uint8_t program[MAX_PROGRAM];
 extern uint8_t observations[MAX_OBSERVATIONS];
 extern Passage passages[MAX_PASSAGES];
+extern uint32_t met[MAX_MET];
 
 void calls_start(void);
 
@@ -41,5 +59,11 @@ PartNumbers guarded_part(enum where where, struct bytes bytes, uint8_t node);
 RunNumbers guarded_run(enum where where, struct bytes table,
                        struct bytes choices, size_t lent);
 CallNumbers guarded_passages(enum where where, struct bytes table, size_t lent);
+MeetingsNumbers guarded_meetings(enum where where, struct bytes table, size_t lent);
+NodeRegisters guarded_start(enum where where, struct bytes part);
+void guarded_step(enum where where, NodeRegisters *node, struct bytes part,
+                  uint8_t clocks, uint8_t variables);
+void guarded_take_message(enum where where, NodeRegisters *node, struct bytes part,
+                          uint8_t channel);
 
 #endif

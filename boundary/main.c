@@ -4,18 +4,18 @@
  *
  *   boundary ROOT ROUNDS SEED
  *
- * First the cases of vectors/ and corpus/ with their answers; then lent
- * memory of every length about the one needed; then tables cut at every
- * length; then random rounds from the seed. Ends at the first fault, with
- * status 1.
+ * First the cases of vectors/ and corpus/ with their answers, each run also
+ * with its nodes driven one at a time; then lent memory of every length about
+ * the one needed; then tables cut at every length; then random rounds from the
+ * seed. Ends at the first fault, with status 1.
  */
 #include <stdio.h>
 #include <stdlib.h>
 #include <string.h>
 
-#include "inputs.h"
+#include "nodes.h"
 
-static const struct stored *find(const char *name, enum request request) {
+static const struct stored *find(const char *name, enum call request) {
     for (size_t i = 0; i < case_count; i++)
         if (cases[i].request == request && strcmp(cases[i].name, name) == 0)
             return &cases[i];
@@ -55,6 +55,15 @@ static void stored_cases(void) {
             stored_try(&cases[i], (enum where)where);
 }
 
+static void single_nodes(void) {
+    for (int where = 0; where < PLACES; where++) {
+        for (size_t i = 0; i < case_count; i++)
+            if (cases[i].request == RUN)
+                nodes_run((enum where)where, &cases[i]);
+        nodes_long((enum where)where);
+    }
+}
+
 static void lent_lengths(void) {
     struct bytes none = {NULL, 0};
     for (size_t i = 0; i < case_count; i++) {
@@ -68,6 +77,27 @@ static void lent_lengths(void) {
     }
 }
 
+/* The same for meetings: nothing is listed, so no list is too short, unless 10, 11 or 12 refuses. */
+static void lend_for_meetings(enum where where, struct bytes table, long more) {
+    size_t needed = FIELDS * guarded_meetings(where, table, MAX_MET).size;
+    long sum = (long)needed + more;
+    size_t lent = sum < 0 ? 0 : (size_t)sum > MAX_MET ? MAX_MET : (size_t)sum;
+    same(guarded_meetings(where, table, lent).number == (lent < needed ? 13 : 0),
+         "a list for meetings is refused or taken wrongly");
+}
+
+static void lent_for_meetings(void) {
+    for (size_t i = 0; i < case_count; i++) {
+        if (cases[i].request != CHECK)
+            continue;
+        trying("lent lengths for meetings", cases[i].name);
+        int some = strncmp(cases[i].answer, "refused 1", 9) == 0 && cases[i].answer[9] != ' ';
+        for (long more = some ? -30 : 0; more <= 2; more++)
+            for (int where = 0; where < PLACES; where++)
+                lend_for_meetings((enum where)where, cases[i].table, more);
+    }
+}
+
 static void all_calls(enum where where, struct bytes table, struct bytes choices,
                       size_t lent) {
     VerdictNumbers verdict = guarded_check(where, table);
@@ -75,6 +105,7 @@ static void all_calls(enum where where, struct bytes table, struct bytes choices
     CallNumbers translated = guarded_translate(where, table, lent);
     RunNumbers ran = guarded_run(where, table, choices, lent);
     guarded_passages(where, table, lent / FIELDS);
+    guarded_meetings(where, table, lent);
     if (verdict.number != 0) {
         same(planned.number == verdict.number && translated.number == verdict.number &&
                  ran.number == verdict.number,
@@ -106,7 +137,7 @@ static void cuts(void) {
 
 /* The program of the worked example cut at each length, and every node. */
 static void cut_programs(void) {
-    const struct stored *example = find("probe and hub", PROGRAM);
+    const struct stored *example = find("probe and hub", TRANSLATE);
     trying("a cut program", example->name);
     size_t length = guarded_translate(AT_END, example->table, MAX_PROGRAM).size;
     memcpy(program_bytes, program, length);
@@ -114,6 +145,9 @@ static void cut_programs(void) {
         for (unsigned node = 0; node < 256; node += node < 9 ? 1 : 13)
             for (int where = 0; where < PLACES; where++)
                 guarded_part((enum where)where, of(program_bytes, cut), (uint8_t)node);
+    for (size_t cut = 0; cut + 6 <= length; cut++)
+        for (int where = 0; where < PLACES; where++)
+            nodes_random((enum where)where, of(program_bytes + 6, cut));
 }
 
 /* As many choices as a run takes, and one more. */
@@ -164,8 +198,11 @@ static void rounds(unsigned long count) {
                 grown_run(where, table);
             }
         }
+        lend_for_meetings(where, table, (long)random_below(5) - 2);
         struct bytes bytes = random_program(length);
-        guarded_part(where, bytes, random_node());
+        PartNumbers part = guarded_part(where, bytes, random_node());
+        nodes_random(where, of(bytes.at + part.start, part.length));
+        nodes_random(where, bytes);
     }
     printf("boundary: %lu random rounds, %lu tables accepted, %lu runs carried on\n",
            count, accepted, grown);
@@ -181,7 +218,9 @@ int main(int count, char **words) {
     calls_start();
     stored_read(words[1]);
     stored_cases();
+    single_nodes();
     lent_lengths();
+    lent_for_meetings();
     cuts();
     cut_programs();
     many_choices();
@@ -191,9 +230,10 @@ int main(int count, char **words) {
     rounds(strtoul(words[2], NULL, 10));
     for (int i = 0; i < CALLS; i++)
         all += made[i];
-    printf("boundary: %zu stored cases; %lu calls with them, %lu with random bytes; "
-           "check %lu, schedule %lu, translate %lu, part %lu, run %lu, passages %lu\n",
-           case_count, before, all - before, made[0], made[1], made[2], made[3], made[4],
-           made[5]);
+    printf("boundary: %zu stored cases; %lu calls with them, %lu with random bytes:",
+           case_count, before, all - before);
+    for (int i = 0; i < CALLS; i++)
+        printf("%s %s %lu", i == 0 ? "" : ",", call_names[i], made[i]);
+    printf("\n");
     return 0;
 }

@@ -114,7 +114,7 @@ static void hold(enum program which, const struct stored *stored) {
         if (!same)
             fail("another schedule than the stored one");
     }
-    if (which == TRANSLATE_TABLE && stored->request == PROGRAM) {
+    if (which == TRANSLATE_TABLE && stored->request == TRANSLATE) {
         int same = 2 * output_length == length;
         for (size_t i = 0; same && i < output_length; i++) {
             char digits[3];

@@ -1,107 +1,163 @@
 /*
  * How much stack each call takes.
  *
- *   stack ROOT
+ *   stack ROOT              prints a line a call: its name, the bytes measured
+ *   stack ROOT BYTES...     the same; then makes every call again with as
+ *                           little stack as said, a number for each call in
+ *                           the order printed. Status 1 if one takes more.
  *
  * Each stored case is called in a thread whose stack was filled with a
  * pattern; what is counted is the distance from the stack pointer before the
- * call to the lowest byte that lost the pattern. Then every case is called
- * again in a thread with as little stack as docs/LINKING.md says, in front of
- * a page without access. Status 1 if a call takes more than is said there.
+ * call to the lowest byte that lost the pattern. A node's calls are made at
+ * each statement of its part. With little stack: in a thread of its own for
+ * each call, in front of a page without access.
  */
 #define _DEFAULT_SOURCE
 #include <pthread.h>
 #include <stdio.h>
+#include <stdlib.h>
 #include <string.h>
 #include <sys/mman.h>
 
 #include "stored.h"
 
-/* The stack that is measured, and the stack of the second thread. */
-enum { WIDE = 200 * 1024, PATTERN = 0xA5, THREAD = 100 * 1024 };
-
-/* The calls measured: those of the stored cases, then these. */
-enum { PASSAGES = RUN + 1, START, STEP, MEASURED };
-
-/* The bytes that docs/LINKING.md names for each call. */
-static const size_t named[MEASURED] = {40000, 40000, 40000, 256, 68000, 86000, 400, 600};
+/*
+ * The stack that is measured, and what a thread needs beside the stack of a
+ * call: for itself, and for the functions here.
+ */
+enum { WIDE = 200 * 1024, PATTERN = 0xA5, BESIDE = 16 * 1024 };
 
 static uint8_t *wide;
-static size_t deepest[MEASURED];
+static size_t deepest[CALLS];
+static size_t named[CALLS];
+static int chosen;
 static NodeRegisters node;
 static VerdictNumbers verdict;
 static CallNumbers called;
 static PartNumbers placed;
 static RunNumbers ran;
+static MeetingsNumbers meetings;
 
-static void call(int request, const struct stored *stored) {
-    const uint8_t *table = stored->table.at;
-    size_t length = stored->table.length;
+/* What is lent to a call. For a node's calls `bytes` is its part. */
+struct lent {
+    struct bytes bytes, choices;
+    uint8_t number;
+};
+
+static void call(int request, const struct lent *lent) {
+    const uint8_t *bytes = lent->bytes.at;
+    size_t length = lent->bytes.length;
     switch (request) {
     case CHECK:
-        verdict = timed_network_check(table, length);
+        verdict = timed_network_check(bytes, length);
         break;
     case SCHEDULE:
-        called = timed_network_schedule(table, length, list, MAX_LIST);
+        called = timed_network_schedule(bytes, length, list, MAX_LIST);
         break;
-    case PROGRAM:
-        called = timed_network_translate(table, length, program, MAX_PROGRAM);
+    case TRANSLATE:
+        called = timed_network_translate(bytes, length, program, MAX_PROGRAM);
         break;
     case PART:
-        placed = timed_network_part(table, length, stored->node);
+        placed = timed_network_part(bytes, length, lent->number);
         break;
     case RUN:
-        ran = timed_network_run(table, length, stored->choices.at,
-                                stored->choices.length, observations,
-                                MAX_OBSERVATIONS);
+        ran = timed_network_run(bytes, length, lent->choices.at, lent->choices.length,
+                                observations, MAX_OBSERVATIONS);
         break;
     case PASSAGES:
-        called = timed_network_passages(table, length, passages, MAX_PASSAGES);
+        called = timed_network_passages(bytes, length, passages, MAX_PASSAGES);
+        break;
+    case MEETINGS:
+        meetings = timed_network_meetings(bytes, length, met, MAX_MET);
         break;
     case START:
-        node = timed_network_start(table, length);
+        node = timed_network_start(bytes, length);
         break;
     case STEP:
-        timed_network_step(&node, table, length, 4, 4);
+        timed_network_step(&node, bytes, length, 4, 4);
+        break;
+    case TAKE_MESSAGE:
+        timed_network_take_message(&node, bytes, length, lent->number);
         break;
     }
 }
 
 /* Fills the stack below the stack pointer, calls, and looks how far it went. */
-static size_t depth(int request, const struct stored *stored) {
+static size_t depth(int request, const struct lent *lent) {
     uint8_t *here;
     __asm__ volatile("mov %%rsp, %0" : "=r"(here));
     volatile uint8_t *at;
     for (at = wide; at < here; at++)
         *at = PATTERN;
-    call(request, stored);
+    call(request, lent);
     for (at = wide; *at == PATTERN; at++)
         ;
     return (size_t)(here - at);
 }
 
-static void each_case(size_t (*measure)(int, const struct stored *)) {
-    for (size_t i = 0; i < case_count; i++)
-        for (int request = 0; request < MEASURED; request++) {
-            size_t found = measure(request, &cases[i]);
-            if (found > deepest[request])
-                deepest[request] = found;
-        }
-}
-
-static void *measured(void *nothing) {
-    call(RUN, &cases[0]); /* memcpy and memset are found now, not below */
-    each_case(depth);
-    return nothing;
-}
-
-static size_t only_call(int request, const struct stored *stored) {
-    call(request, stored);
+static size_t only_call(int request, const struct lent *lent) {
+    call(request, lent);
     return 0;
 }
 
+/* How a call is made, and what it took. */
+typedef size_t measure(int request, const struct lent *lent);
+
+static void note(int request, size_t found) {
+    if (found > deepest[request])
+        deepest[request] = found;
+}
+
+/* A node's call at the start, and then at each statement of its part. */
+static void each_statement(int request, measure *measure, struct lent *lent) {
+    uint8_t *part = lent->bytes.at;
+    if (request == START) {
+        note(request, measure(request, lent));
+        return;
+    }
+    size_t first = 6 + 2u * ((size_t)part[2] + part[3]);
+    for (size_t at = first; at + 4 <= lent->bytes.length; at += 4) {
+        memset(&node, 0, sizeof node);
+        node.pc = at;
+        node.kept.some = true;
+        lent->number = part[at] == 5 ? part[at + 5] : 0;
+        note(request, measure(request, lent));
+    }
+}
+
+/* A node's call, with the part of each node of a stored table. */
+static void each_part(int request, measure *measure, const struct stored *stored) {
+    CallNumbers made_of = timed_network_translate(stored->table.at, stored->table.length,
+                                                  program, MAX_PROGRAM);
+    for (uint8_t c = 0; made_of.number == 0 && c < 8; c++) {
+        PartNumbers part = timed_network_part(program, made_of.size, c);
+        struct lent lent = {{program + part.start, part.length}, {NULL, 0}, 0};
+        if (part.length > 0)
+            each_statement(request, measure, &lent);
+    }
+}
+
+static void each_case(int request, measure *measure) {
+    for (size_t i = 0; i < case_count; i++) {
+        const struct stored *stored = &cases[i];
+        struct lent lent = {stored->table, stored->choices, stored->node};
+        if (request < START)
+            note(request, measure(request, &lent));
+        else if (stored->request == TRANSLATE)
+            each_part(request, measure, stored);
+    }
+}
+
+static void *measured(void *nothing) {
+    struct lent lent = {cases[0].table, cases[0].choices, 0};
+    call(RUN, &lent); /* memcpy and memset are found now, not below */
+    for (int request = 0; request < CALLS; request++)
+        each_case(request, depth);
+    return nothing;
+}
+
 static void *narrow(void *nothing) {
-    each_case(only_call);
+    each_case(chosen, only_call);
     return nothing;
 }
 
@@ -117,10 +173,8 @@ static void in_thread(void *(*body)(void *), uint8_t *stack, size_t size) {
 }
 
 int main(int count, char **words) {
-    static const char *const names[] = {"check", "schedule", "translate", "part",
-                                        "run",   "passages", "start",     "step"};
-    if (count != 2) {
-        fputs("usage: stack ROOT\n", stderr);
+    if (count != 2 && count != 2 + CALLS) {
+        fputs("usage: stack ROOT [BYTES...]\n", stderr);
         return 2;
     }
     stored_read(words[1]);
@@ -129,12 +183,17 @@ int main(int count, char **words) {
         fail("no memory");
     trying("stack", "measured");
     in_thread(measured, wide, WIDE);
-    in_thread(narrow, NULL, THREAD);
     int status = 0;
-    for (int i = 0; i < MEASURED; i++) {
-        printf("stack: %s %zu bytes, at most %zu\n", names[i], deepest[i], named[i]);
+    for (int i = 0; i < CALLS; i++) {
+        printf("%s %zu\n", call_names[i], deepest[i]);
+        named[i] = count == 2 ? WIDE : strtoul(words[2 + i], NULL, 10);
         if (deepest[i] > named[i])
             status = 1;
+    }
+    fflush(stdout);
+    for (chosen = 0; status == 0 && chosen < CALLS; chosen++) {
+        trying("as little stack as said", call_names[chosen]);
+        in_thread(narrow, NULL, named[chosen] + BESIDE);
     }
     return status;
 }

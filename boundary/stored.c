@@ -48,7 +48,7 @@ static struct bytes from_hex(const char *text) {
     return bytes;
 }
 
-static struct stored *add(char *name, enum request request, char *answer) {
+static struct stored *add(char *name, enum call request, char *answer) {
     cases = demand(realloc(cases, (case_count + 1) * sizeof cases[0]));
     struct stored *stored = &cases[case_count++];
     memset(stored, 0, sizeof *stored);
@@ -80,7 +80,7 @@ static void read_vectors(const char *root, const char *path) {
             word++;
         if (word == 5)
             fail("a request is not understood");
-        struct stored *stored = add(line, (enum request)word, answer);
+        struct stored *stored = add(line, (enum call)word, answer);
         char *more = word >= PART ? cut(table, ' ') : NULL;
         stored->table = from_hex(table);
         if (word == RUN)

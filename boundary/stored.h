@@ -4,11 +4,9 @@
 
 #include "calls.h"
 
-enum request { CHECK, SCHEDULE, PROGRAM, PART, RUN };
-
 struct stored {
     char *name;
-    enum request request;
+    enum call request; /* CHECK to RUN */
     struct bytes table;   /* for PART the program */
     struct bytes choices; /* for RUN */
     uint8_t node;         /* for PART */

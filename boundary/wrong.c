@@ -14,6 +14,10 @@ PartNumbers __real_timed_network_part(const uint8_t *, size_t, uint8_t);
 RunNumbers __real_timed_network_run(const uint8_t *, size_t, const uint8_t *,
                                     size_t, uint8_t *, size_t);
 CallNumbers __real_timed_network_passages(const uint8_t *, size_t, Passage *, size_t);
+MeetingsNumbers __real_timed_network_meetings(const uint8_t *, size_t, uint32_t *, size_t);
+NodeRegisters __real_timed_network_start(const uint8_t *, size_t);
+void __real_timed_network_step(NodeRegisters *, const uint8_t *, size_t, uint8_t, uint8_t);
+void __real_timed_network_take_message(NodeRegisters *, const uint8_t *, size_t, uint8_t);
 
 VerdictNumbers __wrap_timed_network_check(const uint8_t *, size_t);
 CallNumbers __wrap_timed_network_schedule(const uint8_t *, size_t, uint32_t *, size_t);
@@ -22,6 +26,10 @@ PartNumbers __wrap_timed_network_part(const uint8_t *, size_t, uint8_t);
 RunNumbers __wrap_timed_network_run(const uint8_t *, size_t, const uint8_t *,
                                     size_t, uint8_t *, size_t);
 CallNumbers __wrap_timed_network_passages(const uint8_t *, size_t, Passage *, size_t);
+MeetingsNumbers __wrap_timed_network_meetings(const uint8_t *, size_t, uint32_t *, size_t);
+NodeRegisters __wrap_timed_network_start(const uint8_t *, size_t);
+void __wrap_timed_network_step(NodeRegisters *, const uint8_t *, size_t, uint8_t, uint8_t);
+void __wrap_timed_network_take_message(NodeRegisters *, const uint8_t *, size_t, uint8_t);
 
 static int wrong(int fault) {
     static int chosen = -1;
@@ -112,4 +120,76 @@ CallNumbers __wrap_timed_network_passages(const uint8_t *table, size_t length,
     if (wrong(19) && answer.number == 0)
         list[0].message ^= 1; /* another message */
     return answer;
+}
+
+MeetingsNumbers __wrap_timed_network_meetings(const uint8_t *table, size_t length,
+                                              uint32_t *list, size_t list_length) {
+    MeetingsNumbers answer =
+        __real_timed_network_meetings(table, length, list, list_length);
+    if (wrong(20) && list_length > 0)
+        list[list_length] = 1; /* writes the number behind the list */
+    if (wrong(21) && answer.number == 13 && list_length > 0)
+        list[0] = 0; /* writes where the list is too short */
+    if (wrong(22) && answer.number == 13)
+        answer.concerned = 255; /* tells no component where the list is too short */
+    if (wrong(23) && answer.size > 1)
+        answer.size -= 1; /* says one passage too few */
+    if (wrong(24) && answer.size > 1)
+        list[7] = list[0]; /* lists a passage of the component at fault */
+    if (wrong(25) && answer.refusal == 0 && list_length == 0)
+        answer.number = 13; /* asks for a list where nothing is listed */
+    if (wrong(26))
+        touch(table + length); /* reads the byte behind the table */
+    return answer;
+}
+
+NodeRegisters __wrap_timed_network_start(const uint8_t *part, size_t length) {
+    NodeRegisters node = __real_timed_network_start(part, length);
+    if (wrong(27))
+        touch(part + length); /* reads the byte behind the part */
+    if (wrong(28) && length > 0)
+        *(volatile uint8_t *)part = *part; /* writes to it, the same byte */
+    if (wrong(29))
+        node.tried.good = false; /* begins without a trial */
+    if (wrong(30))
+        node.kept.edge = 1; /* a register that is not 0 */
+    return node;
+}
+
+void __wrap_timed_network_step(NodeRegisters *node, const uint8_t *part, size_t length,
+                               uint8_t clocks, uint8_t variables) {
+    NodeRegisters before = *node;
+    __real_timed_network_step(node, part, length, clocks, variables);
+    if (wrong(31))
+        ((uint8_t *)node)[sizeof *node] = 1; /* writes behind the registers */
+    if (wrong(32))
+        ((uint8_t *)node)[-1] = 1; /* writes before them */
+    if (wrong(33))
+        touch(part + length); /* reads the byte behind the part */
+    if (wrong(34) && clocks < 4)
+        node->clocks[3] += 1; /* changes a clock that the node does not have */
+    if (wrong(35) && variables > 4)
+        node->pc += 4; /* goes on with more variables than there are places for */
+    if (wrong(36) && node->sleeps != before.sleeps)
+        node->goes ^= 1; /* a sleep changes a register that it does not name */
+    if (wrong(37) && length == 65535)
+        *node = before; /* leaves a part of the greatest length */
+    if (wrong(38) && node->t != before.t)
+        node->n += 1; /* another ready delay of the edge taken */
+}
+
+void __wrap_timed_network_take_message(NodeRegisters *node, const uint8_t *part,
+                                       size_t length, uint8_t channel) {
+    NodeRegisters before = *node;
+    __real_timed_network_take_message(node, part, length, channel);
+    if (wrong(39))
+        ((uint8_t *)node)[sizeof *node] = 1; /* writes behind the registers */
+    if (wrong(40) && length > 0)
+        touch(part - 1); /* reads the byte before the part */
+    if (wrong(41))
+        node->taken = true; /* takes every message */
+    if (wrong(42) && node->pc != before.pc)
+        node->goes ^= 1; /* goes to another location */
+    if (wrong(43) && node->pc != before.pc)
+        node->pc = before.pc + 4; /* does not skip the pairs */
 }

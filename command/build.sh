@@ -1,6 +1,6 @@
 # Builds what a command of `vanillatarn` needs, where that is absent or older than its sources.
 # shellcheck shell=bash
-# shellcheck disable=SC2154 # root, scratch and broken are set by vanillatarn
+# shellcheck disable=SC2154 # root, scratch and broken are set by vanillatarn, and by tools/archive
 
 # Whether a file is there and not older than any of its sources.
 is_newer() {
@@ -14,9 +14,9 @@ build() {
     local name=$1 shown=$2 log="$scratch/log"
     shift 2
     command -v "$1" >/dev/null || stop "$broken" "$name has to be built, and '$1' is not installed"
-    say "building $name, once; that can take some minutes ..."
+    say "building $name, once; that can take some minutes ..." || true
     if ! (cd "$root" && "$@" 2>&1) | tee "$log" | { grep --line-buffered "$shown" || true; } >&2; then
-        cat "$log" >&2
+        cat "$log" >&2 || true
         stop "$broken" "$name could not be built: $*"
     fi
 }
@@ -66,12 +66,17 @@ need_rust() {
     is_current "$tool" "${plain[@]}" || make_rust "$2"
 }
 
-# The Rust tool that has the verified library in it.
-need_part() {
+# The verified library.
+need_library() {
     local library="$root/target/staticlib/libtimed_network.a"
+    is_current "$library" "${verified[@]}" || make_current "$library" '^rt: ' rt staticlib timed_network
+}
+
+# The Rust tool that has the library in it.
+need_part() {
     tool="$root/rust/target/release/program_part"
     if ! is_current "$tool" "${verified[@]}" "${plain[@]}"; then
-        is_current "$library" "${verified[@]}" || make_current "$library" '^rt: ' rt staticlib timed_network
+        need_library
         make_rust timed_network
     fi
 }

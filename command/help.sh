@@ -26,7 +26,8 @@ Exit status
   1  the answer is no: a table is refused, a run ends late or with a choice that
      is not allowed, a program is damaged or has no such part, a text has a fault
   2  wrong use; a file that cannot be read or written, is empty or too long
-  3  a tool is missing, could not be built or failed
+  3  a tool is missing, could not be built or failed; standard output, standard
+     error or the scratch folder cannot be written
 
 What is needed is built on first use (with rt and cargo); its progress goes to
 standard error. That takes minutes, once; the very first time, when the whole
@@ -74,7 +75,7 @@ usage: vanillatarn part PROGRAM NODE [-o FILE]
 Writes the part of a program that belongs to one node (a number, from 0 on), as
 bytes: what is loaded on that node.
 
-Exit status: 0 written, 1 the program has no part for this node.
+Exit status: 0 written, 1 the program has no part for this node, or an empty one.
 TEXT
         run) cat <<'TEXT' ;;
 usage: vanillatarn run TABLE CHOICES

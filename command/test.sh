@@ -166,7 +166,15 @@ for words in 'translate cellar.bin -o cellar.bin' 'translate ./cellar.bin -o lin
     says 2
     complains '-o names the input'
 done
+ln cellar.bin same.bin
+for file in cellar.bin link.bin same.bin; do
+    call translate - -o "$file" <cellar.bin
+    says 2
+    complains "-o names the input $file"
+done
 check 'the input is as it was' cmp -s cellar.bin "$corpus/probe_and_hub.bin"
+call translate - -o /dev/null <cellar.bin
+says 0
 if command -v script >/dev/null; then
     for words in 'translate cellar.bin' 'part program.bin 0' 'choices cellar.bin' 'table cellar.txt'; do
         what="$words, on a terminal" status=0
@@ -283,13 +291,15 @@ done
 each_reader long 'longer than 8192 bytes, the most that a table has'
 call list longer
 says 2
-complains 'longer: longer than 65535 bytes, the most that a program has'
+complains 'longer: longer than 65535 bytes, the most that a program can state'
 call run cellar.bin absent
 says 2
 complains 'absent: no such file'
-call translate cellar.bin -o folder/absent/file
-says 2
-complains 'folder/absent/file: cannot be written'
+for file in folder/absent/file folder /proc/absent; do
+    call translate cellar.bin -o "$file"
+    says 2
+    complains "$file: cannot be written"
+done
 
 ## The environment fails: 3, never "no"
 
@@ -308,7 +318,8 @@ call_to() {
 
 for to in full closed; do
     for words in 'verdict cellar.bin' 'verdict incident.bin' 'schedule cellar.bin' 'translate cellar.bin' 'list program.bin' \
-        'part program.bin 0' 'choices cellar.bin' 'run cellar.bin early.bin' 'run cellar.bin ticks' 'text cellar.bin' 'table cellar.txt'; do
+        'part program.bin 0' 'choices cellar.bin' 'run cellar.bin early.bin' 'run cellar.bin ticks' 'text cellar.bin' 'table cellar.txt' \
+        --help 'run --help'; do
         # shellcheck disable=SC2086 # several words
         call_to "$to" $words
         says 3
@@ -319,11 +330,31 @@ call translate cellar.bin -o /dev/full
 says 3
 complains '/dev/full: could not be written to its end'
 
-# A folder for scratch files that is not there, and one in which no file may have a byte.
-what='no scratch folder' status=0
-TMPDIR="$work/absent" "$root/vanillatarn" verdict cellar.bin >out 2>err || status=$?
-says 3
-complains 'no scratch folder can be made'
+# Standard error on a full device, or closed: what is to be told there is an output too.
+for words in 'schedule incident.bin' 'run cellar.bin many' 'list unknown' 'part program.bin 2' 'table fault.txt' 'verdict absent' brew; do
+    # shellcheck disable=SC2086 # several words
+    for to in full closed; do
+        what="vanillatarn $words, standard error $to" status=0
+        if [[ $to == full ]]; then
+            "$root/vanillatarn" $words >out 2>/dev/full || status=$?
+        else
+            "$root/vanillatarn" $words >out 2>&- || status=$?
+        fi
+        says 3
+    done
+done
+what='vanillatarn verdict cellar.bin, which has nothing to tell' status=0
+"$root/vanillatarn" verdict cellar.bin >out 2>&- || status=$?
+says 0
+starts accepted
+
+# A folder for scratch files that is not there, one in which none can be made, and one in which no file may have a byte.
+for folder in "$work/absent" /proc; do
+    what="no scratch folder in $folder" status=0
+    TMPDIR=$folder "$root/vanillatarn" verdict cellar.bin >out 2>err || status=$?
+    says 3
+    complains "no scratch folder can be made in $folder"
+done
 what='a scratch folder that is full'
 status="$(ulimit -f 0 && { "$root/vanillatarn" verdict cellar.bin >/dev/null 2>&1 || echo $?; })"
 says 3

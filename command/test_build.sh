@@ -39,6 +39,21 @@ call_there verdict cellar.bin
 says 3
 complains 'verdict_printer was not built by: rt check verdict_printer'
 
+# A folder that cannot be written, whoever asks: a file stands in its place.
+printf '#!/usr/bin/env bash\nmkdir -p target/bin\n' >"$work/tools/rt"
+: >"$work/tree/target"
+call_there verdict cellar.bin
+says 3
+complains 'verdict_printer could not be built: rt check verdict_printer'
+rm "$work/tree/target"
+printf '#!/usr/bin/env bash\nmkdir -p target/bin\n: >"target/bin/$2"\n' >"$work/tools/rt"
+mkdir "$work/tree/target"
+: >"$work/tree/target/command"
+call_there verdict cellar.bin
+says 3
+complains 'target/command cannot be written'
+rm -r "$work/tree/target"
+
 # An rt that leaves a program as it is, if there is one.
 cat >"$work/tools/rt" <<'TEXT'
 #!/usr/bin/env bash

@@ -7,7 +7,8 @@
  *
  * What holds for every call here: it always returns, whatever the bytes are,
  * and it keeps nothing from one call to the next. Memory that is lent is
- * written only where the call says so, and never after a refusal.
+ * written only where the call says so. After a refusal it is as it was; so are
+ * a node's registers where a statement or a message is not taken.
  *
  * What the caller sees to: a pointer leads to as many bytes or numbers as its
  * length says (2^63 - 1 bytes at most); what is lent to be written overlaps
@@ -114,7 +115,7 @@ CallNumbers timed_network_schedule(const uint8_t *table, size_t length,
  *
  * table, length:  as for timed_network_check.
  * program:        the first of `program_length` bytes that can be written.
- * program_length: how many bytes there are. 65,535 are always enough. It may
+ * program_length: how many bytes there are. 24,576 are always enough. It may
  *                 be 0; then the pointer is not used.
  *
  * The size of the answer is the length of the program in bytes. It stands at
@@ -133,7 +134,10 @@ CallNumbers timed_network_translate(const uint8_t *table, size_t length,
  * Where the part of one node stands in program bytes.
  *
  * start:  its first byte, counted from the first byte of the program.
- * length: how many bytes it has. Both are 0 where there is no such part.
+ * length: how many bytes it has, as it states.
+ *
+ * Both are 0 where there is no such part. A part that states the length 0 has
+ * no bytes either, and a start of 6 or more.
  */
 typedef struct PartNumbers {
     size_t start;
@@ -329,8 +333,8 @@ typedef struct NodeRegisters {
 } NodeRegisters;
 
 /*
- * The registers at the start of a part: in the initial location's block, all
- * else 0.
+ * The registers at the start of a part: in the initial location's block, with
+ * a new trial (`good` is true), all else 0.
  *
  * part:   the first of `length` bytes that can be read.
  * length: how many bytes there are. It may be 0; then the pointer is not read.

@@ -7,7 +7,7 @@
  * choice of the run. Written to standard output: the verdict; for an accepted
  * table then the schedule, the program in hexadecimal, the part of each node,
  * how the run ended and what was observed. Exit status 2 if a file cannot be
- * read, else 0, also for a refused table.
+ * read or the output not be written, else 0, also for a refused table.
  */
 #include <errno.h>
 #include <stdio.h>
@@ -19,7 +19,7 @@
 enum {
     FIELDS = 7,
     MAX_PASSAGES = 1024,
-    MAX_PROGRAM = 65535,
+    MAX_PROGRAM = 24576,
     OBSERVATION = 32,
     NO_MESSAGE = 255
 };
@@ -48,7 +48,7 @@ static struct bytes read_file(const char *path) {
     for (;;) {
         if (bytes.length == room) {
             room = 2 * room + 4096;
-            bytes.at = realloc(bytes.at, room);
+            bytes.at = (uint8_t *)realloc(bytes.at, room); /* the cast is for C++ */
             if (bytes.at == NULL)
                 fail(path);
         }
@@ -142,5 +142,7 @@ int main(int count, char **words) {
     }
     free(table.at);
     free(choices.at);
+    if (ferror(stdout) || fclose(stdout) != 0)
+        fail("standard output");
     return 0;
 }

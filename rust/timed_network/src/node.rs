@@ -68,7 +68,7 @@ pub struct Node {
 
 impl Node {
     /// The registers at the start of a part: in the initial location's block,
-    /// all else 0.
+    /// with a new trial, all else 0.
     ///
     /// ```
     /// let node = timed_network::node::Node::start(&[]);

@@ -4,7 +4,7 @@ use crate::exported;
 use crate::{Call, RunNumbers, Verdict};
 
 /// The bytes that every program fits in.
-pub const MAX_PROGRAM: usize = 65_535;
+pub const MAX_PROGRAM: usize = 24_576;
 /// The bytes of an observation.
 pub const OBSERVATION: usize = 32;
 /// The choice that lets a tick pass.
