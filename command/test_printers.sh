@@ -50,6 +50,7 @@ full() {
     "$programs/$program" <"$corpus/probe_and_hub.bin" >/dev/full 2>err || true
     check "$program: an output that cannot be written is told" grep -q -F -- "$said" err
 }
+full schedule_printer 'The schedule could not be written.'
 full verdict_printer 'The verdict could not be written.'
 full translate_table 'The program could not be written.'
 "$programs/trial_run" "$corpus/probe_and_hub.bin" /dev/null >/dev/full 2>err || true

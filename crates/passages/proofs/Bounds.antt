@@ -1,4 +1,4 @@
--- The fields of the passages of a schedule fit a byte, but for the ticks. Assumes nothing.
+-- The fields of the passages of a schedule fit a byte, but for the ticks, and no channel has the number for no message. Assumes nothing.
 use mathlib.Core.Path.{_≡_, refl, sym, ap, subst, _∙_}
 use mathlib.Core.Bool.{Bool, true, false, cond}
 use mathlib.Core.List.{List, [], _∷_}
@@ -27,9 +27,19 @@ use Rattle.model.proofs.WholeTied.{Given, schedule-at, given, component-in}
 
 -- ## Channels
 
--- a message of this edge fits a byte, also the number for none
+-- a message is a channel, or none
+abbrev pub Channel : Option ℕ → Type 0
+Channel none = Unit
+Channel (some k) = k < 16
+
+-- so its number fits a byte, also the number for none
+channel-small : (m : Option ℕ) → Channel m → orElse m 255 < 256
+channel-small none h = omega arith
+channel-small (some k) h = omega (arith, h)
+
+-- a message of this edge
 abbrev Sends : Arc → Type 0
-Sends a = orElse (channelOf a) 255 < 256
+Sends a = Channel (channelOf a)
 
 -- what holds of each, and of what an index past the end reads, holds of what any index reads
 any-at : {A : Type 0} (P : A → Type 0) {xs : List A} (d : A) → P d → All P xs → (i : ℕ) → P (getD xs i d)
@@ -40,10 +50,10 @@ any-at P d p (more q a) (suc i) = any-at P d p a i
 sends-in : {s : Sizes} {a : Arc} → s .channels ≤ 16 → ArcIn s a → Sends a
 sends-in {s} {a} few h = go (a .edge .action) (h .action)
   where
-    go : (x : Action) → ActionIn s a x → orElse (sends x) 255 < 256
-    go Internal i = omega arith
+    go : (x : Action) → ActionIn s a x → Channel (sends x)
+    go Internal i = tt
     go (Send k) i = omega (arith, i .channel)
-    go Receive i = omega arith
+    go Receive i = tt
 
 arcs-send : {s : Sizes} {xs : List Arc} → s .channels ≤ 16 → All (ArcIn s) xs → All Sends xs
 arcs-send few empty = empty
@@ -56,7 +66,7 @@ AllSend C = (e : ℕ) → Sends (arcOf C e)
 components-send : {channels : ℕ} {Cs : List Component} → channels ≤ 16 → All (ComponentIn channels) Cs → All AllSend Cs
 components-send few empty = empty
 components-send few (more {x = C} h a) =
-    more {x = C} (any-at Sends noArc (omega arith) (arcs-send few (h .arcs))) (components-send few a)
+    more {x = C} (any-at Sends noArc tt (arcs-send few (h .arcs))) (components-send few a)
 
 -- ## A schedule's passages
 
@@ -66,18 +76,19 @@ pub record SmallPassage (v : Passage) : Type 0 where
   pub edge : v .edge < 256
   pub location : v .entry .location < 256
   pub message : orElse (v .message) 255 < 256
+  pub channel : Channel (v .message)
 
 module _ (t : Read) (S : List Passage) (G : Given t (t .horizon) S) where
   arc-sends : (v : Passage) → Sends (passageArc (t .table) v)
   arc-sends v =
-      any-at AllSend noComponent (λ e. omega arith) (components-send (G .limits .channels) (G .limits .components)) (v .component) (v .edge)
+      any-at AllSend noComponent (λ e. tt) (components-send (G .limits .channels) (G .limits .components)) (v .component) (v .edge)
 
-  message-small : (H : ℕ) (v : Passage) → orElse (messageIn (t .table) H S v) 255 < 256
+  its-channel : (H : ℕ) (v : Passage) → Channel (messageIn (t .table) H S v)
   unfolding messageIn
-  message-small H v = go (listens (passageArc (t .table) v)) (earliest (heardBy (t .table) H v) S none)
+  its-channel H v = go (listens (passageArc (t .table) v)) (earliest (heardBy (t .table) H v) S none)
     where
-      go : (b : Bool) (o : Option Passage) → orElse (cond b (carried (t .table) o) (channelOf (passageArc (t .table) v))) 255 < 256
-      go true none = omega arith
+      go : (b : Bool) (o : Option Passage) → Channel (cond b (carried (t .table) o) (channelOf (passageArc (t .table) v)))
+      go true none = tt
       go true (some s) = arc-sends s
       go false o = arc-sends v
 
@@ -86,11 +97,13 @@ module _ (t : Read) (S : List Passage) (G : Given t (t .horizon) S) where
   small-passage v h k m =
       let C = component-in G (v .component) h in
       let o = k .opened in
+      let sent : Channel (v .message) = subst Channel (sym m) (its-channel (t .horizon) v) in
       record {
         component = omega (arith, h, G .limits .mostComponents);
         edge = omega (arith, o .there, C .mostArcs);
         location = omega (arith, o .source, arc-in C (v .edge) (o .there) .source, C .mostLocations);
-        message = subst (λ (x : Option ℕ). orElse x 255 < 256) (sym m) (message-small (t .horizon) v);
+        message = channel-small (v .message) sent;
+        channel = sent;
       }
 
   small-passages : All SmallPassage S

@@ -28,7 +28,7 @@ use Rattle.passages.proofs.Bounds.{SmallPassage, all-small, few-passage
 
 -- ## The call
 
-call-kept : (bs : List ℕ) {n c : ℕ} → acceptedScheduleIn bs ≡ refused n c → (lent : List Passage) → passagesCall bs lent ≡ keeping n c lent
+pub call-kept : (bs : List ℕ) {n c : ℕ} → acceptedScheduleIn bs ≡ refused n c → (lent : List Passage) → passagesCall bs lent ≡ keeping n c lent
 unfolding passagesCall
 call-kept bs e lent = ap (passagesWith lent) e
 
@@ -36,7 +36,7 @@ call-short : (bs : List ℕ) {S : List Rattle.model.specs.Schedule.Passage} →
 unfolding passagesCall
 call-short bs {S} e lent h = ap (passagesWith lent) e ∙ rw (lt-leb (length S) (length lent) h)
 
-call-laid : (bs : List ℕ) {S : List Rattle.model.specs.Schedule.Passage} → acceptedScheduleIn bs ≡ accepted S → (lent : List Passage) → length S ≤ length lent
+pub call-laid : (bs : List ℕ) {S : List Rattle.model.specs.Schedule.Passage} → acceptedScheduleIn bs ≡ accepted S → (lent : List Passage) → length S ≤ length lent
     → passagesCall bs lent ≡ record { verdict = Accepted; size = length S; lent = map passageOf S ++ drop (length S) lent }
 unfolding passagesCall
 call-laid bs {S} e lent h = ap (passagesWith lent) e ∙ rw (le-leb (length S) (length lent) h)

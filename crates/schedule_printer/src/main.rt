@@ -1,64 +1,50 @@
 // Reads a table from standard input and prints its schedule, a line a passage, or `refused`, number, component. The passages are
 // those that were written through a lent list.
+ghost use mathlib.Core.Path.{_≡_};
 ghost use Prim.Native.Nat.{_≤_};
+ghost use lib.ListN.{length, take};
+ghost use Rattle.io.specs.Counts.{Counts};
+ghost use Rattle.schedule_text.specs.ScheduleText.{printedSchedule};
+use libc::STDERR_FILENO;
 use libc::STDOUT_FILENO;
 use model::Verdict;
-use passages::Passage;
-use passages::Planned;
 
-fn print_number(n: u32, after: u8) {
-    io::print_decimal(STDOUT_FILENO, n as u64);
-    io::write_all(STDOUT_FILENO, &[after]);
-}
-
-// The message, - for none.
-fn print_message(m: u8) {
-    if m == 255 {
-        io::write_all(STDOUT_FILENO, b"-\n");
-    } else {
-        print_number(m as u32, b'\n');
-    }
-}
-
-// The seven fields of a passage.
-fn print_passage(p: Passage) {
-    print_number(p.component as u32, b' ');
-    print_number(p.edge as u32, b' ');
-    print_number(p.location as u32, b' ');
-    print_number(p.entry, b' ');
-    print_number(p.ready, b' ');
-    print_number(p.end, b' ');
-    print_message(p.message);
-}
-
-fn print_schedule(p: Planned)
-    requires { ⌜ p .count ≤ 1024 ⌝ }
+// All that is printed of a table, at the front of out; answers how many bytes.
+fn put_printed(table: &[u8], out: &mut [u8]) -> usize
+    requires { ⌜ 78874 ≤ length (now out) ⌝ }
+    ensures { λ r. ⌜ Counts r (now (out .exit)) ⌝ }
+    ensures { λ r. ⌜ take r (now (out .exit)) ≡ printedSchedule (now (table .entry)) ⌝ }
 {
-    io::write_all(STDOUT_FILENO, b"c e l entry ready end msg\n");
+    let p = passages::schedule_of(table);
     let items = p.items;
     let n = p.count;
-    let mut i: usize = 0;
-    while i < n {
-        let passage = items[i];
-        print_passage(passage);
-        i += 1;
+    let v = p.verdict;
+    match v {
+        Verdict::Accepted => schedule_text::put_schedule(out, items, n),
+        Verdict::Refused(number, component) => text::put_refusal(out, 0, number, component),
     }
 }
 
-fn print_refusal(number: u8, component: u8) {
-    io::write_all(STDOUT_FILENO, b"refused ");
-    print_number(number as u32, b' ');
-    print_number(component as u32, b'\n');
+// The text is made, then written. What is put in out is all that is written.
+fn print(table: &[u8], out: &mut [u8])
+    requires { ⌜ 78874 ≤ length (now out) ⌝ }
+{
+    let n = put_printed(table, out);
+    if !io::write_all(STDOUT_FILENO, &out[..n]) {
+        report::say(STDERR_FILENO, b"The schedule could not be written.\n");
+    }
+}
+
+// The array is lent as an array first: no proof has to count its zeros then.
+fn print_in_array(table: &[u8], out: &mut [u8; 78874]) {
+    print(table, out);
 }
 
 fn main() {
     // One byte more than a table may have, so that a longer input is seen.
     let mut input = [0u8; 8193];
     let n = io::read_full(0, &mut input);
-    let p = passages::schedule_of(&input[..n]);
-    let v = p.verdict;
-    match v {
-        Verdict::Accepted => print_schedule(p),
-        Verdict::Refused(number, component) => print_refusal(number, component),
-    }
+    // The first line has 26 bytes, and each of 1,024 passages at most 77.
+    let mut out = [0u8; 78874];
+    print_in_array(&input[..n], &mut out);
 }

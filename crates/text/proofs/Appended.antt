@@ -14,6 +14,14 @@ pub next : {before between after first second : List ℕ} {at middle end : ℕ} 
 next {before} {first = first} {second = second} {at = at} e f =
     record { text = f .text ∙ ap (λ (l : List ℕ). l ++ second) (e .text) ∙ append-assoc (take at before) first second }
 
+-- no words
+pub nothing : (before : List ℕ) (at : ℕ) → Added before at [] before at
+nothing before at = record { text = sym (append-nil (take at before)) }
+
+-- other words that are the same
+pub same-words : {before words after : List ℕ} {at end : ℕ} (others : List ℕ) → Added before at words after end → words ≡ others → Added before at others after end
+same-words {before} {at = at} others a e = record { text = a .text ∙ ap (λ (w : List ℕ). take at before ++ w) e }
+
 -- one byte more
 pub take-set : (out : List ℕ) (at b : ℕ) → at < length out → take (suc at) (set out at b) ≡ take at out ++ (b ∷ [])
 take-set [] at b h = absurd (not-suc-le-zero h)

@@ -8,9 +8,9 @@ use native.Mathlib.Omega.{arith}
 use lib.ListN.{length, take, set, replicate, length-append}
 use lib.Seq.{length-take-le}
 use Rattle.text.specs.Words.{decimal, Added}
-use Rattle.text.specs.RunText.{column, signedText}
+use Rattle.text.specs.Columns.{column, signedText}
 use Rattle.text.proofs.Appended.{take-set, next}
-use Rattle.text.proofs.Meetings.{same-words}
+use Rattle.text.proofs.Appended.{same-words}
 
 -- one blank more
 one-more : (i b : ℕ) → replicate i b ++ (b ∷ []) ≡ replicate (suc i) b

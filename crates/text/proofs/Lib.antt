@@ -1,11 +1,4 @@
 pub mod Appended
 pub mod Numerals
 pub mod Lines
-pub mod Questions
-pub mod Meetings
 pub mod Blanks
-pub mod Observations
-pub mod Told
-pub mod ScheduleCalled
-pub mod VerdictCalled
-pub mod RunCalled

@@ -1,5 +1,3 @@
 pub mod Words
-pub mod ScheduleText
-pub mod VerdictText
-pub mod RunText
-pub mod PrintedCases
+pub mod Columns
+pub mod Cases

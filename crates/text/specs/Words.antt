@@ -32,10 +32,15 @@ decimal n = numeral 20 n
 abbrev pub field : String → ℕ → List ℕ
 field words n = ascii words ++ decimal n
 
--- so many things from the front of a list on, each told by seven numbers
-unfoldable pub sevens : {A : Type 0} → (List ℕ → A) → List ℕ → ℕ → List A
-sevens tell list zero = []
-sevens tell list (suc n) = tell list ∷ sevens tell (drop 7 list) n
+-- so many things from the front of a list on, each told by so many numbers
+unfoldable pub told : {A : Type 0} → ℕ → (List ℕ → A) → List ℕ → ℕ → List A
+told width tell list zero = []
+told width tell list (suc n) = tell list ∷ told width tell (drop width list) n
+
+-- "For a refusal it prints `refused`, number, component."
+unfoldable pub refusalLine : ℕ → ℕ → List ℕ
+unfolding decimal
+refusalLine number component = field "refused " number ++ field " " component ++ ascii "\n"
 
 -- Words are added after the first `at` bytes: up to `end` stands now what stood up to `at`, then these words.
 pub record Added (before : List ℕ) (at : ℕ) (words after : List ℕ) (end : ℕ) : Type 0 where

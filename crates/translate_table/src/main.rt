@@ -18,7 +18,7 @@ fn write_program(program: &[u8], size: usize) {
 // A refusal in words, on standard error.
 fn say_refused(number: u8, component: u8) {
     let mut words = [0u8; 170];
-    let n = text::put_refusal_text(&mut words, 0, number, component);
+    let n = refusal_text::put_refusal_text(&mut words, 0, number, component);
     report::say(STDERR_FILENO, &words[..n]);
 }
 

@@ -9,7 +9,7 @@ ghost use Prim.Native.Nat.{_*_, _≤_};
 ghost use lib.ListN.{length, take};
 ghost use Rattle.io.specs.Counts.{Counts};
 ghost use Rattle.text.specs.Words.{Added};
-ghost use Rattle.text.specs.RunText.{endText, countsText, firstLine, observationLines, runText};
+ghost use Rattle.run_text.specs.RunText.{endText, countsText, firstLine, observationLines, runText};
 use calls::Ran;
 use libc::STDERR_FILENO;
 use libc::STDOUT_FILENO;
@@ -37,14 +37,14 @@ fn put_run(r: Ran, choices: &[u8], observations: &[u8], out: &mut [u8]) -> usize
     ensures { λ n. ⌜ Added (now (out .entry)) 0 (endText (r .end) (now (choices .entry)) (r .used) ++ countsText (r .tick) (r .used) (r .size) ++ firstLine ++ observationLines (now (observations .entry)) (r .size)) (now (out .exit)) n × (n ≤ 206100) ⌝ }
 {
     let end = r.end;
-    let counts = text::put_end(out, 0, end, choices, r.used);
-    let first = text::put_counts(out, counts, r.tick, r.used, r.size as u32);
+    let counts = run_text::put_end(out, 0, end, choices, r.used);
+    let first = run_text::put_counts(out, counts, r.tick, r.used, r.size as u32);
     let lines = text::put(
         out,
         first,
         b"node edge location  tick    x0    x1    x2    x3     v0     v1     v2     v3\n",
     );
-    text::put_observations(out, lines, observations, r.size)
+    run_text::put_observations(out, lines, observations, r.size)
 }
 
 // All that is printed of a table and choices, at the front of out; answers how many bytes.
@@ -57,7 +57,12 @@ fn put_printed(table: &[u8], choices: &[u8], observations: &mut [u8], out: &mut 
     let v = r.verdict;
     match v {
         Verdict::Accepted => put_run(r, choices, observations, out),
-        Verdict::Refused(number, component) => text::put_refusal_text(out, 0, number, component),
+        Verdict::Refused(number, component) => refusal_text::put_refusal_text(
+            out,
+            0,
+            number,
+            component,
+        ),
     }
 }
 

@@ -7,7 +7,7 @@ ghost use lib.ListN.{length, take};
 ghost use Rattle.io.specs.Counts.{Counts};
 ghost use Rattle.model.specs.declared.Verdict.the-variants.{Refused};
 ghost use Rattle.model.specs.Calls.{checkCall};
-ghost use Rattle.text.specs.VerdictText.{verdictText};
+ghost use Rattle.verdict_text.specs.VerdictText.{verdictText};
 use libc::STDERR_FILENO;
 use libc::STDOUT_FILENO;
 use model::Verdict;
@@ -20,8 +20,8 @@ fn put_refused(table: &[u8], number: u8, component: u8, out: &mut [u8]) -> usize
 {
     let mut list = [0u32; 7175];
     let r = meetings::meetings(table, &mut list);
-    let at = text::put_refusal_text(out, 0, number, component);
-    text::put_meetings(out, at, number, &list, r.size)
+    let at = refusal_text::put_refusal_text(out, 0, number, component);
+    verdict_text::put_meetings(out, at, number, &list, r.size)
 }
 
 // All that is printed of a table, at the front of out; answers how many bytes.

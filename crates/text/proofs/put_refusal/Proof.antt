@@ -1,5 +1,5 @@
 -- `text::put_refusal` meets its contract. Assumes nothing.
-use Rattle.text.specs.ScheduleText.{refusalLine}
+use Rattle.text.specs.Words.{refusalLine}
 use native.Mathlib.Omega.{arith}
 use Rattle.text.proofs.Appended.{next}
 use borrow.Author.Needs.{needs}

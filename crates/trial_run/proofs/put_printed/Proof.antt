@@ -2,7 +2,7 @@
 use mathlib.Core.Path.{sym, _∙_}
 use native.Mathlib.Omega.{arith}
 use Rattle.text.proofs.Appended.{counts}
-use Rattle.text.proofs.RunCalled.{ran-words, not-run-words}
+use Rattle.trial_run.proofs.RunCalled.{ran-words, not-run-words}
 use borrow.Author.Needs.{needs}
 use Rattle.trial_run.proofs.put_printed.Statement.{statement}
 use Rattle.trial_run.proofs.put_printed.Tie as tie

@@ -2,7 +2,7 @@
 use mathlib.Core.Path.{sym, _∙_}
 use native.Mathlib.Omega.{arith}
 use Rattle.text.proofs.Appended.{counts}
-use Rattle.text.proofs.VerdictCalled.{accepted-words}
+use Rattle.verdict_printer.proofs.VerdictCalled.{accepted-words}
 use borrow.Author.Needs.{needs}
 use Rattle.verdict_printer.proofs.put_printed.Statement.{statement}
 use Rattle.verdict_printer.proofs.put_printed.Tie as tie

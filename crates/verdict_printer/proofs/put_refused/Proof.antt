@@ -4,9 +4,11 @@ use mathlib.Core.List.{List, _++_}
 use Prim.Native.Nat.{ℕ, _≤_}
 use native.Mathlib.Omega.{arith}
 use lib.ListN.{length, replicate, length-replicate}
-use Rattle.text.specs.VerdictText.{refusalText, metsOf, meetingsText}
+use Rattle.refusal_text.specs.RefusalText.{refusalText}
+use Rattle.verdict_text.specs.VerdictText.{metsOf, meetingsText}
 use Rattle.text.proofs.Appended.{next, counts}
-use Rattle.text.proofs.VerdictCalled.{meetings-few, size-is, refused-words}
+use Rattle.meetings.proofs.Bounds.{meetings-few}
+use Rattle.verdict_printer.proofs.VerdictCalled.{size-is, refused-words}
 use borrow.Author.Needs.{needs}
 use Rattle.verdict_printer.proofs.put_refused.Statement.{statement}
 use Rattle.verdict_printer.proofs.put_refused.Tie as tie

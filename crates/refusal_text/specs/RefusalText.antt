@@ -1,0 +1,41 @@
+-- A refusal in words: the number, the question that was asked, and the component.
+use mathlib.Core.Bool.{cond}
+use mathlib.Core.List.{List, [], _∷_, _++_}
+use Prim.Native.Nat.{ℕ}
+use lib.Dec.{eqb}
+use lib.ListN.{getD}
+use Rattle.text.specs.Words.{ascii, decimal, field, refusalLine}
+
+abbrev pub noQuestion : List ℕ
+noQuestion = ascii "Does a question have this number?\n"
+
+-- "Checks, in this order": the questions by their numbers
+abbrev pub questions : List (List ℕ)
+questions =
+    noQuestion ∷ ascii "Is the first byte 1?\n"
+    ∷ ascii "Is the stated length the length handed in, from 7 to 8,192?\n"
+    ∷ ascii "Are components, channels and horizon in range?\n"
+    ∷ ascii "Does each part fit its component and end exactly there?\n"
+    ∷ ascii "Is every number in its range and every mask bit a clock?\n"
+    ∷ ascii "Does no receive edge list a channel twice?\n"
+    ∷ ascii "Are there at most 1,024 passages up to the horizon?\n"
+    ∷ ascii "Has the location entered an edge with a window of one tick's length?\n"
+    ∷ ascii "Does each update of the edge taken stay in range?\n"
+    ∷ ascii "Do no two send windows of different components share a tick?\n"
+    ∷ ascii "Does one receive window alone meet the send, start earlier and end later?\n"
+    ∷ ascii "Does no receive window share a tick with two sends on its channels?\n"
+    ∷ ascii "Does the lent buffer hold the result?\n"
+    ∷ ascii "Are there at most 1,000,000 choices?\n"
+    ∷ []
+
+unfoldable pub question : ℕ → List ℕ
+question number = getD questions number noQuestion
+
+-- 255 is no component
+abbrev pub concern : ℕ → List ℕ
+concern component =
+    cond (eqb component 255) (ascii "No single component is concerned.\n") (field "Component " component ++ ascii " is concerned.\n")
+
+unfoldable pub refusalText : ℕ → ℕ → List ℕ
+unfolding refusalLine question decimal
+refusalText number component = refusalLine number component ++ ascii "The answer is no: " ++ question number ++ concern component

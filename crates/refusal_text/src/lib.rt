@@ -1,0 +1,125 @@
+// A refusal in words: the number, the question that was asked, and the component.
+ghost use mathlib.Core.Path.{_≡_};
+ghost use mathlib.Core.List.{List, _++_};
+ghost use Prim.Native.Nat.{ℕ, _+_, _≤_, _<_};
+ghost use lib.ListN.{length};
+ghost use Rattle.text.specs.Words.{Added};
+ghost use Rattle.refusal_text.specs.RefusalText.{question, concern, refusalText};
+use text::put;
+use text::put_field;
+use text::put_refusal;
+
+// The questions about the bytes.
+fn put_question_on_bytes(out: &mut [u8], at: usize, number: u8) -> usize
+    requires { ⌜ (at + 80 ≤ length (now out)) × (number < 7) ⌝ }
+    ensures { λ r. ⌜ Added (now (out .entry)) at (question number) (now (out .exit)) r × (r ≤ at + 80) ⌝ }
+{
+    match number {
+        0 => put(out, at, b"Does a question have this number?\n"),
+        1 => put(out, at, b"Is the first byte 1?\n"),
+        2 => put(
+            out,
+            at,
+            b"Is the stated length the length handed in, from 7 to 8,192?\n",
+        ),
+        3 => put(out, at, b"Are components, channels and horizon in range?\n"),
+        4 => put(
+            out,
+            at,
+            b"Does each part fit its component and end exactly there?\n",
+        ),
+        5 => put(
+            out,
+            at,
+            b"Is every number in its range and every mask bit a clock?\n",
+        ),
+        _ => put(out, at, b"Does no receive edge list a channel twice?\n"),
+    }
+}
+
+// The questions about time.
+fn put_question_on_time(out: &mut [u8], at: usize, number: u8) -> usize
+    requires { ⌜ (at + 80 ≤ length (now out)) × (7 ≤ number) × (number < 13) ⌝ }
+    ensures { λ r. ⌜ Added (now (out .entry)) at (question number) (now (out .exit)) r × (r ≤ at + 80) ⌝ }
+{
+    match number {
+        7 => put(
+            out,
+            at,
+            b"Are there at most 1,024 passages up to the horizon?\n",
+        ),
+        8 => put(
+            out,
+            at,
+            b"Has the location entered an edge with a window of one tick's length?\n",
+        ),
+        9 => put(
+            out,
+            at,
+            b"Does each update of the edge taken stay in range?\n",
+        ),
+        10 => put(
+            out,
+            at,
+            b"Do no two send windows of different components share a tick?\n",
+        ),
+        11 => put(
+            out,
+            at,
+            b"Does one receive window alone meet the send, start earlier and end later?\n",
+        ),
+        _ => put(
+            out,
+            at,
+            b"Does no receive window share a tick with two sends on its channels?\n",
+        ),
+    }
+}
+
+// The questions about the call alone.
+fn put_question_on_call(out: &mut [u8], at: usize, number: u8) -> usize
+    requires { ⌜ (at + 80 ≤ length (now out)) × (13 ≤ number) ⌝ }
+    ensures { λ r. ⌜ Added (now (out .entry)) at (question number) (now (out .exit)) r × (r ≤ at + 80) ⌝ }
+{
+    match number {
+        13 => put(out, at, b"Does the lent buffer hold the result?\n"),
+        14 => put(out, at, b"Are there at most 1,000,000 choices?\n"),
+        _ => put(out, at, b"Does a question have this number?\n"),
+    }
+}
+
+fn put_question(out: &mut [u8], at: usize, number: u8) -> usize
+    requires { ⌜ at + 80 ≤ length (now out) ⌝ }
+    ensures { λ r. ⌜ Added (now (out .entry)) at (question number) (now (out .exit)) r × (r ≤ at + 80) ⌝ }
+{
+    if number < 7 {
+        put_question_on_bytes(out, at, number)
+    } else if number < 13 {
+        put_question_on_time(out, at, number)
+    } else {
+        put_question_on_call(out, at, number)
+    }
+}
+
+// Whom it concerns.
+fn put_concern(out: &mut [u8], at: usize, component: u8) -> usize
+    requires { ⌜ at + 40 ≤ length (now out) ⌝ }
+    ensures { λ r. ⌜ Added (now (out .entry)) at (concern component) (now (out .exit)) r × (r ≤ at + 40) ⌝ }
+{
+    if component == 255 {
+        return put(out, at, b"No single component is concerned.\n");
+    }
+    let last = put_field(out, at, b"Component ", component as u32);
+    put(out, last, b" is concerned.\n")
+}
+
+// A refusal: `refused`, number, component on a line, then the question that was asked, and whom it concerns.
+pub fn put_refusal_text(out: &mut [u8], at: usize, number: u8, component: u8) -> usize
+    requires { ⌜ at + 170 ≤ length (now out) ⌝ }
+    ensures { λ r. ⌜ Added (now (out .entry)) at (refusalText number component) (now (out .exit)) r × (r ≤ at + 170) ⌝ }
+{
+    let second = put_refusal(out, at, number, component);
+    let asked = put(out, second, b"The answer is no: ");
+    let last = put_question(out, asked, number);
+    put_concern(out, last, component)
+}

@@ -1,0 +1,46 @@
+-- `run_text::put_observation` meets its contract. Assumes nothing.
+use native.Mathlib.Omega.{arith}
+use Rattle.run_text.specs.RunText.{observationLine}
+use Rattle.text.proofs.Appended.{next}
+use borrow.Author.Needs.{needs}
+use Rattle.run_text.proofs.put_observation.Statement.{statement}
+use Rattle.run_text.proofs.put_observation.Tie as tie
+
+put-place-columns-requires : tie.Need-put-place-columns-requires
+put-place-columns-requires c κs = search needs
+
+put-time-columns-requires : tie.Need-put-time-columns-requires
+put-time-columns-requires c κs = search needs
+
+put-value-columns-requires : tie.Need-put-value-columns-requires
+put-value-columns-requires c κs = search needs
+
+slice-aggregate-put : tie.Need-slice-aggregate-put
+slice-aggregate-put c = search needs
+
+put-requires : tie.Need-put-requires
+put-requires c κs = search needs
+
+same-length : tie.Need-same-length
+same-length c = search needs
+
+returns : tie.Need-returns
+unfolding observationLine
+returns c =
+    let p1 = c .before .before .before .before .before .before .before .before .before .before .before .before .before .before .before .put-place-columns in
+    let p2 = c .before .before .before .before .before .before .before .before .before .before .before .put-time-columns in
+    let p3 = c .before .before .before .before .before .before .before .put-value-columns in
+    let p4 = c .before .before .put in
+    (next (next (next (p1 .ensures .0) (p2 .ensures .0)) (p3 .ensures .0)) (p4 .ensures .0), omega (arith, p1 .ensures .1, p2 .ensures .1, p3 .ensures .1, p4 .ensures .1))
+
+pub put-observation-spec : {M : Type 1} → statement M
+put-observation-spec =
+    tie.close
+    (tie.spec
+    put-place-columns-requires
+    put-time-columns-requires
+    put-value-columns-requires
+    slice-aggregate-put
+    put-requires
+    same-length
+    returns)

@@ -1,0 +1,78 @@
+-- A run in words: how it ended, the tick and the choices used, and the observations as a table.
+use mathlib.Core.Bool.{cond}
+use mathlib.Core.List.{List, [], _++_}
+use Prim.Native.Nat.{ℕ, _+_, _*_}
+use lib.Dec.{ltb}
+use lib.ListN.{length, getD}
+use Rattle.model.specs.declared.End.{End}
+use Rattle.model.specs.declared.End.the-variants.{Horizon, UsedUp, Late, NotAllowed}
+use Rattle.model.specs.declared.Verdict.{Verdict}
+use Rattle.model.specs.declared.Verdict.the-variants.{Accepted, Refused}
+use Rattle.model.specs.Lists.{each}
+use Rattle.model.specs.Calls.{RunCall, runCall}
+use Rattle.text.specs.Words.{ascii, decimal, field, told}
+use Rattle.text.specs.Columns.{column, signedText}
+use Rattle.refusal_text.specs.RefusalText.{refusalText}
+
+-- ## An observation of 32 bytes
+
+abbrev pub long : List ℕ → ℕ → ℕ
+long bytes at = ((getD bytes at 0 * 256 + getD bytes (at + 1) 0) * 256 + getD bytes (at + 2) 0) * 256 + getD bytes (at + 3) 0
+
+abbrev pub word : List ℕ → ℕ → ℕ
+word bytes at = getD bytes at 0 * 256 + getD bytes (at + 1) 0
+
+-- component, edge, location; tick and four clocks; four variables
+abbrev pub placeColumns : List ℕ → List ℕ
+placeColumns o = column 4 (decimal (getD o 0 0)) ++ column 5 (decimal (getD o 1 0)) ++ column 9 (decimal (getD o 2 0))
+
+abbrev pub tickColumns : List ℕ → List ℕ
+tickColumns o = column 6 (decimal (long o 4)) ++ column 6 (decimal (long o 8)) ++ column 6 (decimal (long o 12))
+
+abbrev pub timeColumns : List ℕ → List ℕ
+timeColumns o = tickColumns o ++ column 6 (decimal (long o 16)) ++ column 6 (decimal (long o 20))
+
+abbrev pub valueColumns : List ℕ → List ℕ
+valueColumns o =
+    column 7 (signedText (word o 24)) ++ column 7 (signedText (word o 26)) ++ column 7 (signedText (word o 28))
+    ++ column 7 (signedText (word o 30))
+
+unfoldable pub observationLine : List ℕ → List ℕ
+unfolding decimal
+observationLine o = placeColumns o ++ timeColumns o ++ valueColumns o ++ ascii "\n"
+
+-- so many observations from the front on
+unfoldable pub observationLines : List ℕ → ℕ → List ℕ
+unfolding observationLine told each
+observationLines bytes n = each observationLine (told 32 (λ o. o) bytes n)
+
+abbrev pub firstLine : List ℕ
+firstLine = ascii "node edge location  tick    x0    x1    x2    x3     v0     v1     v2     v3\n"
+
+-- ## The run
+
+-- "0 horizon, 1 choices used up, 2 late, 3 choice not allowed"; the choice not allowed is the first that was not carried out
+abbrev pub notAllowed : List ℕ → ℕ → List ℕ
+notAllowed choices used =
+    field "choice not allowed: number " used ++ cond (ltb used (length choices)) (field ", byte " (getD choices used 0)) []
+
+abbrev pub endText : End → List ℕ → ℕ → List ℕ
+endText Horizon choices used = ascii "horizon reached"
+endText UsedUp choices used = ascii "choices used up"
+endText (Late node) choices used = field "late: node " node
+endText NotAllowed choices used = notAllowed choices used
+
+abbrev pub countsText : ℕ → ℕ → ℕ → List ℕ
+countsText tick used size =
+    field "\ntick " tick ++ field ", choices used " used ++ field ", observations " size ++ ascii "\n"
+
+abbrev pub ranText : Verdict → RunCall → List ℕ → List ℕ
+ranText (Refused number component) r choices = refusalText number component
+ranText Accepted r choices =
+    endText (r .end) choices (r .used) ++ countsText (r .tick) (r .used) (r .size) ++ firstLine
+    ++ observationLines (r .lent) (r .size)
+
+-- for any bytes and choices, and the bytes lent for the observations
+unfoldable pub runText : List ℕ → List ℕ → List ℕ → List ℕ
+unfolding runCall decimal refusalText observationLines
+runText table choices lent = ranText (runCall table choices lent .verdict) (runCall table choices lent) choices

@@ -1,0 +1,29 @@
+-- The lines of the windows that met. Assumes nothing.
+use mathlib.Core.Path.{_≡_, refl, ap}
+use mathlib.Core.List.{List, _++_}
+use Prim.Native.Nat.{ℕ, zero, suc, _-_, _≤_}
+use native.Mathlib.Nat.{not-suc-le-zero}
+use native.Mathlib.Omega.{arith}
+use lib.ListN.{drop}
+use Rattle.model.specs.Lists.{each}
+use Rattle.text.specs.Words.{told}
+use Rattle.verdict_text.specs.VerdictText.{Met, metAt, metsOf, metLine, metLines, faultText, meetingsText}
+
+pub one-met : (number : ℕ) (fault : Met) (list : List ℕ) (n : ℕ) → n ≡ 1 → metLines number fault (metsOf list 0) ≡ metLines number fault (metsOf list (n - 1))
+one-met number fault list n e = let p : 0 ≡ n - 1 = omega (arith, e) in ap (λ (m : ℕ). metLines number fault (metsOf list m)) p
+
+some-met : (number : ℕ) (fault : Met) (list : List ℕ) (m : ℕ) → 1 ≤ m → each (metLine number fault) (metsOf list m) ≡ metLines number fault (metsOf list m)
+unfolding told
+some-met number fault list zero h = absurd (not-suc-le-zero h)
+some-met number fault list (suc m) h = refl
+
+pub more-met : (number : ℕ) (fault : Met) (list : List ℕ) (n : ℕ) → 1 ≤ n → (n ≡ 1 → ⊥)
+    → each (metLine number fault) (metsOf list (n - 1)) ≡ metLines number fault (metsOf list (n - 1))
+more-met number fault list n h k = some-met number fault list (n - 1) (omega (arith, k))
+
+-- the window at fault comes first
+pub first-at-fault : (number : ℕ) (list : List ℕ) (n : ℕ) → (n ≡ 0 → ⊥)
+    → faultText number (metAt list) ++ metLines number (metAt list) (metsOf (drop 7 list) (n - 1)) ≡ meetingsText number (metsOf list n)
+unfolding meetingsText told
+first-at-fault number list n h =
+    let p : suc (n - 1) ≡ n = omega (arith, h) in ap (λ (m : ℕ). meetingsText number (metsOf list m)) p

@@ -1,0 +1,100 @@
+-- A verdict in words: a refusal in words, and after 10, 11 or 12 which windows met.
+use mathlib.Core.Bool.{cond}
+use mathlib.Core.List.{List, [], _∷_, _++_, map}
+use Prim.Native.Nat.{ℕ}
+use lib.Dec.{eqb, ltb}
+use lib.ListN.{getD}
+use Rattle.model.specs.declared.Verdict.{Verdict}
+use Rattle.model.specs.declared.Verdict.the-variants.{Accepted, Refused}
+use Rattle.model.specs.Lists.{orElse, each}
+use Rattle.model.specs.Schedule.{Passage}
+use Rattle.model.specs.Calls.{checkCall}
+use Rattle.model.specs.Meetings.{meetingsIn}
+use Rattle.text.specs.Words.{ascii, decimal, field, told}
+use Rattle.refusal_text.specs.RefusalText.{refusalText}
+
+-- ## The windows that met
+
+-- a passage's component, edge, window and, for a send, channel
+pub record Met : Type 0 where
+  pub component : ℕ
+  pub edge : ℕ
+  pub ready : ℕ
+  pub end : ℕ
+  pub channel : ℕ
+
+abbrev pub metOf : Passage → Met
+metOf v = record { component = v .component; edge = v .edge; ready = v .ready; end = v .end; channel = orElse (v .message) 255 }
+
+abbrev pub placeWords : Met → List ℕ
+placeWords w = field "component " (w .component) ++ field ", edge " (w .edge)
+
+abbrev pub windowWords : Met → List ℕ
+windowWords w = field ", ticks " (w .ready) ++ field " to " (w .end)
+
+abbrev pub sendWords : Met → List ℕ
+sendWords w = field ", channel " (w .channel) ++ windowWords w
+
+-- the window at fault, and what the lines after it are
+abbrev pub receiveFault : Met → List ℕ
+receiveFault w =
+    ascii "The receive window of " ++ placeWords w ++ windowWords w ++ ascii ", shares a tick with these send windows on its channels:\n"
+
+abbrev pub faultEnd : ℕ → List ℕ
+faultEnd number =
+    cond (eqb number 10) (ascii ", shares a tick with these send windows:\n")
+    (ascii ".\nReceive windows of other components on its channel that share a tick with it:\n")
+
+abbrev pub sendFault : ℕ → Met → List ℕ
+sendFault number w = ascii "The send window of " ++ placeWords w ++ sendWords w ++ faultEnd number
+
+abbrev pub faultText : ℕ → Met → List ℕ
+faultText number w = cond (eqb number 12) (receiveFault w) (sendFault number w)
+
+-- a window that was met
+abbrev pub sendLine : Met → List ℕ
+sendLine w = ascii "  " ++ placeWords w ++ ascii ", a send window" ++ sendWords w ++ ascii "\n"
+
+abbrev pub startWords : Met → Met → List ℕ
+startWords sent w = cond (ltb (w .ready) (sent .ready)) (ascii ": starts earlier,") (ascii ": starts with the send or later,")
+
+abbrev pub endWords : Met → Met → List ℕ
+endWords sent w = cond (ltb (sent .end) (w .end)) (ascii " ends later\n") (ascii " ends with the send or earlier\n")
+
+abbrev pub receiveWords : Met → List ℕ
+receiveWords w = ascii "  " ++ placeWords w ++ ascii ", a receive window" ++ windowWords w
+
+abbrev pub listenerLine : Met → Met → List ℕ
+listenerLine sent w = receiveWords w ++ startWords sent w ++ endWords sent w
+
+unfoldable pub metLine : ℕ → Met → Met → List ℕ
+unfolding decimal
+metLine number fault w = cond (eqb number 11) (listenerLine fault w) (sendLine w)
+
+abbrev pub metLines : ℕ → Met → List Met → List ℕ
+metLines number fault [] = ascii "  none\n"
+metLines number fault (w ∷ ws) = each (metLine number fault) (w ∷ ws)
+
+-- the window at fault, then those that it meets; nothing where none is at fault
+unfoldable pub meetingsText : ℕ → List Met → List ℕ
+unfolding decimal metLine each
+meetingsText number [] = []
+meetingsText number (fault ∷ ws) = faultText number fault ++ metLines number fault ws
+
+-- ## The whole text, for any bytes
+
+abbrev pub verdictWith : Verdict → List Passage → List ℕ
+verdictWith Accepted M = ascii "accepted\n"
+verdictWith (Refused number component) M = refusalText number component ++ meetingsText number (map metOf M)
+
+unfoldable pub verdictText : List ℕ → List ℕ
+unfolding checkCall meetingsIn refusalText meetingsText
+verdictText table = verdictWith (checkCall table) (meetingsIn table)
+
+-- ## From the seven numbers of a passage
+
+abbrev pub metAt : List ℕ → Met
+metAt list = record { component = getD list 0 0; edge = getD list 1 0; ready = getD list 4 0; end = getD list 5 0; channel = getD list 6 0 }
+
+abbrev pub metsOf : List ℕ → ℕ → List Met
+metsOf list n = told 7 metAt list n

@@ -1,0 +1,197 @@
+// Which windows met, in words.
+ghost use mathlib.Core.Path.{_≡_};
+ghost use mathlib.Core.List.{List, _++_};
+ghost use Prim.Native.Nat.{ℕ, _+_, _*_, _-_, _≤_, _<_};
+ghost use lib.ListN.{length, drop};
+ghost use Rattle.model.specs.Lists.{each};
+ghost use Rattle.text.specs.Words.{Added};
+ghost use Rattle.verdict_text.specs.VerdictText.{metAt, placeWords, windowWords, sendWords, receiveFault, faultEnd, sendFault, faultText, sendLine, receiveWords, startWords, endWords, listenerLine, metLine, metsOf, metLines, meetingsText};
+use text::put;
+use text::put_field;
+
+// Words, then the component and the edge of the passage at the front of a list: whose window it is.
+fn put_place(out: &mut [u8], at: usize, words: &[u8], w: &[u32]) -> usize
+    requires { ⌜ (at + length (now words) + 37 ≤ length (now out)) × (7 ≤ length (now w)) ⌝ }
+    ensures { λ r. ⌜ Added (now (out .entry)) at (now (words .entry) ++ placeWords (metAt (now (w .entry)))) (now (out .exit)) r × (r ≤ at + length (now (words .entry)) + 37) ⌝ }
+{
+    let place = put(out, at, words);
+    let edge = put_field(out, place, b"component ", w[0]);
+    put_field(out, edge, b", edge ", w[1])
+}
+
+// Its ticks, the first and the last included.
+fn put_window(out: &mut [u8], at: usize, w: &[u32]) -> usize
+    requires { ⌜ (at + 32 ≤ length (now out)) × (7 ≤ length (now w)) ⌝ }
+    ensures { λ r. ⌜ Added (now (out .entry)) at (windowWords (metAt (now (w .entry)))) (now (out .exit)) r × (r ≤ at + 32) ⌝ }
+{
+    let end = put_field(out, at, b", ticks ", w[4]);
+    put_field(out, end, b" to ", w[5])
+}
+
+// A send's channel, its message, and its ticks.
+fn put_send(out: &mut [u8], at: usize, w: &[u32]) -> usize
+    requires { ⌜ (at + 52 ≤ length (now out)) × (7 ≤ length (now w)) ⌝ }
+    ensures { λ r. ⌜ Added (now (out .entry)) at (sendWords (metAt (now (w .entry)))) (now (out .exit)) r × (r ≤ at + 52) ⌝ }
+{
+    let ticks = put_field(out, at, b", channel ", w[6]);
+    put_window(out, ticks, w)
+}
+
+// 12: the receive window at fault.
+fn put_receive_fault(out: &mut [u8], at: usize, w: &[u32]) -> usize
+    requires { ⌜ (at + 200 ≤ length (now out)) × (7 ≤ length (now w)) ⌝ }
+    ensures { λ r. ⌜ Added (now (out .entry)) at (receiveFault (metAt (now (w .entry)))) (now (out .exit)) r × (r ≤ at + 200) ⌝ }
+{
+    let ticks = put_place(out, at, b"The receive window of ", w);
+    let last = put_window(out, ticks, w);
+    put(
+        out,
+        last,
+        b", shares a tick with these send windows on its channels:\n",
+    )
+}
+
+// 10 and 11: what the lines after the send window are.
+fn put_fault_end(out: &mut [u8], at: usize, number: u8) -> usize
+    requires { ⌜ at + 90 ≤ length (now out) ⌝ }
+    ensures { λ r. ⌜ Added (now (out .entry)) at (faultEnd number) (now (out .exit)) r × (r ≤ at + 90) ⌝ }
+{
+    if number == 10 {
+        put(out, at, b", shares a tick with these send windows:\n")
+    } else {
+        put(
+            out,
+            at,
+            b".\nReceive windows of other components on its channel that share a tick with it:\n",
+        )
+    }
+}
+
+// 10 and 11: the send window at fault.
+fn put_send_fault(out: &mut [u8], at: usize, number: u8, w: &[u32]) -> usize
+    requires { ⌜ (at + 200 ≤ length (now out)) × (7 ≤ length (now w)) ⌝ }
+    ensures { λ r. ⌜ Added (now (out .entry)) at (sendFault number (metAt (now (w .entry)))) (now (out .exit)) r × (r ≤ at + 200) ⌝ }
+{
+    let channel = put_place(out, at, b"The send window of ", w);
+    let last = put_send(out, channel, w);
+    put_fault_end(out, last, number)
+}
+
+// The window at fault, and what the lines after it are.
+fn put_fault(out: &mut [u8], at: usize, number: u8, w: &[u32]) -> usize
+    requires { ⌜ (at + 200 ≤ length (now out)) × (7 ≤ length (now w)) ⌝ }
+    ensures { λ r. ⌜ Added (now (out .entry)) at (faultText number (metAt (now (w .entry)))) (now (out .exit)) r × (r ≤ at + 200) ⌝ }
+{
+    if number == 12 {
+        put_receive_fault(out, at, w)
+    } else {
+        put_send_fault(out, at, number, w)
+    }
+}
+
+// A send window that was met.
+fn put_send_line(out: &mut [u8], at: usize, w: &[u32]) -> usize
+    requires { ⌜ (at + 160 ≤ length (now out)) × (7 ≤ length (now w)) ⌝ }
+    ensures { λ r. ⌜ Added (now (out .entry)) at (sendLine (metAt (now (w .entry)))) (now (out .exit)) r × (r ≤ at + 160) ⌝ }
+{
+    let kind = put_place(out, at, b"  ", w);
+    let channel = put(out, kind, b", a send window");
+    let last = put_send(out, channel, w);
+    put(out, last, b"\n")
+}
+
+// A receive window that was met.
+fn put_receive(out: &mut [u8], at: usize, w: &[u32]) -> usize
+    requires { ⌜ (at + 90 ≤ length (now out)) × (7 ≤ length (now w)) ⌝ }
+    ensures { λ r. ⌜ Added (now (out .entry)) at (receiveWords (metAt (now (w .entry)))) (now (out .exit)) r × (r ≤ at + 90) ⌝ }
+{
+    let kind = put_place(out, at, b"  ", w);
+    let ticks = put(out, kind, b", a receive window");
+    put_window(out, ticks, w)
+}
+
+// How it starts against the send window.
+fn put_start(out: &mut [u8], at: usize, sent: &[u32], w: &[u32]) -> usize
+    requires { ⌜ (at + 35 ≤ length (now out)) × (7 ≤ length (now sent)) × (7 ≤ length (now w)) ⌝ }
+    ensures { λ r. ⌜ Added (now (out .entry)) at (startWords (metAt (now (sent .entry))) (metAt (now (w .entry)))) (now (out .exit)) r × (r ≤ at + 35) ⌝ }
+{
+    let start = w[4];
+    let send = sent[4];
+    if start < send {
+        put(out, at, b": starts earlier,")
+    } else {
+        put(out, at, b": starts with the send or later,")
+    }
+}
+
+// How it ends against it.
+fn put_end(out: &mut [u8], at: usize, sent: &[u32], w: &[u32]) -> usize
+    requires { ⌜ (at + 35 ≤ length (now out)) × (7 ≤ length (now sent)) × (7 ≤ length (now w)) ⌝ }
+    ensures { λ r. ⌜ Added (now (out .entry)) at (endWords (metAt (now (sent .entry))) (metAt (now (w .entry)))) (now (out .exit)) r × (r ≤ at + 35) ⌝ }
+{
+    let send = sent[5];
+    let end = w[5];
+    if send < end {
+        put(out, at, b" ends later\n")
+    } else {
+        put(out, at, b" ends with the send or earlier\n")
+    }
+}
+
+// A receive window that was met, against the send window.
+fn put_listener(out: &mut [u8], at: usize, sent: &[u32], w: &[u32]) -> usize
+    requires { ⌜ (at + 160 ≤ length (now out)) × (7 ≤ length (now sent)) × (7 ≤ length (now w)) ⌝ }
+    ensures { λ r. ⌜ Added (now (out .entry)) at (listenerLine (metAt (now (sent .entry))) (metAt (now (w .entry)))) (now (out .exit)) r × (r ≤ at + 160) ⌝ }
+{
+    let start = put_receive(out, at, w);
+    let end = put_start(out, start, sent, w);
+    put_end(out, end, sent, w)
+}
+
+// A window that was met.
+fn put_met(out: &mut [u8], at: usize, number: u8, fault: &[u32], w: &[u32]) -> usize
+    requires { ⌜ (at + 160 ≤ length (now out)) × (7 ≤ length (now fault)) × (7 ≤ length (now w)) ⌝ }
+    ensures { λ r. ⌜ Added (now (out .entry)) at (metLine number (metAt (now (fault .entry))) (metAt (now (w .entry)))) (now (out .exit)) r × (r ≤ at + 160) ⌝ }
+{
+    if number == 11 {
+        put_listener(out, at, fault, w)
+    } else {
+        put_send_line(out, at, w)
+    }
+}
+
+// The windows that were met: the passages of the list after the first, which is the one at fault.
+fn put_each_met(out: &mut [u8], at: usize, number: u8, list: &[u32], n: usize) -> usize
+    requires { ⌜ (at + n * 160 ≤ length (now out)) × (n * 7 ≤ length (now list)) × (1 ≤ n) ⌝ }
+    ensures { λ r. ⌜ Added (now (out .entry)) at (each (metLine number (metAt (now (list .entry)))) (metsOf (drop 7 (now (list .entry))) (n - 1))) (now (out .exit)) r × (r ≤ at + n * 160) ⌝ }
+{
+    let mut end = at;
+    for i in 1..n {
+        end = put_met(out, end, number, list, &list[i * 7..]);
+    }
+    end
+}
+
+// The same, and that there is none.
+fn put_met_lines(out: &mut [u8], at: usize, number: u8, list: &[u32], n: usize) -> usize
+    requires { ⌜ (at + n * 160 ≤ length (now out)) × (n * 7 ≤ length (now list)) × (1 ≤ n) ⌝ }
+    ensures { λ r. ⌜ Added (now (out .entry)) at (metLines number (metAt (now (list .entry))) (metsOf (drop 7 (now (list .entry))) (n - 1))) (now (out .exit)) r × (r ≤ at + n * 160) ⌝ }
+{
+    if n == 1 {
+        put(out, at, b"  none\n")
+    } else {
+        put_each_met(out, at, number, list, n)
+    }
+}
+
+// n passages: the one at fault, then those that it meets.
+pub fn put_meetings(out: &mut [u8], at: usize, number: u8, list: &[u32], n: usize) -> usize
+    requires { ⌜ (at + 200 + n * 160 ≤ length (now out)) × (n * 7 ≤ length (now list)) ⌝ }
+    ensures { λ r. ⌜ Added (now (out .entry)) at (meetingsText number (metsOf (now (list .entry)) n)) (now (out .exit)) r × (r ≤ at + 200 + n * 160) ⌝ }
+{
+    if n == 0 {
+        return at;
+    }
+    let lines = put_fault(out, at, number, list);
+    put_met_lines(out, lines, number, list, n)
+}
