@@ -3,6 +3,7 @@
 mod run;
 mod verdict;
 
+pub use run::put_column;
 pub use run::put_counts;
 pub use run::put_end;
 pub use run::put_observations;

@@ -35,7 +35,7 @@ fn put_padding(out: &mut [u8], at: usize, used: usize, width: usize) -> usize
 }
 
 // A number at the right of a column.
-fn put_column(out: &mut [u8], at: usize, n: u32, width: usize) -> usize
+pub fn put_column(out: &mut [u8], at: usize, n: u32, width: usize) -> usize
     requires { ⌜ at + width + 10 ≤ length (now out) ⌝ }
     ensures { λ r. ⌜ Added (now (out .entry)) at (column width (decimal n)) (now (out .exit)) r × (r ≤ at + width + 10) ⌝ }
 {
