@@ -1,6 +1,7 @@
 #!/usr/bin/env bash
 # Runs the printers over the whole corpus, as programs: what they print of each table is compared with the stored answer, and of
-# an accepted one with the stored schedule. Then an output that cannot be written. Any failing check fails the whole.
+# an accepted one with the stored schedule. The listing of each program, and of damaged ones, is compared with that of
+# `listing.awk`. Then an output that cannot be written. Any failing check fails the whole.
 set -euo pipefail
 
 root="$(cd "$(dirname "$0")/.." && pwd)"
@@ -9,7 +10,7 @@ corpus="$root/corpus"
 work="$(mktemp -d)"
 trap 'rm -rf -- "$work"' EXIT
 cd "$root"
-rt check schedule_printer verdict_printer translate_table trial_run >"$work/built" || { cat "$work/built"; exit 1; }
+rt check schedule_printer verdict_printer translate_table program_listing trial_run >"$work/built" || { cat "$work/built"; exit 1; }
 cd "$work"
 
 passed=0 failed=0
@@ -41,6 +42,37 @@ while IFS=$'\t' read -r name answer; do
     check "$name: nothing on standard error" test ! -s err
 done <"$corpus/answers.tsv"
 
+# The listing of the bytes in the file `program`, against the second source.
+listed() {
+    "$programs/program_listing" <program >out 2>err
+    od -An -v -tu1 program | awk -f "$root/command/listing.awk" >expected
+    check "$1: the listing printed" cmp -s expected out
+    check "$1: nothing on standard error" test ! -s err
+    cat out >>listings
+}
+
+# Each program; cut in its header, its counts, its starts and its statements; and with one byte changed: the stated length, the
+# nodes, a node's length, its locations, a start, an op.
+: >listings
+while IFS=$'\t' read -r name answer; do
+    [[ $answer == accepted ]] || continue
+    "$programs/translate_table" <"$corpus/$name.bin" >whole
+    cp whole program
+    listed "$name"
+    for cut in 0 5 7 11 13 21 46; do
+        head -c "$cut" whole >program
+        listed "$name cut to $cut bytes"
+    done
+    for place in 2 3 7 8 13 20 28; do
+        { head -c "$place" whole; printf '\222'; tail -c "+$((place + 2))" whole; } >program
+        listed "$name with byte $place changed"
+    done
+done <"$corpus/answers.tsv"
+for line in 'the header lies outside' 'the length is not that' ': its part lies' 'the starts of its blocks' 'the rest of the block' \
+    'no statement: the block' 'bytes behind the last' ' no statement$'; do
+    check "a listing says: $line" grep -q -- "$line" listings
+done
+
 # Numbers of more than two digits are among them.
 check 'the corpus has ticks of five digits and more' grep -q -E ' [0-9]{5,} ' "$corpus"/*.schedule
 
@@ -53,6 +85,7 @@ full() {
 full schedule_printer 'The schedule could not be written.'
 full verdict_printer 'The verdict could not be written.'
 full translate_table 'The program could not be written.'
+full program_listing 'The listing could not be written.'
 "$programs/trial_run" "$corpus/probe_and_hub.bin" /dev/null >/dev/full 2>err || true
 check 'trial_run: an output that cannot be written is told' grep -q -F 'The run could not be written.' err
 

@@ -11,7 +11,7 @@ fn write_program(program: &[u8], size: usize) {
         return;
     }
     if !io::write_all(STDOUT_FILENO, &program[0..size]) {
-        report::say(STDERR_FILENO, b"The program could not be written.\n");
+        io::write_all(STDERR_FILENO, b"The program could not be written.\n");
     }
 }
 
@@ -19,7 +19,7 @@ fn write_program(program: &[u8], size: usize) {
 fn say_refused(number: u8, component: u8) {
     let mut words = [0u8; 170];
     let n = refusal_text::put_refusal_text(&mut words, 0, number, component);
-    report::say(STDERR_FILENO, &words[..n]);
+    io::write_all(STDERR_FILENO, &words[..n]);
 }
 
 fn main() {

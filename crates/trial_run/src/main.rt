@@ -14,7 +14,6 @@ use calls::Ran;
 use libc::STDERR_FILENO;
 use libc::STDOUT_FILENO;
 use model::Verdict;
-use report::say;
 
 // The file that an argument names, open for reading; below 0 if there is none, and standard error says why.
 fn open_argument(i: usize) -> i32 {
@@ -72,7 +71,7 @@ fn print(table: &[u8], choices: &[u8], observations: &mut [u8], out: &mut [u8])
 {
     let n = put_printed(table, choices, observations, out);
     if !io::write_all(STDOUT_FILENO, &out[..n]) {
-        say(STDERR_FILENO, b"The run could not be written.\n");
+        io::write_all(STDERR_FILENO, b"The run could not be written.\n");
     }
 }
 
@@ -106,7 +105,7 @@ fn run_in_array(table_file: i32, choice_file: i32, choices: &mut [u8; 1000001]) 
 
 fn main() {
     if os::arg_count() != 3 {
-        say(STDERR_FILENO, b"usage: trial_run TABLE CHOICES\n");
+        io::write_all(STDERR_FILENO, b"usage: trial_run TABLE CHOICES\n");
         return;
     }
     let table_file = open_argument(1);

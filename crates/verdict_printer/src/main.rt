@@ -43,7 +43,7 @@ fn print(table: &[u8], out: &mut [u8])
 {
     let n = put_printed(table, out);
     if !io::write_all(STDOUT_FILENO, &out[..n]) {
-        report::say(STDERR_FILENO, b"The verdict could not be written.\n");
+        io::write_all(STDERR_FILENO, b"The verdict could not be written.\n");
     }
 }
 

@@ -14,13 +14,13 @@ put-refusal-text-requires c κs = search needs
 array-share-prefix-words : tie.Need-array-share-prefix-words
 array-share-prefix-words c = search needs
 
-slice-aggregate-say : tie.Need-slice-aggregate-say
-slice-aggregate-say c =
+slice-aggregate-write-all : tie.Need-slice-aggregate-write-all
+slice-aggregate-write-all c =
     let p = c .before .before .put-refusal-text in
     counts (p .result) (p .last .0) (omega (arith, p .ensures .1, p .kept .0)) .1
 
-say-requires : tie.Need-say-requires
-say-requires c κs = search needs
+write-all-requires : tie.Need-write-all-requires
+write-all-requires c κs = search needs
 
 returns : tie.Need-returns
 returns c = search needs
@@ -32,6 +32,6 @@ say-refused-spec =
     slice-aggregate-put-refusal-text
     put-refusal-text-requires
     array-share-prefix-words
-    slice-aggregate-say
-    say-requires
+    slice-aggregate-write-all
+    write-all-requires
     returns)

@@ -1,0 +1,3 @@
+pub mod StatementText
+pub mod ListingText
+pub mod ListingCases
