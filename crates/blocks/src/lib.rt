@@ -14,6 +14,7 @@ ghost use Rattle.blocks.specs.Made.{widthOf, madeOf, allMade};
 ghost use Rattle.blocks.specs.FrontEdges.{arcsAt, ArcsFit};
 use model::Action;
 use model::Location;
+use model::op;
 
 // The parts of an edge from which statements are made.
 pub enum Kind {
@@ -55,11 +56,11 @@ fn put_clock_test(h: &[u8], out: &mut [u8], at: usize) -> usize
     let clock = h[0];
     let low = parts::word_at(h, 1);
     let high = parts::word_at(h, 3);
-    let next = put_quad(out, at, 0x0B, clock, low);
+    let next = put_quad(out, at, op::LOW, clock, low);
     if high == 65535 {
         return next;
     }
-    put_quad(out, next, 0x0C, clock, high)
+    put_quad(out, next, op::HIGH, clock, high)
 }
 
 // The tests of a data bound.
@@ -68,8 +69,8 @@ fn put_data_test(h: &[u8], out: &mut [u8], at: usize) -> usize
     ensures { λ r. ⌜ Put (now (out .entry)) at (blockBytes (dataTests (dataGuardAt (now (h .entry)) ∷ []))) r (now (out .exit)) ⌝ }
 {
     let variable = h[0];
-    let next = put_quad(out, at, 0x0D, variable, parts::word_at(h, 1));
-    put_quad(out, next, 0x0E, variable, parts::word_at(h, 3))
+    let next = put_quad(out, at, op::DATA_LOW, variable, parts::word_at(h, 1));
+    put_quad(out, next, op::DATA_HIGH, variable, parts::word_at(h, 3))
 }
 
 fn put_update(h: &[u8], out: &mut [u8], at: usize) -> usize
@@ -78,16 +79,16 @@ fn put_update(h: &[u8], out: &mut [u8], at: usize) -> usize
 {
     let number = parts::word_at(h, 2);
     if h[1] == 1 {
-        return put_quad(out, at, 0x02, h[0], number);
+        return put_quad(out, at, op::ADD, h[0], number);
     }
-    put_quad(out, at, 0x01, h[0], number)
+    put_quad(out, at, op::SET, h[0], number)
 }
 
 fn put_pair(h: &[u8], out: &mut [u8], at: usize) -> usize
     requires { ⌜ (2 ≤ length (now h)) × Room (now out) at (pairQuad (pairAt (now h))) ⌝ }
     ensures { λ r. ⌜ Put (now (out .entry)) at (pairQuad (pairAt (now (h .entry)))) r (now (out .exit)) ⌝ }
 {
-    put_quad(out, at, 0x06, h[0], wide16(h[1]))
+    put_quad(out, at, op::PAIR, h[0], wide16(h[1]))
 }
 
 fn width(kind: Kind) -> usize
@@ -135,12 +136,12 @@ fn put_trial(h: &[u8], l: Location, e: u8, out: &mut [u8], at: usize) -> usize
     requires { ⌜ (arcLength (now h) ≤ length (now h)) × Room (now out) at (blockBytes (trialOf l e (arcAt (now h)))) ⌝ }
     ensures { λ r. ⌜ Put (now (out .entry)) at (blockBytes (trialOf l e (arcAt (now (h .entry))))) r (now (out .exit)) ⌝ }
 {
-    let first = put_quad(out, at, 0x0A, 0, 0);
-    let second = put_quad(out, first, 0x0C, l.clock, l.bound);
+    let first = put_quad(out, at, op::TRIAL, 0, 0);
+    let second = put_quad(out, first, op::HIGH, l.clock, l.bound);
     let third = put_parts(Kind::ClockGuards, &h[7..], h[4], out, second);
     let datas = 7 + wide(h[4]) * 5;
     let fourth = put_parts(Kind::DataGuards, &h[datas..], h[5], out, third);
-    put_quad(out, fourth, 0x0F, 0, wide16(e))
+    put_quad(out, fourth, op::KEEP, 0, wide16(e))
 }
 
 // The same if the edge leaves from location `here`; else nothing.
@@ -175,7 +176,7 @@ pub fn put_location_block(
         place += decoder::arc_length(&h[place..]);
         e += 1;
     }
-    put_quad(out, next, 0x10, 0, 0)
+    put_quad(out, next, op::TAKE, 0, 0)
 }
 
 // The work of the edge at the front.
@@ -188,11 +189,11 @@ fn put_work(h: &[u8], out: &mut [u8], at: usize) -> usize
     match action {
         Action::Internal => {
             let next = put_parts(Kind::Updates, &h[items..], h[6], out, at);
-            put_quad(out, next, 0x03, 0, 0)
+            put_quad(out, next, op::DONE, 0, 0)
         }
-        Action::Send(channel) => put_quad(out, at, 0x04, channel, 0),
+        Action::Send(channel) => put_quad(out, at, op::SEND, channel, 0),
         Action::Receive => {
-            let next = put_quad(out, at, 0x05, h[6], 0);
+            let next = put_quad(out, at, op::LISTEN, h[6], 0);
             put_parts(Kind::Pairs, &h[items..], h[6], out, next)
         }
     }
@@ -204,9 +205,9 @@ fn put_ageing(bits: u8, i: u8, out: &mut [u8], at: usize) -> usize
     ensures { λ r. ⌜ Put (now (out .entry)) at (blockBytes (cond (eqb (bits % 2) 1) (reset i) (age i) ∷ [])) r (now (out .exit)) ⌝ }
 {
     if bits % 2 == 1 {
-        return put_quad(out, at, 0x08, i, 0);
+        return put_quad(out, at, op::ZERO, i, 0);
     }
-    put_quad(out, at, 0x07, i, 0)
+    put_quad(out, at, op::AGE, i, 0)
 }
 
 // All clocks, by the reset mask.
@@ -231,9 +232,9 @@ pub fn put_edge_block(h: &[u8], clocks: u8, out: &mut [u8], at: usize) -> usize
     ensures { λ r. ⌜ Put (now (out .entry)) at (blockBytes (edgeBlockOf clocks (arcAt (now (h .entry))))) r (now (out .exit)) ⌝ }
 {
     let edge = decoder::edge_at(h);
-    let first = put_quad(out, at, 0x00, 0, 0);
+    let first = put_quad(out, at, op::SLEEP, 0, 0);
     let second = put_work(h, out, first);
     let third = put_clocks(edge.mask, clocks, out, second);
-    let fourth = put_quad(out, third, 0x09, 0, wide16(edge.destination));
-    put_quad(out, fourth, 0x11, 0, 0)
+    let fourth = put_quad(out, third, op::ENTER, 0, wide16(edge.destination));
+    put_quad(out, fourth, op::CHOOSE, 0, 0)
 }
