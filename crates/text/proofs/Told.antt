@@ -18,10 +18,10 @@ use Rattle.model.specs.Window.{sends, channelOf, listens}
 use Rattle.model.specs.Schedule.{Passage, passageArc, earliest, heardBy, carried, messageIn, sevenOf}
 use Rattle.model.specs.Checks.{limit, acceptedScheduleOf}
 use Rattle.model.specs.Calls.{acceptedScheduleIn}
-use Rattle.model.proofs.Parts.{after-ok}
-use Rattle.model.proofs.Own.{in-all, all-in}
-use Rattle.model.proofs.RoundTrip.{written-read}
-use Rattle.model.proofs.WholeTied.{Given, schedule-at, given}
+use Rattle.model.proofs.Reader.Parts.{after-ok}
+use Rattle.model.proofs.Schedule.Own.{in-all, all-in}
+use Rattle.model.proofs.Reader.RoundTrip.{written-read}
+use Rattle.model.proofs.Run.Tied.{Given, schedule-at, given}
 use Rattle.text.specs.Words.{ascii, sevens}
 use Rattle.text.specs.ScheduleText.{placeText, ticksText, messageText, passageLine, messageOf, passageOf, passagesOf}
 

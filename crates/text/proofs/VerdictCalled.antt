@@ -17,7 +17,7 @@ use Rattle.model.specs.Schedule.{Passage, schedule, sevenOf}
 use Rattle.model.specs.Checks.{limit, isSend, meets, collides, mayHear, unheard, crowded}
 use Rattle.model.specs.Calls.{Call, laid, checkCall}
 use Rattle.model.specs.Meetings.{sendsMet, listenersMet, sendsHeard, withMet, concerned, concernedIn, listOr, meetingsIn, meetingsCall}
-use Rattle.model.proofs.Scheduled.{schedule-is}
+use Rattle.model.proofs.Schedule.Scheduled.{schedule-is}
 use Rattle.text.specs.Words.{sevens}
 use Rattle.text.specs.VerdictText.{Met, metOf, metAt, metsOf, meetingsText, refusalText, verdictWith, verdictText}
 use Rattle.text.proofs.ScheduleCalled.{seven-long}

@@ -7,7 +7,7 @@ ghost use Rattle.model.specs.Lists.{be16, each};
 ghost use Rattle.model.specs.Reader.{byte, clockGuardAt};
 ghost use Rattle.model.specs.Places.{arcLength, arcAt, Valid, readOf};
 ghost use Rattle.model.specs.Program.{clockTests, edgeBlockOf, blockBytes, nodeBytes, programBytes};
-ghost use Rattle.model.proofs.ProgramSize.{workLength, arcShare, Sourced};
+ghost use Rattle.model.proofs.Program.Size.{workLength, arcShare, Sourced};
 ghost use Rattle.table.specs.Directory.{startsOf};
 ghost use Rattle.blocks.specs.Put.{Room, Put};
 ghost use Rattle.blocks.specs.Made.{allMade};
