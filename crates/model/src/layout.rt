@@ -112,3 +112,23 @@ pub const STATEMENT_A: usize = 1;
 pub const STATEMENT_K: usize = 2;
 
 pub const STATEMENT_WIDTH: usize = 4;
+
+// The schedule, as a list of numbers: "passages, each with seven fields: component, edge, location, entry, ready, end, message."
+pub const PASSAGE_COMPONENT: usize = 0;
+
+pub const PASSAGE_EDGE: usize = 1;
+
+pub const PASSAGE_LOCATION: usize = 2;
+
+pub const PASSAGE_ENTRY: usize = 3;
+
+pub const PASSAGE_READY: usize = 4;
+
+pub const PASSAGE_END: usize = 5;
+
+pub const PASSAGE_MESSAGE: usize = 6;
+
+pub const PASSAGE_WIDTH: usize = 7;
+
+// "32 bytes" an observation.
+pub const OBSERVATION_WIDTH: usize = 32;
