@@ -50,3 +50,18 @@ s/\bplanIn\b/acceptedScheduleIn/g
 
 # The choice without its search, among the definitions.
 /proofs\.Choice\.\{[^}]*\bTaken\b/s/\bTaken\b/TakenEdge/g
+
+# Sums over lists and numbered lists, which stood in ProgramSize, are of no program: Basics.Sums.
+:sums
+s/((\n|^)(ghost )?use Rattle.model(·proofs)?\.proofs\.)ProgramSize\.\{([^}]*, )?(total|each-join|each-total|length-from|at-from|by-number)(, [^}]*)?\}(;?)/\1Basics.Sums.{\6}\8\1ProgramSize.{\5\7}\8/
+ttidy
+bjoin
+:tidy
+s/(ProgramSize\.\{[^}]*), , /\1, /g
+s/(ProgramSize\.\{[^}]*), \}/\1}/g
+s/ProgramSize\.\{, /ProgramSize.{/g
+s/\n(ghost )?use Rattle.model(·proofs)?\.proofs\.ProgramSize\.\{\};?//g
+bsums
+:join
+s/(\n(ghost )?use Rattle.model(·proofs)?\.proofs\.Basics\.Sums\.\{)([^}]*)\}(;?)\1([^}]*)\}/\1\6, \4}/
+tjoin

@@ -17,8 +17,8 @@ use Rattle.model.specs.Table.{Arc}
 use Rattle.model.specs.Reader.{byte, clockGuardAt, dataGuardAt, updateAt, pairAt}
 use Rattle.model.specs.Places.{listAt, itemsPlace, arcLength, arcAt}
 use Rattle.model.specs.Program.{Statement, done, age, reset, enter, keep, takeEdge, choose, clockTests, dataTests, trialOf, trials, updateOf, workOf, ageing, edgeBlockOf, quad, pairQuad, code, blockBytes}
-use Rattle.model.proofs.Walk.{list-length}
-use Rattle.model.proofs.ProgramSize.{block-join}
+use Rattle.model.proofs.Basics.Walk.{list-length}
+use Rattle.model.proofs.Program.Size.{block-join}
 use Rattle.decoder.proofs.ByAction.{internal-length, internal-updates, receive-length, receive-pairs}
 use Rattle.parts.proofs.Skim.{tail}
 use Rattle.blocks.specs.declared.Kind.the-variants.{ClockGuards, DataGuards, Updates, Pairs}

@@ -15,8 +15,8 @@ use Rattle.model.specs.Lists.{each}
 use Rattle.model.specs.Reader.{byte, word, clockGuardAt, dataGuardAt, updateAt, pairAt}
 use Rattle.model.specs.Places.{listAt}
 use Rattle.model.specs.Program.{low, high, clockTests, dataTests, updateOf, quad, pairQuad, code, blockBytes}
-use Rattle.model.proofs.Words.{unsigned-back}
-use Rattle.model.proofs.ProgramSize.{block-join, updates-length}
+use Rattle.model.proofs.Basics.Words.{unsigned-back}
+use Rattle.model.proofs.Program.Size.{block-join, updates-length}
 use Rattle.parts.proofs.Skim.{tail}
 use Rattle.blocks.specs.declared.Kind.{Kind}
 use Rattle.blocks.specs.declared.Kind.the-variants.{ClockGuards, DataGuards, Updates, Pairs}

@@ -2,7 +2,7 @@
 ghost use mathlib.Core.Path.{_≡_};
 ghost use mathlib.Core.Bool.{cond};
 ghost use mathlib.Core.List.{[], _∷_, _++_, map};
-ghost use Prim.Native.Nat.{_+_, _*_, _%_, _≤_, _<_};
+ghost use Prim.Native.Nat.{_+_, _*_, _%_, _≤_};
 ghost use lib.Dec.{eqb};
 ghost use lib.ListN.{length};
 ghost use Rattle.model.specs.Lists.{below};
@@ -14,6 +14,8 @@ ghost use Rattle.blocks.specs.Made.{widthOf, madeOf, allMade};
 ghost use Rattle.blocks.specs.FrontEdges.{arcsAt, ArcsFit};
 use model::Action;
 use model::Location;
+use model::layout;
+use model::op;
 
 // The parts of an edge from which statements are made.
 pub enum Kind {
@@ -23,107 +25,113 @@ pub enum Kind {
     Pairs,
 }
 
-fn wide(x: u8) -> usize
-    ensures { λ r. ⌜ (r ≡ x) × (r < 256) ⌝ }
-{
-    x as usize
-}
-
-fn wide16(x: u8) -> u16
-    ensures { λ r. ⌜ (r ≡ x) × (r < 256) ⌝ }
-{
-    x as u16
-}
-
 // A statement: op, a, k.
 fn put_quad(out: &mut [u8], at: usize, op: u8, a: u8, k: u16) -> usize
     requires { ⌜ at + 4 ≤ length (now out) ⌝ }
     ensures { λ r. ⌜ Put (now (out .entry)) at (quad op a k) r (now (out .exit)) ⌝ }
 {
     out[at] = op;
-    out[at + 1] = a;
-    out[at + 2] = (k / 256) as u8;
+    out[at + layout::STATEMENT_A] = a;
+    out[at + layout::STATEMENT_K] = (k / 256) as u8;
     out[at + 3] = (k % 256) as u8;
-    at + 4
+    at + layout::STATEMENT_WIDTH
 }
 
 // The tests of a clock bound.
-fn put_clock_test(h: &[u8], out: &mut [u8], at: usize) -> usize
-    requires { ⌜ (5 ≤ length (now h)) × Room (now out) at (blockBytes (clockTests (clockGuardAt (now h) ∷ []))) ⌝ }
-    ensures { λ r. ⌜ Put (now (out .entry)) at (blockBytes (clockTests (clockGuardAt (now (h .entry)) ∷ []))) r (now (out .exit)) ⌝ }
+fn put_clock_test(bytes: &[u8], out: &mut [u8], at: usize) -> usize
+    requires { ⌜ (5 ≤ length (now bytes)) × Room (now out) at (blockBytes (clockTests (clockGuardAt (now bytes) ∷ []))) ⌝ }
+    ensures { λ r. ⌜ Put (now (out .entry)) at (blockBytes (clockTests (clockGuardAt (now (bytes .entry)) ∷ []))) r (now (out .exit)) ⌝ }
 {
-    let clock = h[0];
-    let low = parts::word_at(h, 1);
-    let high = parts::word_at(h, 3);
-    let next = put_quad(out, at, 0x0B, clock, low);
+    let clock = bytes[layout::GUARD_SUBJECT];
+    let low = parts::word_at(bytes, layout::GUARD_LOW);
+    let high = parts::word_at(bytes, layout::GUARD_HIGH);
+    let next = put_quad(out, at, op::LOW, clock, low);
     if high == 65535 {
         return next;
     }
-    put_quad(out, next, 0x0C, clock, high)
+    put_quad(out, next, op::HIGH, clock, high)
 }
 
 // The tests of a data bound.
-fn put_data_test(h: &[u8], out: &mut [u8], at: usize) -> usize
-    requires { ⌜ (5 ≤ length (now h)) × Room (now out) at (blockBytes (dataTests (dataGuardAt (now h) ∷ []))) ⌝ }
-    ensures { λ r. ⌜ Put (now (out .entry)) at (blockBytes (dataTests (dataGuardAt (now (h .entry)) ∷ []))) r (now (out .exit)) ⌝ }
+fn put_data_test(bytes: &[u8], out: &mut [u8], at: usize) -> usize
+    requires { ⌜ (5 ≤ length (now bytes)) × Room (now out) at (blockBytes (dataTests (dataGuardAt (now bytes) ∷ []))) ⌝ }
+    ensures { λ r. ⌜ Put (now (out .entry)) at (blockBytes (dataTests (dataGuardAt (now (bytes .entry)) ∷ []))) r (now (out .exit)) ⌝ }
 {
-    let variable = h[0];
-    let next = put_quad(out, at, 0x0D, variable, parts::word_at(h, 1));
-    put_quad(out, next, 0x0E, variable, parts::word_at(h, 3))
+    let variable = bytes[layout::GUARD_SUBJECT];
+    let next = put_quad(
+        out,
+        at,
+        op::DATA_LOW,
+        variable,
+        parts::word_at(bytes, layout::GUARD_LOW),
+    );
+    put_quad(
+        out,
+        next,
+        op::DATA_HIGH,
+        variable,
+        parts::word_at(bytes, layout::GUARD_HIGH),
+    )
 }
 
-fn put_update(h: &[u8], out: &mut [u8], at: usize) -> usize
-    requires { ⌜ (4 ≤ length (now h)) × Room (now out) at (blockBytes (updateOf (updateAt (now h)) ∷ [])) ⌝ }
-    ensures { λ r. ⌜ Put (now (out .entry)) at (blockBytes (updateOf (updateAt (now (h .entry))) ∷ [])) r (now (out .exit)) ⌝ }
+fn put_update(bytes: &[u8], out: &mut [u8], at: usize) -> usize
+    requires { ⌜ (4 ≤ length (now bytes)) × Room (now out) at (blockBytes (updateOf (updateAt (now bytes)) ∷ [])) ⌝ }
+    ensures { λ r. ⌜ Put (now (out .entry)) at (blockBytes (updateOf (updateAt (now (bytes .entry))) ∷ [])) r (now (out .exit)) ⌝ }
 {
-    let number = parts::word_at(h, 2);
-    if h[1] == 1 {
-        return put_quad(out, at, 0x02, h[0], number);
+    let number = parts::word_at(bytes, layout::UPDATE_NUMBER);
+    if bytes[layout::UPDATE_ADDS] == 1 {
+        return put_quad(out, at, op::ADD, bytes[layout::UPDATE_VARIABLE], number);
     }
-    put_quad(out, at, 0x01, h[0], number)
+    put_quad(out, at, op::SET, bytes[layout::UPDATE_VARIABLE], number)
 }
 
-fn put_pair(h: &[u8], out: &mut [u8], at: usize) -> usize
-    requires { ⌜ (2 ≤ length (now h)) × Room (now out) at (pairQuad (pairAt (now h))) ⌝ }
-    ensures { λ r. ⌜ Put (now (out .entry)) at (pairQuad (pairAt (now (h .entry)))) r (now (out .exit)) ⌝ }
+fn put_pair(bytes: &[u8], out: &mut [u8], at: usize) -> usize
+    requires { ⌜ (2 ≤ length (now bytes)) × Room (now out) at (pairQuad (pairAt (now bytes))) ⌝ }
+    ensures { λ r. ⌜ Put (now (out .entry)) at (pairQuad (pairAt (now (bytes .entry)))) r (now (out .exit)) ⌝ }
 {
-    put_quad(out, at, 0x06, h[0], wide16(h[1]))
+    put_quad(
+        out,
+        at,
+        op::PAIR,
+        bytes[layout::PAIR_CHANNEL],
+        parts::wide16(bytes[layout::PAIR_LOCATION]),
+    )
 }
 
 fn width(kind: Kind) -> usize
     ensures { λ r. ⌜ r ≡ widthOf kind ⌝ }
 {
     match kind {
-        Kind::ClockGuards => 5,
-        Kind::DataGuards => 5,
-        Kind::Updates => 4,
-        Kind::Pairs => 2,
+        Kind::ClockGuards => layout::GUARD_WIDTH,
+        Kind::DataGuards => layout::GUARD_WIDTH,
+        Kind::Updates => layout::UPDATE_WIDTH,
+        Kind::Pairs => layout::PAIR_WIDTH,
     }
 }
 
-fn put_part(kind: Kind, h: &[u8], out: &mut [u8], at: usize) -> usize
-    requires { ⌜ (widthOf kind ≤ length (now h)) × Room (now out) at (madeOf kind (now h)) ⌝ }
-    ensures { λ r. ⌜ Put (now (out .entry)) at (madeOf kind (now (h .entry))) r (now (out .exit)) ⌝ }
+fn put_part(kind: Kind, bytes: &[u8], out: &mut [u8], at: usize) -> usize
+    requires { ⌜ (widthOf kind ≤ length (now bytes)) × Room (now out) at (madeOf kind (now bytes)) ⌝ }
+    ensures { λ r. ⌜ Put (now (out .entry)) at (madeOf kind (now (bytes .entry))) r (now (out .exit)) ⌝ }
 {
     match kind {
-        Kind::ClockGuards => put_clock_test(h, out, at),
-        Kind::DataGuards => put_data_test(h, out, at),
-        Kind::Updates => put_update(h, out, at),
-        Kind::Pairs => put_pair(h, out, at),
+        Kind::ClockGuards => put_clock_test(bytes, out, at),
+        Kind::DataGuards => put_data_test(bytes, out, at),
+        Kind::Updates => put_update(bytes, out, at),
+        Kind::Pairs => put_pair(bytes, out, at),
     }
 }
 
 // What is made of n parts of one kind.
-fn put_parts(kind: Kind, h: &[u8], n: u8, out: &mut [u8], at: usize) -> usize
-    requires { ⌜ (n * widthOf kind ≤ length (now h)) × Room (now out) at (allMade kind n (now h)) ⌝ }
-    ensures { λ r. ⌜ Put (now (out .entry)) at (allMade kind n (now (h .entry))) r (now (out .exit)) ⌝ }
+fn put_parts(kind: Kind, bytes: &[u8], count: u8, out: &mut [u8], at: usize) -> usize
+    requires { ⌜ (count * widthOf kind ≤ length (now bytes)) × Room (now out) at (allMade kind count (now bytes)) ⌝ }
+    ensures { λ r. ⌜ Put (now (out .entry)) at (allMade kind count (now (bytes .entry))) r (now (out .exit)) ⌝ }
 {
     let w = width(kind);
     let mut place: usize = 0;
     let mut next = at;
-    let mut k = n;
+    let mut k = count;
     while 0 < k {
-        next = put_part(kind, &h[place..], out, next);
+        next = put_part(kind, &bytes[place..], out, next);
         place += w;
         k -= 1;
     }
@@ -131,82 +139,114 @@ fn put_parts(kind: Kind, h: &[u8], n: u8, out: &mut [u8], at: usize) -> usize
 }
 
 // The trial of edge e, which stands at the front, in the block of a location with this invariant.
-fn put_trial(h: &[u8], l: Location, e: u8, out: &mut [u8], at: usize) -> usize
-    requires { ⌜ (arcLength (now h) ≤ length (now h)) × Room (now out) at (blockBytes (trialOf l e (arcAt (now h)))) ⌝ }
-    ensures { λ r. ⌜ Put (now (out .entry)) at (blockBytes (trialOf l e (arcAt (now (h .entry))))) r (now (out .exit)) ⌝ }
+fn put_trial(bytes: &[u8], location: Location, number: u8, out: &mut [u8], at: usize) -> usize
+    requires { ⌜ (arcLength (now bytes) ≤ length (now bytes)) × Room (now out) at (blockBytes (trialOf location number (arcAt (now bytes)))) ⌝ }
+    ensures { λ r. ⌜ Put (now (out .entry)) at (blockBytes (trialOf location number (arcAt (now (bytes .entry))))) r (now (out .exit)) ⌝ }
 {
-    let first = put_quad(out, at, 0x0A, 0, 0);
-    let second = put_quad(out, first, 0x0C, l.clock, l.bound);
-    let third = put_parts(Kind::ClockGuards, &h[7..], h[4], out, second);
-    let datas = 7 + wide(h[4]) * 5;
-    let fourth = put_parts(Kind::DataGuards, &h[datas..], h[5], out, third);
-    put_quad(out, fourth, 0x0F, 0, wide16(e))
+    let first = put_quad(out, at, op::TRIAL, 0, 0);
+    let second = put_quad(out, first, op::HIGH, location.clock, location.bound);
+    let third = put_parts(
+        Kind::ClockGuards,
+        &bytes[layout::EDGE_HEADER..],
+        bytes[layout::EDGE_CLOCK_GUARDS],
+        out,
+        second,
+    );
+    let datas = layout::EDGE_HEADER
+        + parts::wide(bytes[layout::EDGE_CLOCK_GUARDS]) * layout::GUARD_WIDTH;
+    let fourth = put_parts(
+        Kind::DataGuards,
+        &bytes[datas..],
+        bytes[layout::EDGE_DATA_GUARDS],
+        out,
+        third,
+    );
+    put_quad(out, fourth, op::KEEP, 0, parts::wide16(number))
 }
 
 // The same if the edge leaves from location `here`; else nothing.
-fn put_trial_from(h: &[u8], here: u8, l: Location, e: u8, out: &mut [u8], at: usize) -> usize
-    requires { ⌜ (arcLength (now h) ≤ length (now h)) × Room (now out) at (blockBytes (trials l here e (arcAt (now h) ∷ []))) ⌝ }
-    ensures { λ r. ⌜ Put (now (out .entry)) at (blockBytes (trials l here e (arcAt (now (h .entry)) ∷ []))) r (now (out .exit)) ⌝ }
+fn put_trial_from(
+    bytes: &[u8],
+    here: u8,
+    location: Location,
+    number: u8,
+    out: &mut [u8],
+    at: usize,
+) -> usize
+    requires { ⌜ (arcLength (now bytes) ≤ length (now bytes)) × Room (now out) at (blockBytes (trials location here number (arcAt (now bytes) ∷ []))) ⌝ }
+    ensures { λ r. ⌜ Put (now (out .entry)) at (blockBytes (trials location here number (arcAt (now (bytes .entry)) ∷ []))) r (now (out .exit)) ⌝ }
 {
-    let edge = decoder::edge_at(h);
+    let edge = decoder::edge_at(bytes);
     if edge.source != here {
         return at;
     }
-    put_trial(h, l, e, out, at)
+    put_trial(bytes, location, number, out, at)
 }
 
 // The block of a location: the trials of the edges from it, of n that stand at the front.
 pub fn put_location_block(
-    h: &[u8],
-    n: u8,
+    bytes: &[u8],
+    count: u8,
     here: u8,
-    l: Location,
+    location: Location,
     out: &mut [u8],
     at: usize,
 ) -> usize
-    requires { ⌜ ArcsFit n (now h) × Room (now out) at (blockBytes (trials l here 0 (arcsAt n (now h)) ++ (takeEdge ∷ []))) ⌝ }
-    ensures { λ r. ⌜ Put (now (out .entry)) at (blockBytes (trials l here 0 (arcsAt n (now (h .entry))) ++ (takeEdge ∷ []))) r (now (out .exit)) ⌝ }
+    requires { ⌜ ArcsFit count (now bytes) × Room (now out) at (blockBytes (trials location here 0 (arcsAt count (now bytes)) ++ (takeEdge ∷ []))) ⌝ }
+    ensures { λ r. ⌜ Put (now (out .entry)) at (blockBytes (trials location here 0 (arcsAt count (now (bytes .entry))) ++ (takeEdge ∷ []))) r (now (out .exit)) ⌝ }
 {
     let mut place: usize = 0;
     let mut next = at;
     let mut e: u8 = 0;
-    while e < n {
-        next = put_trial_from(&h[place..], here, l, e, out, next);
-        place += decoder::arc_length(&h[place..]);
+    while e < count {
+        next = put_trial_from(&bytes[place..], here, location, e, out, next);
+        place += decoder::arc_length(&bytes[place..]);
         e += 1;
     }
-    put_quad(out, next, 0x10, 0, 0)
+    put_quad(out, next, op::TAKE, 0, 0)
 }
 
 // The work of the edge at the front.
-fn put_work(h: &[u8], out: &mut [u8], at: usize) -> usize
-    requires { ⌜ (arcLength (now h) ≤ length (now h)) × Room (now out) at (blockBytes (workOf (arcAt (now h)) (arcAt (now h) .edge .action))) ⌝ }
-    ensures { λ r. ⌜ Put (now (out .entry)) at (blockBytes (workOf (arcAt (now (h .entry))) (arcAt (now (h .entry)) .edge .action))) r (now (out .exit)) ⌝ }
+fn put_work(bytes: &[u8], out: &mut [u8], at: usize) -> usize
+    requires { ⌜ (arcLength (now bytes) ≤ length (now bytes)) × Room (now out) at (blockBytes (workOf (arcAt (now bytes)) (arcAt (now bytes) .edge .action))) ⌝ }
+    ensures { λ r. ⌜ Put (now (out .entry)) at (blockBytes (workOf (arcAt (now (bytes .entry))) (arcAt (now (bytes .entry)) .edge .action))) r (now (out .exit)) ⌝ }
 {
-    let items = decoder::items_place(h);
-    let action = decoder::action_at(h);
+    let items = decoder::items_place(bytes);
+    let action = decoder::action_at(bytes);
     match action {
         Action::Internal => {
-            let next = put_parts(Kind::Updates, &h[items..], h[6], out, at);
-            put_quad(out, next, 0x03, 0, 0)
+            let next = put_parts(
+                Kind::Updates,
+                &bytes[items..],
+                bytes[layout::EDGE_ITEMS],
+                out,
+                at,
+            );
+            put_quad(out, next, op::DONE, 0, 0)
         }
-        Action::Send(channel) => put_quad(out, at, 0x04, channel, 0),
+        Action::Send(channel) => put_quad(out, at, op::SEND, channel, 0),
         Action::Receive => {
-            let next = put_quad(out, at, 0x05, h[6], 0);
-            put_parts(Kind::Pairs, &h[items..], h[6], out, next)
+            let next = put_quad(out, at, op::LISTEN, bytes[layout::EDGE_ITEMS], 0);
+            put_parts(
+                Kind::Pairs,
+                &bytes[items..],
+                bytes[layout::EDGE_ITEMS],
+                out,
+                next,
+            )
         }
     }
 }
 
 // Clock i: zero if the lowest bit is set, else age.
-fn put_ageing(bits: u8, i: u8, out: &mut [u8], at: usize) -> usize
+fn put_ageing(bits: u8, clock: u8, out: &mut [u8], at: usize) -> usize
     requires { ⌜ at + 4 ≤ length (now out) ⌝ }
-    ensures { λ r. ⌜ Put (now (out .entry)) at (blockBytes (cond (eqb (bits % 2) 1) (reset i) (age i) ∷ [])) r (now (out .exit)) ⌝ }
+    ensures { λ r. ⌜ Put (now (out .entry)) at (blockBytes (cond (eqb (bits % 2) 1) (reset clock) (age clock) ∷ [])) r (now (out .exit)) ⌝ }
 {
     if bits % 2 == 1 {
-        return put_quad(out, at, 0x08, i, 0);
+        return put_quad(out, at, op::ZERO, clock, 0);
     }
-    put_quad(out, at, 0x07, i, 0)
+    put_quad(out, at, op::AGE, clock, 0)
 }
 
 // All clocks, by the reset mask.
@@ -226,14 +266,14 @@ fn put_clocks(mask: u8, clocks: u8, out: &mut [u8], at: usize) -> usize
 }
 
 // The block of the edge at the front.
-pub fn put_edge_block(h: &[u8], clocks: u8, out: &mut [u8], at: usize) -> usize
-    requires { ⌜ (arcLength (now h) ≤ length (now h)) × Room (now out) at (blockBytes (edgeBlockOf clocks (arcAt (now h)))) ⌝ }
-    ensures { λ r. ⌜ Put (now (out .entry)) at (blockBytes (edgeBlockOf clocks (arcAt (now (h .entry))))) r (now (out .exit)) ⌝ }
+pub fn put_edge_block(bytes: &[u8], clocks: u8, out: &mut [u8], at: usize) -> usize
+    requires { ⌜ (arcLength (now bytes) ≤ length (now bytes)) × Room (now out) at (blockBytes (edgeBlockOf clocks (arcAt (now bytes)))) ⌝ }
+    ensures { λ r. ⌜ Put (now (out .entry)) at (blockBytes (edgeBlockOf clocks (arcAt (now (bytes .entry))))) r (now (out .exit)) ⌝ }
 {
-    let edge = decoder::edge_at(h);
-    let first = put_quad(out, at, 0x00, 0, 0);
-    let second = put_work(h, out, first);
+    let edge = decoder::edge_at(bytes);
+    let first = put_quad(out, at, op::SLEEP, 0, 0);
+    let second = put_work(bytes, out, first);
     let third = put_clocks(edge.mask, clocks, out, second);
-    let fourth = put_quad(out, third, 0x09, 0, wide16(edge.destination));
-    put_quad(out, fourth, 0x11, 0, 0)
+    let fourth = put_quad(out, third, op::ENTER, 0, parts::wide16(edge.destination));
+    put_quad(out, fourth, op::CHOOSE, 0, 0)
 }

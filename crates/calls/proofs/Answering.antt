@@ -10,7 +10,7 @@ use Rattle.model.specs.Places.{Valid}
 use Rattle.model.specs.Schedule.{Passage, schedule, sevenOf}
 use Rattle.model.specs.Checks.{acceptedSchedule, acceptedScheduleOf}
 use Rattle.model.specs.Calls.{verdictOf, refusing, laid, acceptedScheduleIn, checkCall, scheduleWith, scheduleCall}
-use Rattle.model.proofs.Located.{valid-read}
+use Rattle.model.proofs.Reader.Located.{valid-read}
 use Rattle.table.proofs.Answered.{verdict-refused, verdict-accepted}
 use Rattle.rows.specs.Rows.{rowsOf}
 use Rattle.schedule.specs.declared.Scheduled.{Scheduled}

@@ -18,10 +18,10 @@ use Rattle.model.specs.Checks.{acceptedScheduleOf}
 use Rattle.model.specs.Run.{Setting, settingOf, run, observationBytes}
 use Rattle.model.specs.Demand3.{Demand3, ticksIn}
 use Rattle.model.specs.Calls.{acceptedScheduleIn, RunCall, notRun, ran, runWith, runPlanned, runRead, runCall, Demand3Of}
-use Rattle.model.proofs.Located.{valid-read}
-use Rattle.model.proofs.ObservationSize.{observations-long}
-use Rattle.model.proofs.WholePromise.{promised}
-use Rattle.model.proofs.WholeFew.{few}
+use Rattle.model.proofs.Reader.Located.{valid-read}
+use Rattle.model.proofs.Observations.Size.{observations-long}
+use Rattle.model.proofs.Run.Promise.{promised}
+use Rattle.model.proofs.Run.Few.{few}
 
 -- demand 3 holds of all bytes and all choices
 pub demanded : (table choices : List ℕ) → Demand3Of table choices

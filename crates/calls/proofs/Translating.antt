@@ -17,7 +17,7 @@ use Rattle.model.specs.Schedule.{Passage}
 use Rattle.model.specs.Checks.{acceptedScheduleOf}
 use Rattle.model.specs.Program.{programBytes}
 use Rattle.model.specs.Calls.{verdictOf, Call, refusing, laid, acceptedScheduleIn, programIn, translateWith, checkCall, translateCall}
-use Rattle.model.proofs.Located.{valid-read}
+use Rattle.model.proofs.Reader.Located.{valid-read}
 use Rattle.table.proofs.Answered.{verdict-refused, verdict-accepted}
 
 -- a table that is not accepted has no program

@@ -17,6 +17,7 @@ ghost use Rattle.run.specs.Ends.{Planned};
 ghost use Rattle.calls.specs.Ran.{Answers};
 use model::End;
 use model::Verdict;
+use model::layout;
 
 // The answer of a run: the end, the tick, the choices used and the observations written; after a refusal `Horizon`, 0, 0 and 0.
 pub struct Ran {
@@ -79,7 +80,7 @@ fn plan_into(table: &[u8], starts: [u16; 8], list: &mut [u32]) -> Called
     match v {
         Verdict::Refused(number, component) => refused(number, component),
         Verdict::Accepted => {
-            if list.len() < n * 7 {
+            if list.len() < n * layout::PASSAGE_WIDTH {
                 return refused(13, 255);
             }
             schedule::put_fields(&rows, n, list);
@@ -179,20 +180,20 @@ fn run_planned(
     table: &[u8],
     starts: [u16; 8],
     rows: &[u32],
-    n: usize,
+    count: usize,
     choices: &[u8],
     observations: &mut [u8],
 ) -> Ran
-    requires { ⌜ Valid (now table) × (starts ≡ startsOf (now table) (byte (now table) 3)) × Planned (now table) (now rows) n ⌝ }
+    requires { ⌜ Valid (now table) × (starts ≡ startsOf (now table) (byte (now table) 3)) × Planned (now table) (now rows) count ⌝ }
     ensures { λ r. ⌜ Answers (runCall (now (table .entry)) (now (choices .entry)) (now (observations .entry))) r (now (observations .exit)) ⌝ }
 {
-    if observations.len() < n * 32 {
+    if observations.len() < count * layout::OBSERVATION_WIDTH {
         return not_run(13, 255);
     }
     if 1000000 < choices.len() {
         return not_run(14, 255);
     }
-    let e = run::run_table(table, starts, rows, n, choices, observations);
+    let e = run::run_table(table, starts, rows, count, choices, observations);
     Ran {
         verdict: Verdict::Accepted,
         end: end_of(e.end, e.node),

@@ -13,8 +13,8 @@ use Rattle.model.specs.Table.{Table}
 use Rattle.model.specs.Window.{channelOf}
 use Rattle.model.specs.Schedule.{Passage, passageArc, names, others}
 use Rattle.model.specs.Checks.{shareTick, startsEarlier, endsLater, isSend, isReceive, meets, collides, mayHear, heardWell, unheard, two, crowded}
-use Rattle.model.proofs.Members.{only-none, any-none, any-append}
-use Rattle.model.proofs.Heard.{two-is}
+use Rattle.model.proofs.Basics.Members.{only-none, any-none, any-append}
+use Rattle.model.proofs.Checks.Heard.{two-is}
 use Rattle.rows.specs.Rows.{rowPassage, rowsFrom, rowsOf}
 use Rattle.rows.proofs.Sought.{rows-split}
 use Rattle.checks.proofs.Swept.{Near}

@@ -15,8 +15,8 @@ use Rattle.model.specs.Window.{sends, channelOf}
 use Rattle.model.specs.Places.{readOf}
 use Rattle.model.specs.Schedule.{Passage, passageArc}
 use Rattle.model.specs.Checks.{isSend}
-use Rattle.model.proofs.RoundTrip.{written-read}
-use Rattle.model.proofs.Located.{valid-read}
+use Rattle.model.proofs.Reader.RoundTrip.{written-read}
+use Rattle.model.proofs.Reader.Located.{valid-read}
 use Rattle.rows.specs.Rows.{num, RowsPlaced}
 use Rattle.rows.proofs.Placed.{known-bytes}
 use Rattle.checks.specs.Faults.{RowStands}

@@ -10,8 +10,8 @@ use lib.Dec.{ltb}
 use lib.ListN.{length, length-append}
 use Rattle.model.specs.Lists.{any, only, snoc}
 use Rattle.model.specs.Schedule.{Passage}
-use Rattle.model.proofs.Bools.{clash}
-use Rattle.model.proofs.Members.{only-append}
+use Rattle.model.proofs.Basics.Bools.{clash}
+use Rattle.model.proofs.Basics.Members.{only-append}
 use Rattle.rows.specs.Rows.{num, rowPassage, rowsFrom, rowsOf, RowsPlaced}
 use Rattle.rows.proofs.Sought.{rows-split}
 

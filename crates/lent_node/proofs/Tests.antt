@@ -12,7 +12,7 @@ use Rattle.model.specs.Lists.{all, All, empty, more}
 use Rattle.model.specs.Reader.{byte, word, complement}
 use Rattle.model.specs.Window.{valueAt, inRange}
 use Rattle.model.specs.Run.{standOf}
-use Rattle.model.proofs.Bools.{and-is}
+use Rattle.model.proofs.Basics.Bools.{and-is}
 use Rattle.node.specs.declared.Counts.{Counts}
 use Rattle.node.specs.declared.Node.{Node}
 use Rattle.node.specs.Views.{nodeOf, Held, Within, Addable, opIn}

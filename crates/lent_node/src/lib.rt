@@ -3,6 +3,7 @@
 ghost use mathlib.Core.Path.{_≡_};
 ghost use Rattle.node.specs.After.{startOf};
 ghost use Rattle.lent_node.specs.Step.{heldOf, placesFit, registersFit, mayStep, steppedOf, messageOf};
+use model::op;
 use node::Counts;
 use node::Node;
 
@@ -14,10 +15,10 @@ fn places_fit(held: Counts) -> bool
 }
 
 // Whether no register that grows is too high to grow further.
-fn registers_fit(r: Node) -> bool
-    ensures { λ b. ⌜ b ≡ registersFit r ⌝ }
+fn registers_fit(registers: Node) -> bool
+    ensures { λ b. ⌜ b ≡ registersFit registers ⌝ }
 {
-    let clocks = r.clocks;
+    let clocks = registers.clocks;
     let low = parts::both(
         clocks[0] <= 4000000000000000000,
         clocks[1] <= 4000000000000000000,
@@ -26,59 +27,62 @@ fn registers_fit(r: Node) -> bool
         clocks[2] <= 4000000000000000000,
         clocks[3] <= 4000000000000000000,
     );
-    let times = parts::both(r.t <= 4000000000000000000, r.sleeps <= 4000000000000000000);
+    let times = parts::both(
+        registers.t <= 4000000000000000000,
+        registers.sleeps <= 4000000000000000000,
+    );
     parts::both(times, parts::both(low, high))
 }
 
 // Whether the statement at the program counter can be carried out.
-fn may_step(p: &[u8], held: Counts, r: Node) -> bool
-    ensures { λ b. ⌜ b ≡ mayStep (now (p .entry)) held r ⌝ }
+fn may_step(part: &[u8], held: Counts, registers: Node) -> bool
+    ensures { λ b. ⌜ b ≡ mayStep (now (part .entry)) held registers ⌝ }
 {
-    if 65535 < p.len() {
+    if 65535 < part.len() {
         return false;
     }
     if !places_fit(held) {
         return false;
     }
-    if !registers_fit(r) {
+    if !registers_fit(registers) {
         return false;
     }
-    if node::op_at(p, r.pc) == 2 {
-        return stand::may_finish(p, held, r, 0);
+    if node::op_at(part, registers.pc) == op::ADD {
+        return stand::may_finish(part, held, registers, 0);
     }
     true
 }
 
 // The registers after the statement at the program counter of the node's part; the registers as they are if it cannot be carried out.
-pub fn stepped(p: &[u8], clocks: u8, variables: u8, r: Node) -> Node
-    ensures { λ q. ⌜ q ≡ steppedOf (now (p .entry)) (heldOf clocks variables) r ⌝ }
+pub fn stepped(part: &[u8], clocks: u8, variables: u8, registers: Node) -> Node
+    ensures { λ q. ⌜ q ≡ steppedOf (now (part .entry)) (heldOf clocks variables) registers ⌝ }
 {
     let held = Counts { clocks, variables };
-    if may_step(p, held, r) {
-        return node::finish(p, held, r);
+    if may_step(part, held, registers) {
+        return node::finish(part, held, registers);
     }
-    r
+    registers
 }
 
 // The registers of a listener after a message on the channel; the registers as they are if the node does not listen on it.
-pub fn message_taken(p: &[u8], channel: u8, r: Node) -> Node
-    ensures { λ q. ⌜ q ≡ messageOf (now (p .entry)) channel r ⌝ }
+pub fn message_taken(part: &[u8], channel: u8, registers: Node) -> Node
+    ensures { λ q. ⌜ q ≡ messageOf (now (part .entry)) channel registers ⌝ }
 {
-    if 65535 < p.len() {
-        return r;
+    if 65535 < part.len() {
+        return registers;
     }
-    if r.taken {
-        return r;
+    if registers.taken {
+        return registers;
     }
-    if stand::names(p, r.pc, channel) {
-        return stand::take_message(p, r, channel);
+    if stand::names(part, registers.pc, channel) {
+        return stand::take_message(part, registers, channel);
     }
-    r
+    registers
 }
 
 // The registers at the start of the node's part.
-pub fn start(p: &[u8]) -> Node
-    ensures { λ r. ⌜ r ≡ startOf (now (p .entry)) ⌝ }
+pub fn start(part: &[u8]) -> Node
+    ensures { λ r. ⌜ r ≡ startOf (now (part .entry)) ⌝ }
 {
-    stand::start_node(p)
+    stand::start_node(part)
 }

@@ -11,7 +11,7 @@ use lib.Seq.{sets}
 use Rattle.model.specs.Lists.{each}
 use Rattle.model.specs.Machine.{Node, finish}
 use Rattle.model.specs.Run.{Run, forbidden, on, sleeping, nodeOf, standOf, observes, moved, finished, finishes, choose1, observationBytes}
-use Rattle.model.proofs.Bools.{clash}
+use Rattle.model.proofs.Basics.Bools.{clash}
 use Rattle.registers.specs.Words.{wordIn, partIn}
 use Rattle.stand.specs.Stands.{mayFinish}
 use Rattle.machine.specs.Running.{settingIn, viewIn, Running}

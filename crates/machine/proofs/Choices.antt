@@ -9,7 +9,7 @@ use lib.ListN.{length}
 use Rattle.model.specs.Lists.{isNone}
 use Rattle.model.specs.Network.{Work, one}
 use Rattle.model.specs.Run.{Setting, Run, forbidden, on, nodeOf, standOf, Stand, sleeping, sending, listening, finishing, adding, working, taking, elsewhere, nowhere, observes, moved, finished, finishes, choose1}
-use Rattle.model.proofs.Bools.{clash}
+use Rattle.model.proofs.Basics.Bools.{clash}
 use Rattle.stand.specs.Stands.{mayFinish}
 use Rattle.machine.proofs.Ops.{plain}
 

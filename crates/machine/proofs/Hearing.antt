@@ -11,7 +11,7 @@ use lib.ListN.{length, drop, getD}
 use Rattle.model.specs.Lists.{isNone, below}
 use Rattle.model.specs.Machine.{Node}
 use Rattle.model.specs.Run.{Run, noNode, nodeOf, standAt, standOf, names, hears, listeners}
-use Rattle.model.proofs.Bools.{and-is}
+use Rattle.model.proofs.Basics.Bools.{and-is}
 use Rattle.node.specs.Views.{restAt, opIn}
 use Rattle.registers.specs.Words.{wordIn, partIn}
 use Rattle.machine.specs.Running.{viewIn}

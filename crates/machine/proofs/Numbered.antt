@@ -9,9 +9,9 @@ use lib.Dec.{eqb}
 use lib.ListN.{length, getD, set, length-map, length-set}
 use lib.Seq.{ext-getD, getD-set-same, getD-set-other}
 use Rattle.model.specs.Lists.{only, from, below, _∈_, here, there}
-use Rattle.model.proofs.Bools.{clash}
-use Rattle.model.proofs.Members.{not-in, only-is}
-use Rattle.model.proofs.ProgramSize.{length-from}
+use Rattle.model.proofs.Basics.Bools.{clash}
+use Rattle.model.proofs.Basics.Members.{not-in, only-is}
+use Rattle.model.proofs.Basics.Sums.{length-from}
 use Rattle.machine.specs.Chosen.{IsFirst}
 
 module _ {A : Type 0} where

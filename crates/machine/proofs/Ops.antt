@@ -8,7 +8,7 @@ use lib.Dec.{eqb}
 use lib.ListN.{drop}
 use Rattle.model.specs.Reader.{byte}
 use Rattle.model.specs.Run.{Stand, sleeping, sending, listening, finishing, adding, working, taking, elsewhere, nowhere, standAt, standOf, names}
-use Rattle.model.proofs.Bools.{clash}
+use Rattle.model.proofs.Basics.Bools.{clash}
 use Rattle.node.specs.declared.Counts.{Counts}
 use Rattle.node.specs.declared.Node.{Node}
 use Rattle.node.specs.Views.{restAt, opIn, nodeOf, Addable}

@@ -11,7 +11,7 @@ use lib.ListN.{length, drop, set, drop-of-length-le}
 use lib.Seq.{drop-cons, drop-drop}
 use Rattle.model.specs.Schedule.{Passage, own}
 use Rattle.model.specs.Checks.{noPassage, passageAt}
-use Rattle.model.proofs.Own.{own-here, own-other}
+use Rattle.model.proofs.Schedule.Own.{own-here, own-other}
 use Rattle.rows.specs.Rows.{num, rowPassage, rowsFrom, rowsOf}
 use Rattle.stand.specs.Stands.{never}
 use Rattle.registers.specs.Words.{wordIn}

@@ -12,7 +12,7 @@ use Rattle.model.specs.Lists.{each}
 use Rattle.model.specs.Reader.{byte}
 use Rattle.model.specs.Machine.{Node, partBytes, finish}
 use Rattle.model.specs.Run.{Setting, Run, on, nodeOf, standOf, listeners, takesMessage, messaged, finished, sent, finishes, choose1}
-use Rattle.model.proofs.Bools.{clash}
+use Rattle.model.proofs.Basics.Bools.{clash}
 use Rattle.registers.specs.Words.{wordIn, partIn}
 use Rattle.machine.specs.Running.{settingIn, viewIn, NodeStands, Running}
 use Rattle.machine.specs.Chosen.{opOf, NodeMoved, After, Chosen}

@@ -10,7 +10,7 @@ use Rattle.model.specs.Lists.{All, empty, more}
 use Rattle.model.specs.Program.{Statement}
 use Rattle.model.specs.Machine.{Node, decodings, statementAt, statementLength, endsBlock, followed, to, finish}
 use Rattle.model.specs.Run.{takesMessage}
-use Rattle.model.proofs.NodeFacts.{sleepsAfter, exec-sleeps}
+use Rattle.model.proofs.Node.Facts.{sleepsAfter, exec-sleeps}
 use Rattle.node.specs.declared.Counts.{Counts}
 use Rattle.node.specs.Views.{restAt, opIn, nodeOf}
 use Rattle.node.proofs.Rest.{rest-is}

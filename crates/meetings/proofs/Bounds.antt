@@ -16,7 +16,7 @@ use Rattle.model.specs.Schedule.{Passage, schedule, sevenOf}
 use Rattle.model.specs.Checks.{limit, isSend, meets, collides, mayHear, unheard, crowded, faultOf, checked}
 use Rattle.model.specs.Calls.{Call, refusing}
 use Rattle.model.specs.Meetings.{sendsMet, listenersMet, sendsHeard, withMet, concerned, concernedIn, listOr, meetingsIn, meetingsCall}
-use Rattle.model.proofs.Scheduled.{schedule-is}
+use Rattle.model.proofs.Schedule.Scheduled.{schedule-is}
 use Rattle.schedule.proofs.Fields.{laid-fits}
 
 only-few : (p : Passage → Bool) (S : List Passage) → length (only p S) ≤ length S

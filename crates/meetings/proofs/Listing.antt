@@ -16,8 +16,8 @@ use Rattle.model.specs.Schedule.{Passage, sevenOf, light}
 use Rattle.model.specs.Checks.{isSend, meets, collides, mayHear, unheard, crowded, faultOf, checked, acceptedSchedule, acceptedScheduleOf}
 use Rattle.model.specs.Calls.{Call, verdictOf, laid, acceptedScheduleIn, checkCall}
 use Rattle.model.specs.Meetings.{sendsMet, listenersMet, sendsHeard, withMet, concerned, concernedIn, listOr, meetingsIn, MeetingsCall, about, meetingsCall}
-use Rattle.model.proofs.Independence.{only-map}
-use Rattle.model.proofs.Located.{valid-read}
+use Rattle.model.proofs.Checks.Independence.{only-map}
+use Rattle.model.proofs.Reader.Located.{valid-read}
 use Rattle.table.proofs.Answered.{verdict-refused}
 use Rattle.rows.specs.Rows.{num, rowPassage, rowsOf}
 use Rattle.checks.specs.declared.Fault.{Fault}

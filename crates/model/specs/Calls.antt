@@ -49,7 +49,7 @@ endNode UsedUp = 255
 endNode (Late node) = node
 endNode NotAllowed = 255
 
--- the case that has this number and this node (the law `end-numbers` in proofs/Ends.antt: for the numbers of every run)
+-- the case that has this number and this node (the law `end-numbers` in proofs/Run/Ends.antt: for the numbers of every run)
 abbrev pub endOf : ℕ → ℕ → End
 endOf zero node = Horizon
 endOf (suc zero) node = UsedUp

@@ -1,5 +1,5 @@
 -- The steps of the network as rules, in document 01's words ("Passage and schedule", third paragraph). `Network.step` allows exactly these: the
--- law `step-is` in proofs/NetRules.antt.
+-- law `step-is` in proofs/Network/Rules.antt.
 use mathlib.Core.Path.{_≡_}
 use mathlib.Core.Bool.{true}
 use mathlib.Core.List.{List}

@@ -1,5 +1,5 @@
 -- Document 01, "The table": where the parts of a table stand in its bytes, and what stands there. Nothing is tested here:
--- for the bytes of an accepted table these are its parts (the law `located` in proofs/Located.antt).
+-- for the bytes of an accepted table these are its parts (the law `located` in proofs/Reader/Located.antt).
 use mathlib.Core.Path.{_≡_}
 use mathlib.Core.Bool.{Bool, true, false}
 use mathlib.Core.List.{List, [], _∷_}

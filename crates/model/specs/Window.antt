@@ -49,7 +49,7 @@ pub record IsWindow (l : Location) (gs : List ClockGuard) (xs : List ℕ) (ready
   pub last : (d : ℕ) → holdsAfter l gs xs d ≡ true → d ≤ end
 
 -- The same, computed. All clocks grow together, so the delays at which they hold are an interval: from `readyOf` up to, and without,
--- `pastOf`, the first delay that fails. The law is `is-window` in proofs/Interval.antt. There is no such delay where pastOf ≤ readyOf.
+-- `pastOf`, the first delay that fails. The law is `is-window` in proofs/Window/Interval.antt. There is no such delay where pastOf ≤ readyOf.
 abbrev pub readyOf : List ClockGuard → List ℕ → ℕ
 readyOf [] xs = 0
 readyOf (g ∷ gs) xs = max (g .low - clockAt xs (g .clock)) (readyOf gs xs)
@@ -109,7 +109,7 @@ abbrev pub windowAt : Component → Entry → ℕ → Pick
 windowAt C at e = windowOf (locationOf C (at .location)) e (arcOf C e) (at .clocks)
 
 -- "The candidate with the least ready is taken, on a tie the lowest number. Its window is ready to end, both included." p is the window of the edge
--- taken among the first n edges. The laws `choice-is` and `choice-none` in proofs/Choice.antt: the choice is p exactly if this holds for all edges
+-- taken among the first n edges. The laws `choice-is` and `choice-none` in proofs/Window/Choice.antt: the choice is p exactly if this holds for all edges
 -- of the component, and none exactly if no edge may be taken.
 pub record TakenEdge (n : ℕ) (C : Component) (at : Entry) (p : Pick) : Type 0 where
   pub there : p .edge < n

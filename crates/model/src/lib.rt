@@ -1,4 +1,6 @@
-// The plain types of document 01. No functions: specs/ uses these types as its own records.
+// The plain types of document 01, the ops of its statements and the places of its numbers. No functions: specs/ uses these types as its own records.
+pub mod layout;
+pub mod op;
 
 // "An edge is one of three: internal (0), send (1) or receive (2)." A send holds its channel; the
 // items of the two others stand beside the edge.

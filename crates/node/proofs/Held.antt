@@ -6,7 +6,7 @@ use native.Mathlib.Omega.{arith}
 use lib.ListN.{take, getD, set, length-take, List·getD-eq-default}
 use lib.Seq.{set-out}
 use Rattle.model.specs.Lists.{All, empty, more}
-use Rattle.model.proofs.Own.{all-then}
+use Rattle.model.proofs.Schedule.Own.{all-then}
 use Rattle.node.specs.declared.Node.{Node}
 use Rattle.node.specs.Views.{Within, Grown}
 

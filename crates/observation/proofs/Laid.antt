@@ -13,7 +13,7 @@ use Rattle.model.specs.Lists.{All, empty, more, each, be16}
 use Rattle.model.specs.Bytes.{unsigned}
 use Rattle.model.specs.Network.{Observation}
 use Rattle.model.specs.Run.{be32, four, observationBytes}
-use Rattle.model.proofs.ObservationSize.{clocks-long}
+use Rattle.model.proofs.Observations.Size.{clocks-long}
 
 -- each is bounded, and so is what stands at a place
 pub bounded : (m : ℕ) {xs : List ℕ} → All (λ x. x ≤ m) xs → (i : ℕ) → getD xs i 0 ≤ m

@@ -7,6 +7,7 @@ ghost use lib.ListN.{length, drop};
 ghost use Rattle.model.specs.Reader.{word, many, locationFine, clockGuardFine, dataGuardFine, updateFine, pairFine, countsFine, edgeFine, readChannel, readPairs, readItems, readArcBody, readArc, listed};
 ghost use Rattle.parts.specs.Place.{Passed, widthOf, fineOf, passes, channelsBefore};
 use model::Sizes;
+use model::layout;
 
 // Where the next part starts, or the number of the question that a part fails.
 pub enum Next {
@@ -22,101 +23,117 @@ pub enum Kind {
     Updates,
 }
 
-fn wide(x: u8) -> u16
-    ensures { λ r. ⌜ (r ≡ x) × (r < 256) ⌝ }
+// A byte as a wider number, and that it is below 256.
+pub fn wide(byte: u8) -> usize
+    ensures { λ r. ⌜ (r ≡ byte) × (r < 256) ⌝ }
 {
-    x as u16
+    byte as usize
+}
+
+pub fn wide16(byte: u8) -> u16
+    ensures { λ r. ⌜ (r ≡ byte) × (r < 256) ⌝ }
+{
+    byte as u16
 }
 
 // The number of the two bytes at a place.
-pub fn word_at(h: &[u8], i: usize) -> u16
-    requires { ⌜ i + 1 < length (now h) ⌝ }
-    ensures { λ r. ⌜ r ≡ word (now (h .entry)) i ⌝ }
+pub fn word_at(bytes: &[u8], at: usize) -> u16
+    requires { ⌜ at + 1 < length (now bytes) ⌝ }
+    ensures { λ r. ⌜ r ≡ word (now (bytes .entry)) at ⌝ }
 {
-    wide(h[i]) * 256 + wide(h[i + 1])
+    wide16(bytes[at]) * 256 + wide16(bytes[at + 1])
 }
 
 // Both operands are computed: no branch, and a proof without cases in the callers.
-pub fn both(a: bool, b: bool) -> bool
-    ensures { λ r. ⌜ r ≡ a && b ⌝ }
+pub fn both(first: bool, second: bool) -> bool
+    ensures { λ r. ⌜ r ≡ first && second ⌝ }
 {
-    if a { b } else { false }
+    if first { second } else { false }
 }
 
-pub fn either(a: bool, b: bool) -> bool
-    ensures { λ r. ⌜ r ≡ a || b ⌝ }
+pub fn either(first: bool, second: bool) -> bool
+    ensures { λ r. ⌜ r ≡ first || second ⌝ }
 {
-    if a { true } else { b }
+    if first { true } else { second }
 }
 
-fn location_fine(h: &[u8], z: Sizes) -> bool
-    requires { ⌜ 3 ≤ length (now h) ⌝ }
-    ensures { λ r. ⌜ r ≡ locationFine z (now (h .entry)) ⌝ }
+fn location_fine(bytes: &[u8], sizes: Sizes) -> bool
+    requires { ⌜ 3 ≤ length (now bytes) ⌝ }
+    ensures { λ r. ⌜ r ≡ locationFine sizes (now (bytes .entry)) ⌝ }
 {
-    both(h[0] < z.clocks, word_at(h, 1) <= 60000)
-}
-
-fn clock_guard_fine(h: &[u8], z: Sizes) -> bool
-    requires { ⌜ 5 ≤ length (now h) ⌝ }
-    ensures { λ r. ⌜ r ≡ clockGuardFine z (now (h .entry)) ⌝ }
-{
-    let high = word_at(h, 3);
     both(
-        both(h[0] < z.clocks, word_at(h, 1) <= 60000),
+        bytes[layout::LOCATION_CLOCK] < sizes.clocks,
+        word_at(bytes, layout::LOCATION_BOUND) <= 60000,
+    )
+}
+
+fn clock_guard_fine(bytes: &[u8], sizes: Sizes) -> bool
+    requires { ⌜ 5 ≤ length (now bytes) ⌝ }
+    ensures { λ r. ⌜ r ≡ clockGuardFine sizes (now (bytes .entry)) ⌝ }
+{
+    let high = word_at(bytes, layout::GUARD_HIGH);
+    both(
+        both(
+            bytes[layout::GUARD_SUBJECT] < sizes.clocks,
+            word_at(bytes, layout::GUARD_LOW) <= 60000,
+        ),
         either(high <= 60000, high == 65535),
     )
 }
 
-fn data_guard_fine(h: &[u8], z: Sizes) -> bool
-    requires { ⌜ 5 ≤ length (now h) ⌝ }
-    ensures { λ r. ⌜ r ≡ dataGuardFine z (now (h .entry)) ⌝ }
+fn data_guard_fine(bytes: &[u8], sizes: Sizes) -> bool
+    requires { ⌜ 5 ≤ length (now bytes) ⌝ }
+    ensures { λ r. ⌜ r ≡ dataGuardFine sizes (now (bytes .entry)) ⌝ }
 {
-    h[0] < z.variables
+    bytes[layout::GUARD_SUBJECT] < sizes.variables
 }
 
-fn update_fine(h: &[u8], z: Sizes) -> bool
-    requires { ⌜ 4 ≤ length (now h) ⌝ }
-    ensures { λ r. ⌜ r ≡ updateFine z (now (h .entry)) ⌝ }
+fn update_fine(bytes: &[u8], sizes: Sizes) -> bool
+    requires { ⌜ 4 ≤ length (now bytes) ⌝ }
+    ensures { λ r. ⌜ r ≡ updateFine sizes (now (bytes .entry)) ⌝ }
 {
-    both(h[0] < z.variables, h[1] <= 1)
+    both(
+        bytes[layout::UPDATE_VARIABLE] < sizes.variables,
+        bytes[layout::UPDATE_ADDS] <= 1,
+    )
 }
 
 fn width(kind: Kind) -> usize
     ensures { λ r. ⌜ r ≡ widthOf kind ⌝ }
 {
     match kind {
-        Kind::Locations => 3,
-        Kind::ClockGuards => 5,
-        Kind::DataGuards => 5,
-        Kind::Updates => 4,
+        Kind::Locations => layout::LOCATION_WIDTH,
+        Kind::ClockGuards => layout::GUARD_WIDTH,
+        Kind::DataGuards => layout::GUARD_WIDTH,
+        Kind::Updates => layout::UPDATE_WIDTH,
     }
 }
 
-fn fine(kind: Kind, h: &[u8], z: Sizes) -> bool
-    requires { ⌜ widthOf kind ≤ length (now h) ⌝ }
-    ensures { λ r. ⌜ r ≡ fineOf kind z (now (h .entry)) ⌝ }
+fn fine(kind: Kind, bytes: &[u8], sizes: Sizes) -> bool
+    requires { ⌜ widthOf kind ≤ length (now bytes) ⌝ }
+    ensures { λ r. ⌜ r ≡ fineOf kind sizes (now (bytes .entry)) ⌝ }
 {
     match kind {
-        Kind::Locations => location_fine(h, z),
-        Kind::ClockGuards => clock_guard_fine(h, z),
-        Kind::DataGuards => data_guard_fine(h, z),
-        Kind::Updates => update_fine(h, z),
+        Kind::Locations => location_fine(bytes, sizes),
+        Kind::ClockGuards => clock_guard_fine(bytes, sizes),
+        Kind::DataGuards => data_guard_fine(bytes, sizes),
+        Kind::Updates => update_fine(bytes, sizes),
     }
 }
 
 // n parts of one width.
-pub fn parts(p: &[u8], from: usize, n: u8, kind: Kind, z: Sizes) -> Next
-    requires { ⌜ from ≤ length (now p) ⌝ }
-    ensures { λ r. ⌜ Passed (now (p .entry)) from r (many (passes kind z) n (drop from (now (p .entry)))) ⌝ }
+pub fn parts(component: &[u8], from: usize, count: u8, kind: Kind, sizes: Sizes) -> Next
+    requires { ⌜ from ≤ length (now component) ⌝ }
+    ensures { λ r. ⌜ Passed (now (component .entry)) from r (many (passes kind sizes) count (drop from (now (component .entry)))) ⌝ }
 {
     let w = width(kind);
     let mut at = from;
-    let mut k = n;
+    let mut k = count;
     while 0 < k {
-        if p.len() - at < w {
+        if component.len() - at < w {
             return Next::Fault(4);
         }
-        if !fine(kind, &p[at..], z) {
+        if !fine(kind, &component[at..], sizes) {
             return Next::Fault(5);
         }
         at += w;
@@ -125,22 +142,25 @@ pub fn parts(p: &[u8], from: usize, n: u8, kind: Kind, z: Sizes) -> Next
     Next::At(at)
 }
 
-fn pair_fine(h: &[u8], z: Sizes) -> bool
-    requires { ⌜ 2 ≤ length (now h) ⌝ }
-    ensures { λ r. ⌜ r ≡ pairFine z (now (h .entry)) ⌝ }
+fn pair_fine(bytes: &[u8], sizes: Sizes) -> bool
+    requires { ⌜ 2 ≤ length (now bytes) ⌝ }
+    ensures { λ r. ⌜ r ≡ pairFine sizes (now (bytes .entry)) ⌝ }
 {
-    both(h[0] < z.channels, h[1] < z.locations)
+    both(
+        bytes[layout::PAIR_CHANNEL] < sizes.channels,
+        bytes[layout::PAIR_LOCATION] < sizes.locations,
+    )
 }
 
 // Whether one of the first n pairs has the channel.
-fn listed_before(h: &[u8], n: usize, channel: u8) -> bool
-    requires { ⌜ n * 2 ≤ length (now h) ⌝ }
-    ensures { λ r. ⌜ r ≡ listed channel (channelsBefore (now (h .entry)) n) ⌝ }
+fn listed_before(bytes: &[u8], count: usize, channel: u8) -> bool
+    requires { ⌜ count * 2 ≤ length (now bytes) ⌝ }
+    ensures { λ r. ⌜ r ≡ listed channel (channelsBefore (now (bytes .entry)) count) ⌝ }
 {
-    let mut k = n;
+    let mut k = count;
     while 0 < k {
         k -= 1;
-        if h[k * 2] == channel {
+        if bytes[k * layout::PAIR_WIDTH] == channel {
             return true;
         }
     }
@@ -148,24 +168,24 @@ fn listed_before(h: &[u8], n: usize, channel: u8) -> bool
 }
 
 // The pairs of a receive edge: each must fit, be in range, and have a channel of its own.
-fn pairs(p: &[u8], from: usize, n: u8, z: Sizes) -> Next
-    requires { ⌜ from ≤ length (now p) ⌝ }
-    ensures { λ r. ⌜ Passed (now (p .entry)) from r (readPairs z n [] (drop from (now (p .entry)))) ⌝ }
+fn pairs(component: &[u8], from: usize, count: u8, sizes: Sizes) -> Next
+    requires { ⌜ from ≤ length (now component) ⌝ }
+    ensures { λ r. ⌜ Passed (now (component .entry)) from r (readPairs sizes count [] (drop from (now (component .entry)))) ⌝ }
 {
     let mut i: usize = 0;
     let mut at = from;
-    let mut k = n;
+    let mut k = count;
     while 0 < k {
-        if p.len() - at < 2 {
+        if component.len() - at < layout::PAIR_WIDTH {
             return Next::Fault(4);
         }
-        if !pair_fine(&p[at..], z) {
+        if !pair_fine(&component[at..], sizes) {
             return Next::Fault(5);
         }
-        if listed_before(&p[from..], i, p[at]) {
+        if listed_before(&component[from..], i, component[at]) {
             return Next::Fault(6);
         }
-        at += 2;
+        at += layout::PAIR_WIDTH;
         i += 1;
         k -= 1;
     }
@@ -173,30 +193,30 @@ fn pairs(p: &[u8], from: usize, n: u8, z: Sizes) -> Next
 }
 
 // The channel of a send edge.
-fn channel(p: &[u8], at: usize, z: Sizes) -> Next
-    requires { ⌜ at ≤ length (now p) ⌝ }
-    ensures { λ r. ⌜ Passed (now (p .entry)) at r (readChannel z (drop at (now (p .entry)))) ⌝ }
+fn channel(component: &[u8], at: usize, sizes: Sizes) -> Next
+    requires { ⌜ at ≤ length (now component) ⌝ }
+    ensures { λ r. ⌜ Passed (now (component .entry)) at r (readChannel sizes (drop at (now (component .entry)))) ⌝ }
 {
-    if p.len() - at < 1 {
+    if component.len() - at < 1 {
         return Next::Fault(4);
     }
-    if z.channels <= p[at] {
+    if sizes.channels <= component[at] {
         return Next::Fault(5);
     }
     Next::At(at + 1)
 }
 
-fn items(p: &[u8], at: usize, kind: u8, n: u8, z: Sizes) -> Next
-    requires { ⌜ at ≤ length (now p) ⌝ }
-    ensures { λ r. ⌜ Passed (now (p .entry)) at r (readItems z kind n (drop at (now (p .entry)))) ⌝ }
+fn items(component: &[u8], at: usize, kind: u8, count: u8, sizes: Sizes) -> Next
+    requires { ⌜ at ≤ length (now component) ⌝ }
+    ensures { λ r. ⌜ Passed (now (component .entry)) at r (readItems sizes kind count (drop at (now (component .entry)))) ⌝ }
 {
     if kind == 0 {
-        return parts(p, at, n, Kind::Updates, z);
+        return parts(component, at, count, Kind::Updates, sizes);
     }
     if kind == 1 {
-        return channel(p, at, z);
+        return channel(component, at, sizes);
     }
-    pairs(p, at, n, z)
+    pairs(component, at, count, sizes)
 }
 
 fn counts_fine(kind: u8, guards: u8, items: u8) -> bool
@@ -225,57 +245,85 @@ fn mask_limit(clocks: u8) -> u8
     }
 }
 
-fn edge_fine(h: &[u8], z: Sizes) -> bool
-    requires { ⌜ (7 ≤ length (now h)) × (z .clocks ≤ 4) ⌝ }
-    ensures { λ r. ⌜ r ≡ edgeFine z (now (h .entry)) ⌝ }
+fn edge_fine(bytes: &[u8], sizes: Sizes) -> bool
+    requires { ⌜ (7 ≤ length (now bytes)) × (sizes .clocks ≤ 4) ⌝ }
+    ensures { λ r. ⌜ r ≡ edgeFine sizes (now (bytes .entry)) ⌝ }
 {
-    let kind = h[0];
-    let ends = both(both(kind <= 2, h[1] < z.locations), h[2] < z.locations);
-    let masked = both(ends, h[3] < mask_limit(z.clocks));
-    both(both(masked, h[4] <= 4), counts_fine(kind, h[5], h[6]))
+    let kind = bytes[layout::EDGE_KIND];
+    let ends = both(
+        both(kind <= 2, bytes[layout::EDGE_SOURCE] < sizes.locations),
+        bytes[layout::EDGE_DESTINATION] < sizes.locations,
+    );
+    let masked = both(ends, bytes[layout::EDGE_MASK] < mask_limit(sizes.clocks));
+    both(
+        both(masked, bytes[layout::EDGE_CLOCK_GUARDS] <= 4),
+        counts_fine(
+            kind,
+            bytes[layout::EDGE_DATA_GUARDS],
+            bytes[layout::EDGE_ITEMS],
+        ),
+    )
 }
 
 // What follows the 7 bytes of the edge at a place: clock bounds, data bounds, items.
-fn arc_body(p: &[u8], at: usize, z: Sizes) -> Next
-    requires { ⌜ at + 7 ≤ length (now p) ⌝ }
-    ensures { λ r. ⌜ Passed (now (p .entry)) (at + 7) r (readArcBody z (drop at (now (p .entry))) (drop (at + 7) (now (p .entry)))) ⌝ }
+fn arc_body(component: &[u8], at: usize, sizes: Sizes) -> Next
+    requires { ⌜ at + 7 ≤ length (now component) ⌝ }
+    ensures { λ r. ⌜ Passed (now (component .entry)) (at + 7) r (readArcBody sizes (drop at (now (component .entry))) (drop (at + 7) (now (component .entry)))) ⌝ }
 {
-    let c = parts(p, at + 7, p[at + 4], Kind::ClockGuards, z);
+    let c = parts(
+        component,
+        at + layout::EDGE_HEADER,
+        component[at + layout::EDGE_CLOCK_GUARDS],
+        Kind::ClockGuards,
+        sizes,
+    );
     match c {
         Next::Fault(k) => Next::Fault(k),
         Next::At(a) => {
-            let d = parts(p, a, p[at + 5], Kind::DataGuards, z);
+            let d = parts(
+                component,
+                a,
+                component[at + layout::EDGE_DATA_GUARDS],
+                Kind::DataGuards,
+                sizes,
+            );
             match d {
                 Next::Fault(k) => Next::Fault(k),
-                Next::At(b) => items(p, b, p[at], p[at + 6], z),
+                Next::At(b) => items(
+                    component,
+                    b,
+                    component[at],
+                    component[at + layout::EDGE_ITEMS],
+                    sizes,
+                ),
             }
         }
     }
 }
 
 // An edge: its 7 bytes, and what follows them.
-fn arc(p: &[u8], at: usize, z: Sizes) -> Next
-    requires { ⌜ (at ≤ length (now p)) × (z .clocks ≤ 4) ⌝ }
-    ensures { λ r. ⌜ Passed (now (p .entry)) at r (readArc z (drop at (now (p .entry)))) ⌝ }
+fn arc(component: &[u8], at: usize, sizes: Sizes) -> Next
+    requires { ⌜ (at ≤ length (now component)) × (sizes .clocks ≤ 4) ⌝ }
+    ensures { λ r. ⌜ Passed (now (component .entry)) at r (readArc sizes (drop at (now (component .entry)))) ⌝ }
 {
-    if p.len() - at < 7 {
+    if component.len() - at < layout::EDGE_HEADER {
         return Next::Fault(4);
     }
-    if !edge_fine(&p[at..], z) {
+    if !edge_fine(&component[at..], sizes) {
         return Next::Fault(5);
     }
-    arc_body(p, at, z)
+    arc_body(component, at, sizes)
 }
 
 // n edges.
-pub fn arcs(p: &[u8], from: usize, n: u8, z: Sizes) -> Next
-    requires { ⌜ (from ≤ length (now p)) × (z .clocks ≤ 4) ⌝ }
-    ensures { λ r. ⌜ Passed (now (p .entry)) from r (many (readArc z) n (drop from (now (p .entry)))) ⌝ }
+pub fn arcs(component: &[u8], from: usize, count: u8, sizes: Sizes) -> Next
+    requires { ⌜ (from ≤ length (now component)) × (sizes .clocks ≤ 4) ⌝ }
+    ensures { λ r. ⌜ Passed (now (component .entry)) from r (many (readArc sizes) count (drop from (now (component .entry)))) ⌝ }
 {
     let mut at = from;
-    let mut k = n;
+    let mut k = count;
     while 0 < k {
-        let r = arc(p, at, z);
+        let r = arc(component, at, sizes);
         match r {
             Next::Fault(f) => {
                 return Next::Fault(f);

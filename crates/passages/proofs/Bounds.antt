@@ -18,12 +18,12 @@ use Rattle.model.specs.Schedule.{Passage, passageArc, earliest, heardBy, carrie
 use Rattle.model.specs.Checks.{limit, acceptedScheduleOf}
 use Rattle.model.specs.Calls.{acceptedScheduleIn}
 use Rattle.model.specs.Chains.{IsSchedule}
-use Rattle.model.proofs.Parts.{after-ok}
-use Rattle.model.proofs.Own.{in-all, all-in}
-use Rattle.model.proofs.Passages.{Entered, entered}
-use Rattle.model.proofs.RoundTrip.{written-read}
-use Rattle.model.proofs.NodeWorking.{arc-in}
-use Rattle.model.proofs.WholeTied.{Given, schedule-at, given, component-in}
+use Rattle.model.proofs.Reader.Parts.{after-ok}
+use Rattle.model.proofs.Schedule.Own.{in-all, all-in}
+use Rattle.model.proofs.Schedule.Passages.{Entered, entered}
+use Rattle.model.proofs.Reader.RoundTrip.{written-read}
+use Rattle.model.proofs.Node.Working.{arc-in}
+use Rattle.model.proofs.Run.Tied.{Given, schedule-at, given, component-in}
 
 -- ## Channels
 

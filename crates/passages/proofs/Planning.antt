@@ -13,8 +13,8 @@ use Rattle.model.specs.Lists.{Answer, accepted, refused, Bytes, each}
 use Rattle.model.specs.Schedule.{sevenOf}
 use Rattle.model.specs.Checks.{noPassage, passageAt}
 use Rattle.model.specs.Calls.{Call, verdictOf, acceptedScheduleIn, scheduleWith, scheduleCall}
-use Rattle.model.proofs.Walk.{all-at}
-use Rattle.model.proofs.Located.{are-bytes}
+use Rattle.model.proofs.Basics.Walk.{all-at}
+use Rattle.model.proofs.Reader.Located.{are-bytes}
 use Rattle.table.proofs.Answered.{verdict-refused, verdict-accepted}
 use Rattle.schedule.proofs.Fields.{fields-length, laid-fits}
 use Rattle.calls.proofs.Answering.{call-refused}

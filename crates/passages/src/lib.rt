@@ -10,6 +10,7 @@ ghost use Rattle.passages.specs.Copied.{blank, copied};
 ghost use Rattle.passages.specs.Planned.{fromSeven, Small, SmallRows, Laid, Plans};
 use calls::Called;
 use model::Verdict;
+use model::layout;
 
 // A passage: its seven fields, 255 for no message.
 #[repr(C)]
@@ -35,19 +36,19 @@ fn passage_at(numbers: &[u32], i: usize) -> Passage
     requires { ⌜ (i * 7 + 7 ≤ length (now numbers)) × (i ≤ 1024) × Small (now numbers) i ⌝ }
     ensures { λ r. ⌜ r ≡ fromSeven (now (numbers .entry)) i ⌝ }
 {
-    let at = i * 7;
+    let at = i * layout::PASSAGE_WIDTH;
     let component = numbers[at];
-    let edge = numbers[at + 1];
-    let location = numbers[at + 2];
-    let message = numbers[at + 6];
+    let edge = numbers[at + layout::PASSAGE_EDGE];
+    let location = numbers[at + layout::PASSAGE_LOCATION];
+    let message = numbers[at + layout::PASSAGE_MESSAGE];
     Passage {
         component: component as u8,
         edge: edge as u8,
         location: location as u8,
         message: message as u8,
-        entry: numbers[at + 3],
-        ready: numbers[at + 4],
-        end: numbers[at + 5],
+        entry: numbers[at + layout::PASSAGE_ENTRY],
+        ready: numbers[at + layout::PASSAGE_READY],
+        end: numbers[at + layout::PASSAGE_END],
     }
 }
 
@@ -72,9 +73,9 @@ fn refused(number: u8, component: u8) -> Planned
 }
 
 // The first n passages of a list of numbers.
-fn laid_out(numbers: &[u32], n: usize) -> Planned
-    requires { ⌜ (n ≤ 1024) × (n * 7 ≤ length (now numbers)) × SmallRows (now numbers) n ⌝ }
-    ensures { λ r. ⌜ Laid (now (numbers .entry)) n r ⌝ }
+fn laid_out(numbers: &[u32], count: usize) -> Planned
+    requires { ⌜ (count ≤ 1024) × (count * 7 ≤ length (now numbers)) × SmallRows (now numbers) count ⌝ }
+    ensures { λ r. ⌜ Laid (now (numbers .entry)) count r ⌝ }
 {
     let none = Passage {
         component: 0,
@@ -87,13 +88,13 @@ fn laid_out(numbers: &[u32], n: usize) -> Planned
     };
     let mut items = [none; 1024];
     let mut i: usize = 0;
-    while i < n {
+    while i < count {
         items[i] = passage_at(numbers, i);
         i += 1;
     }
     Planned {
         items,
-        count: n,
+        count,
         verdict: Verdict::Accepted,
     }
 }
@@ -118,38 +119,38 @@ pub fn plan(table: &[u8], places: usize) -> Planned
 }
 
 // The items, as an array.
-pub fn items_of(p: Planned) -> [Passage; 1024]
-    ensures { λ r. ⌜ r ≡ p .items ⌝ }
+pub fn items_of(planned: Planned) -> [Passage; 1024]
+    ensures { λ r. ⌜ r ≡ planned .items ⌝ }
 {
-    p.items
+    planned.items
 }
 
-pub fn count_of(p: Planned) -> usize
-    ensures { λ r. ⌜ r ≡ p .count ⌝ }
+pub fn count_of(planned: Planned) -> usize
+    ensures { λ r. ⌜ r ≡ planned .count ⌝ }
 {
-    p.count
+    planned.count
 }
 
 // The first n items are stored in the lent list.
-pub fn fill(list: &mut [Passage], items: [Passage; 1024], n: usize)
-    requires { ⌜ (n ≤ length (now list)) × (n ≤ 1024) ⌝ }
-    ensures { λ _. ⌜ now (list .exit) ≡ copied (now (list .entry)) items n ⌝ }
+pub fn fill(list: &mut [Passage], items: [Passage; 1024], count: usize)
+    requires { ⌜ (count ≤ length (now list)) × (count ≤ 1024) ⌝ }
+    ensures { λ _. ⌜ now (list .exit) ≡ copied (now (list .entry)) items count ⌝ }
 {
     let mut i: usize = 0;
-    while i < n {
+    while i < count {
         list[i] = items[i];
         i += 1;
     }
 }
 
 // The answer.
-fn answer_of(p: Planned) -> Called
-    ensures { λ r. ⌜ (r .verdict ≡ p .verdict) × (r .size ≡ p .count) ⌝ }
+fn answer_of(planned: Planned) -> Called
+    ensures { λ r. ⌜ (r .verdict ≡ planned .verdict) × (r .size ≡ planned .count) ⌝ }
 {
-    let verdict = p.verdict;
+    let verdict = planned.verdict;
     Called {
         verdict,
-        size: p.count,
+        size: planned.count,
     }
 }
 
@@ -181,13 +182,13 @@ fn blanks() -> [Passage; 1024]
 }
 
 // A list and what was answered of it.
-fn answered(items: [Passage; 1024], c: Called) -> Planned
-    ensures { λ r. ⌜ (r .items ≡ items) × (r .count ≡ c .size) × (r .verdict ≡ c .verdict) ⌝ }
+fn answered(items: [Passage; 1024], called: Called) -> Planned
+    ensures { λ r. ⌜ (r .items ≡ items) × (r .count ≡ called .size) × (r .verdict ≡ called .verdict) ⌝ }
 {
-    let verdict = c.verdict;
+    let verdict = called.verdict;
     Planned {
         items,
-        count: c.size,
+        count: called.size,
         verdict,
     }
 }

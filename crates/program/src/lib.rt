@@ -2,6 +2,7 @@
 ghost use mathlib.Core.Path.{_≡_};
 ghost use Rattle.model.specs.Program.{partOf, within};
 ghost use Rattle.program.specs.Part.{Spans};
+use model::layout;
 
 // A range of bytes.
 pub struct Span {
@@ -13,13 +14,13 @@ pub struct Span {
 pub fn span_of(program: &[u8], node: u8) -> Span
     ensures { λ r. ⌜ Spans (now (program .entry)) r (partOf (now (program .entry)) node) ⌝ }
 {
-    if program.len() < 6 {
+    if program.len() < layout::PROGRAM_HEADER {
         return Span { start: 0, long: 0 };
     }
-    if program[3] <= node {
+    if program[layout::PROGRAM_COMPONENTS] <= node {
         return Span { start: 0, long: 0 };
     }
-    let mut at: usize = 6;
+    let mut at: usize = layout::PROGRAM_HEADER;
     let mut left = node;
     while at + 2 <= program.len() {
         let n = parts::word_at(program, at) as usize;

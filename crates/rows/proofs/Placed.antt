@@ -13,10 +13,10 @@ use Rattle.model.specs.Table.{Arc, sizesOf, noArc, size}
 use Rattle.model.specs.Limits.{ActionIn, ArcIn}
 use Rattle.model.specs.Places.{arcLength, arcAt, startOf, arcPlace, ComponentAt, Valid, readOf, componentIn}
 use Rattle.model.specs.Schedule.{passageArc}
-use Rattle.model.proofs.Words.{byte-small}
-use Rattle.model.proofs.Walk.{all-at}
-use Rattle.model.proofs.Located.{are-bytes, valid-read, valid-located, valid-in}
-use Rattle.model.proofs.RoundTrip.{written-read}
+use Rattle.model.proofs.Basics.Words.{byte-small}
+use Rattle.model.proofs.Basics.Walk.{all-at}
+use Rattle.model.proofs.Reader.Located.{are-bytes, valid-read, valid-located, valid-in}
+use Rattle.model.proofs.Reader.RoundTrip.{written-read}
 use Rattle.decoder.specs.Decoded.{Decodable}
 use Rattle.decoder.proofs.Callers.{decodable}
 use Rattle.parts.proofs.Skim.{tail}

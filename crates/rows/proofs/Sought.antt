@@ -12,7 +12,7 @@ use Rattle.model.specs.Table.{Table}
 use Rattle.model.specs.Window.{channelOf, listens}
 use Rattle.model.specs.Places.{readOf}
 use Rattle.model.specs.Schedule.{Passage, passageArc, names, others, heardBy, endsSooner, sooner, earliest, carried, messageIn}
-use Rattle.model.proofs.Bools.{clash}
+use Rattle.model.proofs.Basics.Bools.{clash}
 use Rattle.rows.specs.Rows.{num, inTime, rowPassage, rowsFrom, rowsOf, Linked, RowsPlaced, bestOf, heardRow, soonerFirst, heardFirst}
 
 -- ## Tests

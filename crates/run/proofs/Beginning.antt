@@ -14,7 +14,7 @@ use Rattle.model.specs.Schedule.{own}
 use Rattle.model.specs.Checks.{passageAt}
 use Rattle.model.specs.Program.{Range, noPart, partFrom, partOf}
 use Rattle.model.specs.Machine.{startNode, partBytes}
-use Rattle.model.proofs.Own.{all-then}
+use Rattle.model.proofs.Schedule.Own.{all-then}
 use Rattle.rows.specs.Rows.{num, rowsFrom, rowsOf}
 use Rattle.program.specs.declared.Span.{Span}
 use Rattle.program.specs.Part.{Spans}

@@ -13,8 +13,8 @@ use Rattle.model.specs.Places.{startOf, Valid, readOf, componentIn, ComponentAt
 use Rattle.model.specs.Limits.{ComponentIn}
 use Rattle.model.specs.Machine.{Node, startNode, partBytes}
 use Rattle.model.specs.Run.{Counts, startNodes, standOf}
-use Rattle.model.proofs.Located.{valid-located, valid-in}
-use Rattle.model.proofs.ProgramSize.{by-number}
+use Rattle.model.proofs.Reader.Located.{valid-located, valid-in}
+use Rattle.model.proofs.Basics.Sums.{by-number}
 use Rattle.rows.specs.Rows.{rowsOf}
 use Rattle.translator.proofs.Standing.{valid-count, few-nodes}
 use Rattle.registers.specs.Words.{nodeIn, partIn, heldIn, Eight, SameNode}

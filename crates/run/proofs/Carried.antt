@@ -9,8 +9,8 @@ use lib.Seq.{take-suc, drop-cons, append-snoc, sets, sets-eq, take-at, drop-drop
 use Rattle.model.specs.Lists.{each}
 use Rattle.model.specs.Network.{Observation}
 use Rattle.model.specs.Run.{Setting, Run, startRun, Outcome, forbidden, on, over, choose1, Result, ends, continue, runFrom, run, observationBytes}
-use Rattle.model.proofs.ObservationSize.{observations-long}
-use Rattle.model.proofs.ProgramSize.{each-join}
+use Rattle.model.proofs.Observations.Size.{observations-long}
+use Rattle.model.proofs.Basics.Sums.{each-join}
 use Rattle.run.specs.declared.Ended.{Ended}
 use Rattle.run.specs.Ends.{Roomy, EndsAs}
 

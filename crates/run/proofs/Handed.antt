@@ -15,9 +15,9 @@ use Rattle.model.specs.Schedule.{Passage, own, light}
 use Rattle.model.specs.Checks.{acceptedScheduleOf}
 use Rattle.model.specs.Program.{programBytes}
 use Rattle.model.specs.Run.{Counts, Setting, readyOfNth, settingOf, run}
-use Rattle.model.proofs.Independence.{only-map}
-use Rattle.model.proofs.Located.{valid-read, valid-located}
-use Rattle.model.proofs.WholeFew.{few}
+use Rattle.model.proofs.Checks.Independence.{only-map}
+use Rattle.model.proofs.Reader.Located.{valid-read, valid-located}
+use Rattle.model.proofs.Run.Few.{few}
 use Rattle.rows.specs.Rows.{rowsOf}
 use Rattle.machine.specs.Running.{countsAt, settingIn}
 use Rattle.run.specs.Ends.{Roomy, EndsAs, Started, Planned}

@@ -12,8 +12,8 @@ use lib.Seq.{sets}
 use Rattle.model.specs.Lists.{any, each, below}
 use Rattle.model.specs.Network.{Observation}
 use Rattle.model.specs.Run.{Setting, Run, startRun, forbidden, on, over, nodeOf, standOf, sleeping, observes, ticked, afterTick, lateNodes, choose1, noNode, ends, run, observationBytes}
-use Rattle.model.proofs.Bools.{and-is}
-use Rattle.model.proofs.Own.{all-then}
+use Rattle.model.proofs.Basics.Bools.{and-is}
+use Rattle.model.proofs.Schedule.Own.{all-then}
 use Rattle.node.specs.declared.Node.{Node}
 use Rattle.node.specs.Views.{Within}
 use Rattle.registers.specs.Words.{wordIn, nodeIn, partIn}

@@ -17,7 +17,7 @@ use Rattle.model.specs.Schedule.{Passage, own}
 use Rattle.model.specs.Checks.{noPassage, passageAt}
 use Rattle.model.specs.Machine.{Node}
 use Rattle.model.specs.Run.{Setting, readyOfNth, Run, Stand, sleeping, sending, listening, finishing, adding, working, taking, elsewhere, nowhere, standOf, due, someDue, overdue, late, lateNodes}
-use Rattle.model.proofs.Own.{own-here}
+use Rattle.model.proofs.Schedule.Own.{own-here}
 use Rattle.rows.specs.Rows.{rowsOf}
 use Rattle.stand.specs.Stands.{never, dueTick, lastTick}
 use Rattle.registers.specs.Words.{wordIn}

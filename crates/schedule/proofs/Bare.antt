@@ -10,7 +10,7 @@ use Rattle.model.specs.Window.{channelOf, listens}
 use Rattle.model.specs.Schedule.{Passage, passageArc, heardBy, endsSooner, sooner, earliest, carried, messageIn, withMessage, finished, light, bare}
 use Rattle.model.specs.Checks.{isSend, isReceive, meets, collides, mayHear, heardWell, unheard, two, crowded, faultOf, checked}
 use Rattle.model.specs.Calls.{verdictOf}
-use Rattle.model.proofs.Independence.{only-map}
+use Rattle.model.proofs.Checks.Independence.{only-map}
 
 -- ## Messages
 

@@ -17,7 +17,7 @@ use Rattle.model.specs.Table.{Component, Table, noComponent, size, componentOf}
 use Rattle.model.specs.Schedule.{Passage, startEntry, opening, begin, next, closing, goOn, OpenedSoFar}
 use Rattle.model.specs.Schedule.{opened as put}
 use Rattle.model.specs.Checks.{passageAt}
-use Rattle.model.proofs.Soonest.{EndsBefore, closes-next}
+use Rattle.model.proofs.Schedule.Soonest.{EndsBefore, closes-next}
 use Rattle.schedule.specs.Going.{Soonest}
 
 -- ## The openings at tick 0

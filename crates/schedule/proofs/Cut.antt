@@ -22,9 +22,9 @@ use Rattle.model.specs.Table.{Arc, Component, sizesOf, noLocation, noArc, locat
 use Rattle.model.specs.Limits.{PairIn, ActionIn, ArcIn, ComponentIn}
 use Rattle.model.specs.Window.{Entry, Pick, readyOf, pastOf, dataHolds, considered, chosen, choice, inRange, newValue, updated, masked, aged, paired, leadsTo, leaves, receives, channelOf}
 use Rattle.model.specs.Schedule.{Passage, startEntry, passageOf, ranged, picked, opening}
-use Rattle.model.proofs.Walk.{all-at}
-use Rattle.model.proofs.Own.{all-then}
-use Rattle.model.proofs.Choice.{choice-taken}
+use Rattle.model.proofs.Basics.Walk.{all-at}
+use Rattle.model.proofs.Schedule.Own.{all-then}
+use Rattle.model.proofs.Window.Choice.{choice-taken}
 use Rattle.window.specs.declared.Opening.{Opening}
 use Rattle.window.specs.declared.Opening.the-variants.{Opens, Fails}
 use Rattle.window.specs.Views.{openingOf}

@@ -17,8 +17,8 @@ use Rattle.model.specs.Places.{startOf, readOf, componentIn}
 use Rattle.model.specs.Schedule.{Passage, passageOf, opening, OpenedSoFar, bare}
 use Rattle.model.specs.Schedule.{opened as put}
 use Rattle.model.specs.Checks.{passageAt}
-use Rattle.model.proofs.Own.{at-set, at-snoc}
-use Rattle.model.proofs.Opening.{opened}
+use Rattle.model.proofs.Schedule.Own.{at-set, at-snoc}
+use Rattle.model.proofs.Window.Opening.{opened}
 use Rattle.window.specs.declared.Entry.{Entry}
 use Rattle.window.specs.declared.Opening.{Opening}
 use Rattle.window.specs.declared.Opening.the-variants.{Opens, Fails}

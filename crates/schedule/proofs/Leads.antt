@@ -12,7 +12,7 @@ use Rattle.model.specs.Limits.{ComponentIn}
 use Rattle.model.specs.Window.{leadsTo, leaves}
 use Rattle.model.specs.Places.{arcAt, readOf, componentIn}
 use Rattle.model.specs.Schedule.{passageArc, messageIn}
-use Rattle.model.proofs.Located.{valid-in}
+use Rattle.model.proofs.Reader.Located.{valid-in}
 use Rattle.parts.proofs.Skim.{tail}
 use Rattle.window.specs.declared.Entry.{Entry}
 use Rattle.window.specs.Views.{ArcReady, entryOf}

@@ -12,8 +12,8 @@ use Rattle.model.specs.Table.{size}
 use Rattle.model.specs.Limits.{ComponentIn}
 use Rattle.model.specs.Reader.{byte, word}
 use Rattle.model.specs.Places.{arcPlace, startOf, ComponentAt, Valid, readOf, componentIn}
-use Rattle.model.proofs.Located.{valid-read, valid-located, valid-in}
-use Rattle.model.proofs.RoundTrip.{written-read}
+use Rattle.model.proofs.Reader.Located.{valid-read, valid-located, valid-in}
+use Rattle.model.proofs.Reader.RoundTrip.{written-read}
 use Rattle.table.specs.Directory.{startsOf}
 use Rattle.window.specs.declared.Opening.{Opening}
 use Rattle.window.specs.declared.Opening.the-variants.{Opens}

@@ -12,7 +12,7 @@ use Rattle.model.specs.Places.{readOf}
 use Rattle.model.specs.Schedule.{Passage, messageIn, withMessage, goOn, finished, schedule, light}
 use Rattle.model.specs.Checks.{limit, checked, acceptedSchedule}
 use Rattle.model.specs.Calls.{verdictOf}
-use Rattle.model.proofs.Heard.{checked-is}
+use Rattle.model.proofs.Checks.Heard.{checked-is}
 use Rattle.table.proofs.Answered.{verdict-accepted}
 use Rattle.rows.specs.Rows.{rowsOf, RowsPlaced, MessagesPut}
 use Rattle.rows.proofs.Grown.{put-placed, rows-finished}

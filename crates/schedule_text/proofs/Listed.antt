@@ -6,7 +6,7 @@ use native.Mathlib.Numerals.{add-one}
 use lib.ListN.{length, getD, take}
 use lib.Seq.{take-suc}
 use Rattle.model.specs.Lists.{each}
-use Rattle.model.proofs.ProgramSize.{each-join}
+use Rattle.model.proofs.Basics.Sums.{each-join}
 use Rattle.passages.specs.declared.Passage.{Passage}
 use Rattle.text.specs.Words.{ascii, Added}
 use Rattle.schedule_text.specs.ScheduleText.{passageLine, scheduleText, shown}

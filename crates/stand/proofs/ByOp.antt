@@ -15,7 +15,7 @@ use Rattle.model.specs.Places.{listAt}
 use Rattle.model.specs.Window.{Pick}
 use Rattle.model.specs.Machine.{Node, decodings, pairAt}
 use Rattle.model.specs.Run.{Stand, sleeping, sending, listening, finishing, adding, working, taking, elsewhere, nowhere, names, standAt, windowEnd}
-use Rattle.model.proofs.Bools.{clash}
+use Rattle.model.proofs.Basics.Bools.{clash}
 use Rattle.node.specs.declared.Kept.{Kept}
 use Rattle.node.specs.Views.{restAt, opIn, keptOf}
 use Rattle.node.proofs.Ops.{Op, absent, present, op-is, opens, stood, stand-any, stand-op}

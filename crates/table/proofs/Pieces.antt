@@ -8,7 +8,7 @@ use borrow.Author.Tests.{le-leb, lt-leb}
 use lib.ListN.{length, drop, drop-of-length-le}
 use lib.Seq.{drop-cons}
 use Rattle.model.specs.Table.{Component}
-use Rattle.model.proofs.Bools.{tests}
+use Rattle.model.proofs.Basics.Bools.{tests}
 use Rattle.model.specs.Reader.{byte, many, readLocation, readArc, headFine, sizesAt, componentWith, finished, readBody, readComponent}
 use Rattle.parts.specs.declared.Kind.the-variants.{Locations}
 use Rattle.table.specs.declared.Tried.{Tried}

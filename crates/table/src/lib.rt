@@ -6,6 +6,7 @@ ghost use Rattle.model.specs.Reader.{headFine, readBody, readComponent, readCom
 ghost use Rattle.table.specs.Directory.{triedOf, refusal, readingFrom, readingOf};
 use model::Sizes;
 use model::Verdict;
+use model::layout;
 use parts::Kind;
 use parts::Next;
 
@@ -21,40 +22,49 @@ pub struct Reading {
     pub starts: [u16; 8],
 }
 
-fn head_fine(h: &[u8]) -> bool
-    requires { ⌜ 7 ≤ length (now h) ⌝ }
-    ensures { λ r. ⌜ r ≡ headFine (now (h .entry)) ⌝ }
+fn head_fine(component: &[u8]) -> bool
+    requires { ⌜ 7 ≤ length (now component) ⌝ }
+    ensures { λ r. ⌜ r ≡ headFine (now (component .entry)) ⌝ }
 {
-    let n = h[2];
-    let places = parts::both(parts::both(1 <= n, n <= 16), h[3] < n);
-    let clocks = parts::both(parts::both(places, 1 <= h[4]), h[4] <= 4);
+    let n = component[layout::COMPONENT_LOCATIONS];
+    let places = parts::both(
+        parts::both(1 <= n, n <= 16),
+        component[layout::COMPONENT_INITIAL] < n,
+    );
+    let clocks = parts::both(
+        parts::both(places, 1 <= component[layout::COMPONENT_CLOCKS]),
+        component[layout::COMPONENT_CLOCKS] <= 4,
+    );
     parts::both(
-        parts::both(parts::both(clocks, h[5] <= 4), 1 <= h[6]),
-        h[6] <= 32,
+        parts::both(
+            parts::both(clocks, component[layout::COMPONENT_VARIABLES] <= 4),
+            1 <= component[layout::COMPONENT_EDGES],
+        ),
+        component[layout::COMPONENT_EDGES] <= 32,
     )
 }
 
 // The locations and edges of a component, after its first 7 bytes.
-fn body(p: &[u8], channels: u8) -> Tried
-    requires { ⌜ (7 ≤ length (now p)) × (getD (now p) 4 0 ≤ 4) ⌝ }
-    ensures { λ r. ⌜ r ≡ triedOf (readBody channels (now (p .entry)) (drop 7 (now (p .entry)))) ⌝ }
+fn body(component: &[u8], channels: u8) -> Tried
+    requires { ⌜ (7 ≤ length (now component)) × (getD (now component) 4 0 ≤ 4) ⌝ }
+    ensures { λ r. ⌜ r ≡ triedOf (readBody channels (now (component .entry)) (drop 7 (now (component .entry)))) ⌝ }
 {
-    let n = p[2];
+    let n = component[layout::COMPONENT_LOCATIONS];
     let z = Sizes {
         channels,
         locations: n,
-        clocks: p[4],
-        variables: p[5],
+        clocks: component[layout::COMPONENT_CLOCKS],
+        variables: component[layout::COMPONENT_VARIABLES],
     };
-    let l = parts::parts(p, 7, n, Kind::Locations, z);
+    let l = parts::parts(component, layout::COMPONENT_HEADER, n, Kind::Locations, z);
     match l {
         Next::Fault(k) => Tried::Fails(k),
         Next::At(a) => {
-            let e = parts::arcs(p, a, p[6], z);
+            let e = parts::arcs(component, a, component[layout::COMPONENT_EDGES], z);
             match e {
                 Next::Fault(k) => Tried::Fails(k),
                 Next::At(b) => {
-                    if b < p.len() {
+                    if b < component.len() {
                         Tried::Fails(4)
                     } else {
                         Tried::Fine
@@ -66,16 +76,16 @@ fn body(p: &[u8], channels: u8) -> Tried
 }
 
 // A component, from its own bytes.
-fn component(p: &[u8], channels: u8) -> Tried
-    ensures { λ r. ⌜ r ≡ triedOf (readComponent channels (now (p .entry))) ⌝ }
+fn component(bytes: &[u8], channels: u8) -> Tried
+    ensures { λ r. ⌜ r ≡ triedOf (readComponent channels (now (bytes .entry))) ⌝ }
 {
-    if p.len() < 7 {
+    if bytes.len() < layout::COMPONENT_HEADER {
         return Tried::Fails(4);
     }
-    if !head_fine(p) {
+    if !head_fine(bytes) {
         return Tried::Fails(5);
     }
-    body(p, channels)
+    body(bytes, channels)
 }
 
 fn refused(number: u8, component: u8) -> Reading
@@ -88,22 +98,22 @@ fn refused(number: u8, component: u8) -> Reading
 }
 
 // The components, one after the other, to the table's end.
-fn components(s: &[u8], count: u8, channels: u8) -> Reading
-    requires { ⌜ (7 ≤ length (now s)) × (length (now s) ≤ 8192) × (1 ≤ count) × (count ≤ 8) ⌝ }
-    ensures { λ r. ⌜ r ≡ readingFrom (now (s .entry)) count (readComponents channels count 0 (drop 7 (now (s .entry)))) ⌝ }
+fn components(table: &[u8], count: u8, channels: u8) -> Reading
+    requires { ⌜ (7 ≤ length (now table)) × (length (now table) ≤ 8192) × (1 ≤ count) × (count ≤ 8) ⌝ }
+    ensures { λ r. ⌜ r ≡ readingFrom (now (table .entry)) count (readComponents channels count 0 (drop 7 (now (table .entry)))) ⌝ }
 {
     let mut starts = [0u16; 8];
-    let mut at: usize = 7;
+    let mut at: usize = layout::TABLE_HEADER;
     let mut c: u8 = 0;
     while c < count {
-        if s.len() - at < 2 {
+        if table.len() - at < 2 {
             return refused(4, c);
         }
-        let n = parts::word_at(s, at) as usize;
-        if s.len() - at < n {
+        let n = parts::word_at(table, at) as usize;
+        if table.len() - at < n {
             return refused(4, c);
         }
-        let t = component(&s[at..at + n], channels);
+        let t = component(&table[at..at + n], channels);
         match t {
             Tried::Fails(k) => {
                 return refused(k, c);
@@ -114,7 +124,7 @@ fn components(s: &[u8], count: u8, channels: u8) -> Reading
         at += n;
         c += 1;
     }
-    if at < s.len() {
+    if at < table.len() {
         return refused(4, count - 1);
     }
     Reading {
@@ -123,29 +133,32 @@ fn components(s: &[u8], count: u8, channels: u8) -> Reading
     }
 }
 
-fn length_fine(s: &[u8]) -> bool
-    ensures { λ r. ⌜ r ≡ lengthFine (now (s .entry)) ⌝ }
+fn length_fine(table: &[u8]) -> bool
+    ensures { λ r. ⌜ r ≡ lengthFine (now (table .entry)) ⌝ }
 {
-    let n = s.len();
-    if n < 7 {
+    let n = table.len();
+    if n < layout::TABLE_HEADER {
         return false;
     }
     parts::both(
-        parts::both(7 <= n, n <= 8192),
-        parts::word_at(s, 1) as usize == n,
+        parts::both(layout::TABLE_HEADER <= n, n <= 8192),
+        parts::word_at(table, layout::TABLE_LENGTH) as usize == n,
     )
 }
 
-fn count_fine(s: &[u8]) -> bool
-    requires { ⌜ 7 ≤ length (now s) ⌝ }
-    ensures { λ r. ⌜ r ≡ countFine (now (s .entry)) ⌝ }
+fn count_fine(table: &[u8]) -> bool
+    requires { ⌜ 7 ≤ length (now table) ⌝ }
+    ensures { λ r. ⌜ r ≡ countFine (now (table .entry)) ⌝ }
 {
-    let n = s[3];
-    let h = parts::word_at(s, 5);
+    let n = table[layout::TABLE_COMPONENTS];
+    let horizon = parts::word_at(table, layout::TABLE_HORIZON);
     let nodes = parts::both(1 <= n, n <= 8);
     parts::both(
-        parts::both(parts::both(nodes, s[4] <= 16), 1 <= h),
-        h <= 60000,
+        parts::both(
+            parts::both(nodes, table[layout::TABLE_CHANNELS] <= 16),
+            1 <= horizon,
+        ),
+        horizon <= 60000,
     )
 }
 
@@ -156,7 +169,7 @@ pub fn read(table: &[u8]) -> Reading
     if table.len() < 1 {
         return refused(1, 255);
     }
-    if table[0] != 1 {
+    if table[layout::TABLE_VERSION] != 1 {
         return refused(1, 255);
     }
     if !length_fine(table) {
@@ -165,5 +178,9 @@ pub fn read(table: &[u8]) -> Reading
     if !count_fine(table) {
         return refused(3, 255);
     }
-    components(table, table[3], table[4])
+    components(
+        table,
+        table[layout::TABLE_COMPONENTS],
+        table[layout::TABLE_CHANNELS],
+    )
 }

@@ -92,10 +92,10 @@ pub struct MeetingsNumbers {
 }
 
 // A verdict as two numbers.
-fn verdict_numbers(v: Verdict) -> VerdictNumbers
-    ensures { λ r. ⌜ (r .number ≡ numberOf v) × (r .component ≡ concernedOf v) ⌝ }
+fn verdict_numbers(verdict: Verdict) -> VerdictNumbers
+    ensures { λ r. ⌜ (r .number ≡ numberOf verdict) × (r .component ≡ concernedOf verdict) ⌝ }
 {
-    match v {
+    match verdict {
         Verdict::Accepted => VerdictNumbers {
             number: 0,
             component: 255,
@@ -108,15 +108,15 @@ fn verdict_numbers(v: Verdict) -> VerdictNumbers
 }
 
 // What was listed, as numbers.
-fn meetings_numbers(m: Listed) -> MeetingsNumbers
-    requires { ⌜ m .size ≤ 65535 ⌝ }
-    ensures { λ r. ⌜ (r .number ≡ numberOf (m .verdict)) × (r .component ≡ concernedOf (m .verdict)) × (r .refusal ≡ numberOf (m .table)) × (r .concerned ≡ concernedOf (m .table)) × (r .size ≡ m .size) ⌝ }
+fn meetings_numbers(listed: Listed) -> MeetingsNumbers
+    requires { ⌜ listed .size ≤ 65535 ⌝ }
+    ensures { λ r. ⌜ (r .number ≡ numberOf (listed .verdict)) × (r .component ≡ concernedOf (listed .verdict)) × (r .refusal ≡ numberOf (listed .table)) × (r .concerned ≡ concernedOf (listed .table)) × (r .size ≡ listed .size) ⌝ }
 {
-    let verdict = m.verdict;
-    let table = m.table;
+    let verdict = listed.verdict;
+    let table = listed.table;
     let own = verdict_numbers(verdict);
     let judged = verdict_numbers(table);
-    let size = m.size as u32;
+    let size = listed.size as u32;
     MeetingsNumbers {
         number: own.number,
         component: own.component,
@@ -127,12 +127,12 @@ fn meetings_numbers(m: Listed) -> MeetingsNumbers
 }
 
 // A call's answer as numbers.
-fn numbers_of(c: Called) -> CallNumbers
-    requires { ⌜ c .size ≤ 65535 ⌝ }
-    ensures { λ r. ⌜ (r .number ≡ numberOf (c .verdict)) × (r .component ≡ concernedOf (c .verdict)) × (r .size ≡ c .size) ⌝ }
+fn numbers_of(called: Called) -> CallNumbers
+    requires { ⌜ called .size ≤ 65535 ⌝ }
+    ensures { λ r. ⌜ (r .number ≡ numberOf (called .verdict)) × (r .component ≡ concernedOf (called .verdict)) × (r .size ≡ called .size) ⌝ }
 {
-    let v = c.verdict;
-    let size = c.size as u32;
+    let v = called.verdict;
+    let size = called.size as u32;
     match v {
         Verdict::Accepted => CallNumbers {
             number: 0,
@@ -247,26 +247,26 @@ pub extern "C" fn timed_network_meetings(table: &[u8], list: &mut [u32]) -> Meet
 
 // The registers at the start of the node's part.
 #[no_mangle]
-pub extern "C" fn timed_network_start(p: &[u8]) -> Node
-    ensures { λ r. ⌜ r ≡ startOf (now (p .entry)) ⌝ }
+pub extern "C" fn timed_network_start(part: &[u8]) -> Node
+    ensures { λ r. ⌜ r ≡ startOf (now (part .entry)) ⌝ }
 {
-    lent_node::start(p)
+    lent_node::start(part)
 }
 
 // One step on registers that are lent.
 #[no_mangle]
-pub extern "C" fn timed_network_step(r: &mut Node, p: &[u8], clocks: u8, variables: u8)
-    ensures { λ _. ⌜ now (r .exit) ≡ steppedOf (now (p .entry)) (heldOf clocks variables) (now (r .entry)) ⌝ }
+pub extern "C" fn timed_network_step(node: &mut Node, part: &[u8], clocks: u8, variables: u8)
+    ensures { λ _. ⌜ now (node .exit) ≡ steppedOf (now (part .entry)) (heldOf clocks variables) (now (node .entry)) ⌝ }
 {
-    let next = lent_node::stepped(p, clocks, variables, *r);
-    *r = next;
+    let next = lent_node::stepped(part, clocks, variables, *node);
+    *node = next;
 }
 
 // A message on the channel, taken by registers that are lent.
 #[no_mangle]
-pub extern "C" fn timed_network_take_message(r: &mut Node, p: &[u8], channel: u8)
-    ensures { λ _. ⌜ now (r .exit) ≡ messageOf (now (p .entry)) channel (now (r .entry)) ⌝ }
+pub extern "C" fn timed_network_take_message(node: &mut Node, part: &[u8], channel: u8)
+    ensures { λ _. ⌜ now (node .exit) ≡ messageOf (now (part .entry)) channel (now (node .entry)) ⌝ }
 {
-    let heard = lent_node::message_taken(p, channel, *r);
-    *r = heard;
+    let heard = lent_node::message_taken(part, channel, *node);
+    *node = heard;
 }

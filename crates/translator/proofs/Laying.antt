@@ -12,8 +12,9 @@ use Rattle.model.specs.Table.{noLocation}
 use Rattle.model.specs.Reader.{byte, locationAt}
 use Rattle.model.specs.Places.{listAt, arcLength, arcAt}
 use Rattle.model.specs.Program.{Statement, locationBlock, edgeBlockOf, blockBytes, statements, startBytes}
-use Rattle.model.proofs.Walk.{list-length, list-part}
-use Rattle.model.proofs.ProgramSize.{each-join, four, start-bytes-length}
+use Rattle.model.proofs.Basics.Walk.{list-length, list-part}
+use Rattle.model.proofs.Basics.Sums.{each-join}
+use Rattle.model.proofs.Program.Size.{four, start-bytes-length}
 use Rattle.parts.proofs.Skim.{tail}
 use Rattle.blocks.specs.Put.{Room, Put}
 use Rattle.blocks.specs.FrontEdges.{arcsAt, ArcsFit}

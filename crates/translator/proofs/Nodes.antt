@@ -9,8 +9,9 @@ use Rattle.model.specs.Table.{Component}
 use Rattle.model.specs.Reader.{byte, locationAt}
 use Rattle.model.specs.Places.{arcLength}
 use Rattle.model.specs.Program.{Statement, locationBlock, edgeBlockOf, blockBytes, blocks, startBytes, nodeBody, nodeBytes}
-use Rattle.model.proofs.Walk.{list-length}
-use Rattle.model.proofs.ProgramSize.{each-join, length-from, blocks-four, edge-blocks, start-bytes-length}
+use Rattle.model.proofs.Basics.Walk.{list-length}
+use Rattle.model.proofs.Basics.Sums.{each-join, length-from}
+use Rattle.model.proofs.Program.Size.{blocks-four, edge-blocks, start-bytes-length}
 use Rattle.parts.proofs.Skim.{tail}
 use Rattle.blocks.specs.Put.{Room, Put}
 use Rattle.blocks.specs.FrontEdges.{arcsAt}

@@ -11,8 +11,8 @@ use Rattle.model.specs.Table.{Read, noComponent, size}
 use Rattle.model.specs.Reader.{byte, word}
 use Rattle.model.specs.Places.{startOf, Valid, readOf, componentIn}
 use Rattle.model.specs.Program.{nodeBytes, programBytes}
-use Rattle.model.proofs.Located.{valid-located}
-use Rattle.model.proofs.ProgramSize.{program-fits}
+use Rattle.model.proofs.Reader.Located.{valid-located}
+use Rattle.model.proofs.Program.Size.{program-fits}
 use Rattle.blocks.specs.Put.{Room, Put}
 use Rattle.translator.specs.Front.{frontComponent, Whole}
 use Rattle.translator.specs.Laid.{programHead}

@@ -11,8 +11,9 @@ use Rattle.model.specs.Lists.{each}
 use Rattle.model.specs.Reader.{byte, word, clockGuardAt, dataGuardAt, updateAt, pairAt}
 use Rattle.model.specs.Places.{listAt, itemsPlace, arcLength, arcAt}
 use Rattle.model.specs.Program.{clockTests, code, blockBytes, nodeBytes}
-use Rattle.model.proofs.Walk.{list-length}
-use Rattle.model.proofs.ProgramSize.{total, trialLength, arcShare, workLength, Sourced, clock-tests-most, trial-parts, edge-block-length, node-length}
+use Rattle.model.proofs.Basics.Walk.{list-length}
+use Rattle.model.proofs.Basics.Sums.{total}
+use Rattle.model.proofs.Program.Size.{trialLength, arcShare, workLength, Sourced, clock-tests-most, trial-parts, edge-block-length, node-length}
 use Rattle.decoder.proofs.ByAction.{internal-updates, receive-pairs}
 use Rattle.parts.proofs.Skim.{tail}
 use Rattle.blocks.specs.declared.Kind.the-variants.{ClockGuards}

@@ -17,10 +17,10 @@ use Rattle.model.specs.Reader.{byte, locationAt}
 use Rattle.model.specs.Limits.{InLimits}
 use Rattle.model.specs.Places.{listAt, startOf, locationPlace, arcPlace, ComponentAt, Valid, readOf, componentIn}
 use Rattle.model.specs.Program.{nodeBytes}
-use Rattle.model.proofs.Walk.{list-length, list-part}
-use Rattle.model.proofs.RoundTrip.{written-read}
-use Rattle.model.proofs.Located.{are-bytes, valid-read, valid-located, valid-in}
-use Rattle.model.proofs.ProgramSize.{Sourced, sourced, node-fits}
+use Rattle.model.proofs.Basics.Walk.{list-length, list-part}
+use Rattle.model.proofs.Reader.RoundTrip.{written-read}
+use Rattle.model.proofs.Reader.Located.{are-bytes, valid-read, valid-located, valid-in}
+use Rattle.model.proofs.Program.Size.{Sourced, sourced, node-fits}
 use Rattle.parts.proofs.Skim.{tail}
 use Rattle.table.specs.Directory.{startsOf}
 use Rattle.blocks.specs.FrontEdges.{arcsAt, ArcsFit}

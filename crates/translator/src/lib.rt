@@ -7,7 +7,7 @@ ghost use Rattle.model.specs.Lists.{be16, each};
 ghost use Rattle.model.specs.Reader.{byte, clockGuardAt};
 ghost use Rattle.model.specs.Places.{arcLength, arcAt, Valid, readOf};
 ghost use Rattle.model.specs.Program.{clockTests, edgeBlockOf, blockBytes, nodeBytes, programBytes};
-ghost use Rattle.model.proofs.ProgramSize.{workLength, arcShare, Sourced};
+ghost use Rattle.model.proofs.Program.Size.{workLength, arcShare, Sourced};
 ghost use Rattle.table.specs.Directory.{startsOf};
 ghost use Rattle.blocks.specs.Put.{Room, Put};
 ghost use Rattle.blocks.specs.Made.{allMade};
@@ -16,19 +16,14 @@ ghost use Rattle.blocks.specs.declared.Kind.the-variants.{ClockGuards};
 ghost use Rattle.translator.specs.Front.{frontComponent, Whole};
 ghost use Rattle.translator.specs.Laid.{locationBlocks, Ready, Laid, Aligned, nodeHead, programHead};
 use model::Action;
+use model::layout;
 
-fn wide(x: u8) -> usize
-    ensures { λ r. ⌜ (r ≡ x) × (r < 256) ⌝ }
-{
-    x as usize
-}
-
-fn put_word(out: &mut [u8], at: usize, k: u16) -> usize
+fn put_word(out: &mut [u8], at: usize, number: u16) -> usize
     requires { ⌜ at + 2 ≤ length (now out) ⌝ }
-    ensures { λ r. ⌜ Put (now (out .entry)) at (be16 k) r (now (out .exit)) ⌝ }
+    ensures { λ r. ⌜ Put (now (out .entry)) at (be16 number) r (now (out .exit)) ⌝ }
 {
-    out[at] = (k / 256) as u8;
-    out[at + 1] = (k % 256) as u8;
+    out[at] = (number / 256) as u8;
+    out[at + 1] = (number % 256) as u8;
     at + 2
 }
 
@@ -41,19 +36,28 @@ fn statements_between(first: usize, at: usize) -> u16
 }
 
 // The blocks of the locations of the component at the front, from `first` on, and their starts.
-fn put_location_blocks(p: &[u8], out: &mut [u8], starts: usize, first: usize) -> usize
-    requires { ⌜ Whole (now p) × Ready (now out) 0 starts first (locationBlocks (frontComponent (now p))) ⌝ }
-    ensures { λ r. ⌜ Laid (now (out .entry)) 0 starts first (locationBlocks (frontComponent (now (p .entry)))) r (now (out .exit)) ⌝ }
+fn put_location_blocks(component: &[u8], out: &mut [u8], starts: usize, first: usize) -> usize
+    requires { ⌜ Whole (now component) × Ready (now out) 0 starts first (locationBlocks (frontComponent (now component))) ⌝ }
+    ensures { λ r. ⌜ Laid (now (out .entry)) 0 starts first (locationBlocks (frontComponent (now (component .entry)))) r (now (out .exit)) ⌝ }
 {
-    let n = p[2];
-    let edges = 7 + wide(n) * 3;
+    let n = component[layout::COMPONENT_LOCATIONS];
+    let edges = layout::COMPONENT_HEADER + parts::wide(n) * layout::LOCATION_WIDTH;
     let mut place = starts;
     let mut at = first;
     let mut here: u8 = 0;
     while here < n {
-        let l = decoder::location_at(&p[7 + wide(here) * 3..]);
+        let l = decoder::location_at(
+            &component[layout::COMPONENT_HEADER + parts::wide(here) * layout::LOCATION_WIDTH..],
+        );
         place = put_word(out, place, statements_between(first, at));
-        at = blocks::put_location_block(&p[edges..], p[6], here, l, out, at);
+        at = blocks::put_location_block(
+            &component[edges..],
+            component[layout::COMPONENT_EDGES],
+            here,
+            l,
+            out,
+            at,
+        );
         here += 1;
     }
     at
@@ -61,25 +65,25 @@ fn put_location_blocks(p: &[u8], out: &mut [u8], starts: usize, first: usize) ->
 
 // The blocks of the n edges at the front, from `from` on, and their starts.
 fn put_edge_blocks(
-    h: &[u8],
-    n: u8,
+    bytes: &[u8],
+    count: u8,
     clocks: u8,
     out: &mut [u8],
     starts: usize,
     first: usize,
     from: usize,
 ) -> usize
-    requires { ⌜ ArcsFit n (now h) × Aligned first from × Ready (now out) ((from - first) / 4) starts from (map (edgeBlockOf clocks) (arcsAt n (now h))) ⌝ }
-    ensures { λ r. ⌜ Laid (now (out .entry)) ((from - first) / 4) starts from (map (edgeBlockOf clocks) (arcsAt n (now (h .entry)))) r (now (out .exit)) ⌝ }
+    requires { ⌜ ArcsFit count (now bytes) × Aligned first from × Ready (now out) ((from - first) / 4) starts from (map (edgeBlockOf clocks) (arcsAt count (now bytes))) ⌝ }
+    ensures { λ r. ⌜ Laid (now (out .entry)) ((from - first) / 4) starts from (map (edgeBlockOf clocks) (arcsAt count (now (bytes .entry)))) r (now (out .exit)) ⌝ }
 {
     let mut edge: usize = 0;
     let mut place = starts;
     let mut at = from;
-    let mut k = n;
+    let mut k = count;
     while 0 < k {
         place = put_word(out, place, statements_between(first, at));
-        at = blocks::put_edge_block(&h[edge..], clocks, out, at);
-        edge += decoder::arc_length(&h[edge..]);
+        at = blocks::put_edge_block(&bytes[edge..], clocks, out, at);
+        edge += decoder::arc_length(&bytes[edge..]);
         k -= 1;
     }
     at
@@ -98,40 +102,55 @@ fn put_node_head(
 {
     out[at] = (long / 256) as u8;
     out[at + 1] = (long % 256) as u8;
-    out[at + 2] = locations;
-    out[at + 3] = edges;
-    out[at + 4] = initial;
+    out[at + layout::PART_LOCATIONS] = locations;
+    out[at + layout::PART_EDGES] = edges;
+    out[at + layout::PART_INITIAL] = initial;
     out[at + 5] = 0;
-    at + 6
+    at + layout::PART_HEADER
 }
 
 // The part of one node, from the component at the front.
-fn put_node(p: &[u8], out: &mut [u8], at: usize) -> usize
-    requires { ⌜ Whole (now p) × Room (now out) at (nodeBytes (frontComponent (now p))) × (length (nodeBytes (frontComponent (now p))) ≤ 24576) ⌝ }
-    ensures { λ r. ⌜ Put (now (out .entry)) at (nodeBytes (frontComponent (now (p .entry)))) r (now (out .exit)) ⌝ }
+fn put_node(component: &[u8], out: &mut [u8], at: usize) -> usize
+    requires { ⌜ Whole (now component) × Room (now out) at (nodeBytes (frontComponent (now component))) × (length (nodeBytes (frontComponent (now component))) ≤ 24576) ⌝ }
+    ensures { λ r. ⌜ Put (now (out .entry)) at (nodeBytes (frontComponent (now (component .entry)))) r (now (out .exit)) ⌝ }
 {
-    let n = p[2];
-    let m = p[6];
-    let edges = 7 + wide(n) * 3;
-    let starts = at + 6 + wide(n) * 2;
-    let first = starts + wide(m) * 2;
-    let from = put_location_blocks(p, out, at + 6, first);
-    let end = put_edge_blocks(&p[edges..], m, p[4], out, starts, first, from);
-    put_node_head(out, at, (end - at) as u16, n, m, p[3]);
+    let n = component[layout::COMPONENT_LOCATIONS];
+    let m = component[layout::COMPONENT_EDGES];
+    let edges = layout::COMPONENT_HEADER + parts::wide(n) * layout::LOCATION_WIDTH;
+    let starts = at + layout::PART_HEADER + parts::wide(n) * layout::START_WIDTH;
+    let first = starts + parts::wide(m) * layout::START_WIDTH;
+    let from = put_location_blocks(component, out, at + layout::PART_HEADER, first);
+    let end = put_edge_blocks(
+        &component[edges..],
+        m,
+        component[layout::COMPONENT_CLOCKS],
+        out,
+        starts,
+        first,
+        from,
+    );
+    put_node_head(
+        out,
+        at,
+        (end - at) as u16,
+        n,
+        m,
+        component[layout::COMPONENT_INITIAL],
+    );
     end
 }
 
 // The parts of all nodes.
-fn put_nodes(s: &[u8], starts: [u16; 8], out: &mut [u8], from: usize) -> usize
-    requires { ⌜ Valid (now s) × (starts ≡ startsOf (now s) (byte (now s) 3)) × Room (now out) from (each nodeBytes (readOf (now s) .table .components)) ⌝ }
-    ensures { λ r. ⌜ Put (now (out .entry)) from (each nodeBytes (readOf (now (s .entry)) .table .components)) r (now (out .exit)) ⌝ }
+fn put_nodes(table: &[u8], starts: [u16; 8], out: &mut [u8], from: usize) -> usize
+    requires { ⌜ Valid (now table) × (starts ≡ startsOf (now table) (byte (now table) 3)) × Room (now out) from (each nodeBytes (readOf (now table) .table .components)) ⌝ }
+    ensures { λ r. ⌜ Put (now (out .entry)) from (each nodeBytes (readOf (now (table .entry)) .table .components)) r (now (out .exit)) ⌝ }
 {
-    let count = s[3];
+    let count = table[layout::TABLE_COMPONENTS];
     let mut at = from;
     let mut c: u8 = 0;
     while c < count {
         let start = starts[c as usize] as usize;
-        at = put_node(&s[start..], out, at);
+        at = put_node(&table[start..], out, at);
         c += 1;
     }
     at
@@ -141,102 +160,112 @@ fn put_program_head(out: &mut [u8], long: u16, count: u8, horizon: u16) -> usize
     requires { ⌜ 6 ≤ length (now out) ⌝ }
     ensures { λ r. ⌜ Put (now (out .entry)) 0 (programHead long count horizon) r (now (out .exit)) ⌝ }
 {
-    out[0] = 1;
-    out[1] = (long / 256) as u8;
+    out[layout::PROGRAM_VERSION] = 1;
+    out[layout::PROGRAM_LENGTH] = (long / 256) as u8;
     out[2] = (long % 256) as u8;
-    out[3] = count;
-    out[4] = (horizon / 256) as u8;
+    out[layout::PROGRAM_COMPONENTS] = count;
+    out[layout::PROGRAM_HORIZON] = (horizon / 256) as u8;
     out[5] = (horizon % 256) as u8;
-    6
+    layout::PROGRAM_HEADER
 }
 
 // Writes the program; the bytes past it stay.
-pub fn write_program(s: &[u8], starts: [u16; 8], out: &mut [u8]) -> usize
-    requires { ⌜ Valid (now s) × (starts ≡ startsOf (now s) (byte (now s) 3)) × (length (programBytes (readOf (now s))) ≤ length (now out)) ⌝ }
-    ensures { λ r. ⌜ (r ≡ length (programBytes (readOf (now (s .entry))))) × (now (out .exit) ≡ programBytes (readOf (now (s .entry))) ++ drop (length (programBytes (readOf (now (s .entry))))) (now (out .entry))) ⌝ }
+pub fn write_program(table: &[u8], starts: [u16; 8], out: &mut [u8]) -> usize
+    requires { ⌜ Valid (now table) × (starts ≡ startsOf (now table) (byte (now table) 3)) × (length (programBytes (readOf (now table))) ≤ length (now out)) ⌝ }
+    ensures { λ r. ⌜ (r ≡ length (programBytes (readOf (now (table .entry))))) × (now (out .exit) ≡ programBytes (readOf (now (table .entry))) ++ drop (length (programBytes (readOf (now (table .entry))))) (now (out .entry))) ⌝ }
 {
-    let end = put_nodes(s, starts, out, 6);
-    put_program_head(out, end as u16, s[3], parts::word_at(s, 5));
+    let end = put_nodes(table, starts, out, layout::PROGRAM_HEADER);
+    put_program_head(
+        out,
+        end as u16,
+        table[layout::TABLE_COMPONENTS],
+        parts::word_at(table, layout::TABLE_HORIZON),
+    );
     end
 }
 
 // How many bytes the tests of a clock bound have.
-fn clock_length(h: &[u8]) -> usize
-    requires { ⌜ 5 ≤ length (now h) ⌝ }
-    ensures { λ r. ⌜ (r ≡ length (blockBytes (clockTests (clockGuardAt (now (h .entry)) ∷ [])))) × (r ≤ 8) ⌝ }
+fn clock_length(bytes: &[u8]) -> usize
+    requires { ⌜ 5 ≤ length (now bytes) ⌝ }
+    ensures { λ r. ⌜ (r ≡ length (blockBytes (clockTests (clockGuardAt (now (bytes .entry)) ∷ [])))) × (r ≤ 8) ⌝ }
 {
-    if parts::word_at(h, 3) == 65535 {
+    if parts::word_at(bytes, layout::GUARD_HIGH) == 65535 {
         return 4;
     }
     8
 }
 
-fn clocks_length(h: &[u8], n: u8) -> usize
-    requires { ⌜ n * 5 ≤ length (now h) ⌝ }
-    ensures { λ r. ⌜ (r ≡ length (allMade ClockGuards n (now (h .entry)))) × (r ≤ 2040) ⌝ }
+fn clocks_length(bytes: &[u8], count: u8) -> usize
+    requires { ⌜ count * 5 ≤ length (now bytes) ⌝ }
+    ensures { λ r. ⌜ (r ≡ length (allMade ClockGuards count (now (bytes .entry)))) × (r ≤ 2040) ⌝ }
 {
     let mut long: usize = 0;
     let mut place: usize = 0;
-    let mut k = n;
+    let mut k = count;
     while 0 < k {
-        long += clock_length(&h[place..]);
-        place += 5;
+        long += clock_length(&bytes[place..]);
+        place += layout::GUARD_WIDTH;
         k -= 1;
     }
     long
 }
 
-fn work_length(h: &[u8]) -> usize
-    requires { ⌜ arcLength (now h) ≤ length (now h) ⌝ }
-    ensures { λ r. ⌜ (r ≡ workLength (arcAt (now (h .entry))) (arcAt (now (h .entry)) .edge .action)) × (r ≤ 1024) ⌝ }
+fn work_length(bytes: &[u8]) -> usize
+    requires { ⌜ arcLength (now bytes) ≤ length (now bytes) ⌝ }
+    ensures { λ r. ⌜ (r ≡ workLength (arcAt (now (bytes .entry))) (arcAt (now (bytes .entry)) .edge .action)) × (r ≤ 1024) ⌝ }
 {
-    let action = decoder::action_at(h);
+    let action = decoder::action_at(bytes);
     match action {
-        Action::Internal => wide(h[6]) * 4 + 4,
+        Action::Internal => parts::wide(bytes[layout::EDGE_ITEMS]) * 4 + 4,
         Action::Send(_) => 4,
-        Action::Receive => wide(h[6]) * 4 + 4,
+        Action::Receive => parts::wide(bytes[layout::EDGE_ITEMS]) * 4 + 4,
     }
 }
 
 // How many bytes an edge adds to its node's part: its start, its trial and its block.
-fn arc_share(h: &[u8], clocks: u8) -> usize
-    requires { ⌜ arcLength (now h) ≤ length (now h) ⌝ }
-    ensures { λ r. ⌜ r ≡ arcShare clocks (arcAt (now (h .entry))) ⌝ }
+fn arc_share(bytes: &[u8], clocks: u8) -> usize
+    requires { ⌜ arcLength (now bytes) ≤ length (now bytes) ⌝ }
+    ensures { λ r. ⌜ r ≡ arcShare clocks (arcAt (now (bytes .entry))) ⌝ }
 {
-    let trial = 12 + clocks_length(&h[7..], h[4]) + wide(h[5]) * 8;
-    let block = 12 + work_length(h) + wide(clocks) * 4;
+    let trial = 12
+        + clocks_length(
+            &bytes[layout::EDGE_HEADER..],
+            bytes[layout::EDGE_CLOCK_GUARDS],
+        )
+        + parts::wide(bytes[layout::EDGE_DATA_GUARDS]) * 8;
+    let block = 12 + work_length(bytes) + parts::wide(clocks) * 4;
     2 + trial + block
 }
 
 // How many bytes a node's part has. Each edge has its trial in the block of its source.
-fn node_length(p: &[u8]) -> usize
-    requires { ⌜ Whole (now p) × Sourced (frontComponent (now p)) × (length (nodeBytes (frontComponent (now p))) ≤ 24576) ⌝ }
-    ensures { λ r. ⌜ r ≡ length (nodeBytes (frontComponent (now (p .entry)))) ⌝ }
+fn node_length(component: &[u8]) -> usize
+    requires { ⌜ Whole (now component) × Sourced (frontComponent (now component)) × (length (nodeBytes (frontComponent (now component))) ≤ 24576) ⌝ }
+    ensures { λ r. ⌜ r ≡ length (nodeBytes (frontComponent (now (component .entry)))) ⌝ }
 {
-    let n = wide(p[2]);
-    let clocks = p[4];
+    let n = parts::wide(component[layout::COMPONENT_LOCATIONS]);
+    let clocks = component[layout::COMPONENT_CLOCKS];
     let mut long = 6 + n * 6;
-    let mut edge = 7 + n * 3;
-    let mut k = p[6];
+    let mut edge = layout::COMPONENT_HEADER + n * layout::LOCATION_WIDTH;
+    let mut k = component[layout::COMPONENT_EDGES];
     while 0 < k {
-        long += arc_share(&p[edge..], clocks);
-        edge += decoder::arc_length(&p[edge..]);
+        long += arc_share(&component[edge..], clocks);
+        edge += decoder::arc_length(&component[edge..]);
         k -= 1;
     }
     long
 }
 
 // How many bytes the program has.
-pub fn program_length(s: &[u8], starts: [u16; 8]) -> usize
-    requires { ⌜ Valid (now s) × (starts ≡ startsOf (now s) (byte (now s) 3)) ⌝ }
-    ensures { λ r. ⌜ (r ≡ length (programBytes (readOf (now (s .entry))))) × (r ≤ 24576) ⌝ }
+pub fn program_length(table: &[u8], starts: [u16; 8]) -> usize
+    requires { ⌜ Valid (now table) × (starts ≡ startsOf (now table) (byte (now table) 3)) ⌝ }
+    ensures { λ r. ⌜ (r ≡ length (programBytes (readOf (now (table .entry))))) × (r ≤ 24576) ⌝ }
 {
-    let count = s[3];
-    let mut long: usize = 6;
+    let count = table[layout::TABLE_COMPONENTS];
+    let mut long: usize = layout::PROGRAM_HEADER;
     let mut c: u8 = 0;
     while c < count {
         let start = starts[c as usize] as usize;
-        long += node_length(&s[start..]);
+        long += node_length(&table[start..]);
         c += 1;
     }
     long

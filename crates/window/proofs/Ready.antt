@@ -14,8 +14,8 @@ use Rattle.model.specs.Table.{Arc, sizesOf, noLocation, noArc, size, locationOf
 use Rattle.model.specs.Limits.{ActionIn, ArcIn}
 use Rattle.model.specs.Reader.{byte}
 use Rattle.model.specs.Places.{arcLength, arcAt, arcPlace, startOf, ComponentAt, Valid, readOf, componentIn}
-use Rattle.model.proofs.Walk.{all-at}
-use Rattle.model.proofs.Located.{are-bytes, valid-located, valid-in}
+use Rattle.model.proofs.Basics.Walk.{all-at}
+use Rattle.model.proofs.Reader.Located.{are-bytes, valid-located, valid-in}
 use Rattle.parts.proofs.Skim.{tail}
 use Rattle.decoder.proofs.Callers.{decodable}
 use Rattle.window.specs.Views.{ArcReady}

@@ -16,7 +16,7 @@ returns c =
     let args = c .before .before .before .before .before .before .args in
     let if1 = c .before .before .before .before .if1 in
     let put-quad = c .before .before .put-quad in
-    put-is (zeroed (args .bits) (args .i) (if1 .taken)) (put-quad .ensures)
+    put-is (zeroed (args .bits) (args .clock) (if1 .taken)) (put-quad .ensures)
 
 put-quad-requires-2 : tie.Need-put-quad-requires-2
 put-quad-requires-2 c κs = search needs
@@ -29,7 +29,7 @@ returns-2 c =
     let args = c .before .before .before .before .before .before .args in
     let if1 = c .before .before .before .before .if1 in
     let put-quad2 = c .before .before .put-quad2 in
-    put-is (grown (args .bits) (args .i) (if1 .left)) (put-quad2 .ensures)
+    put-is (grown (args .bits) (args .clock) (if1 .left)) (put-quad2 .ensures)
 
 pub put-ageing-spec : {M : Type 1} → statement M
 put-ageing-spec =

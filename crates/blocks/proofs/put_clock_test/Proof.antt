@@ -21,7 +21,7 @@ put-quad-requires : tie.Need-put-quad-requires
 put-quad-requires c κs =
     let args = c .before .before .before .before .before .before .args in
     let pre = c .before .before .before .before .before .before .pre in
-    low-first (clockGuardAt (args .h .now)) (args .out .now) (args .at) (pre .1)
+    low-first (clockGuardAt (args .bytes .now)) (args .out .now) (args .at) (pre .1)
 
 same-length : tie.Need-same-length
 same-length c = search needs
@@ -33,7 +33,7 @@ returns c =
     let word-at2 = c .before .before .before .before .before .word-at2 in
     let if1 = c .if1 in
     let put-quad = c .before .before .before .put-quad in
-    put-is (low-only (args .h .now) (word-at .result) (word-at2 .result) (word-at .ensures) (word-at2 .ensures) (if1 .taken)) (put-quad .ensures)
+    put-is (low-only (args .bytes .now) (word-at .result) (word-at2 .result) (word-at .ensures) (word-at2 .ensures) (if1 .taken)) (put-quad .ensures)
 
 put-quad-requires-2 : tie.Need-put-quad-requires-2
 put-quad-requires-2 c κs =
@@ -43,8 +43,8 @@ put-quad-requires-2 c κs =
     let if1 = c .before .if1 in
     let put-quad = c .before .before .before .before .put-quad in
     let pre = c .before .before .before .before .before .before .before .before .before .before .before .pre in
-    let e = low-and-high (args .h .now) (word-at .result) (word-at2 .result) (word-at .ensures) (word-at2 .ensures) (if1 .left) in
-    room-next (put-quad .ensures) (quad 0x0C (byte (args .h .now) 0) (word-at2 .result)) (room-is (args .out .now) (args .at) (sym e) (pre .1))
+    let e = low-and-high (args .bytes .now) (word-at .result) (word-at2 .result) (word-at .ensures) (word-at2 .ensures) (if1 .left) in
+    room-next (put-quad .ensures) (quad 0x0C (byte (args .bytes .now) 0) (word-at2 .result)) (room-is (args .out .now) (args .at) (sym e) (pre .1))
 
 same-length-2 : tie.Need-same-length-2
 same-length-2 c = search needs
@@ -57,7 +57,7 @@ returns-2 c =
     let if1 = c .before .before .before .before .if1 in
     let put-quad = c .before .before .before .before .before .before .before .put-quad in
     let put-quad2 = c .before .before .put-quad2 in
-    let e = low-and-high (args .h .now) (word-at .result) (word-at2 .result) (word-at .ensures) (word-at2 .ensures) (if1 .left) in
+    let e = low-and-high (args .bytes .now) (word-at .result) (word-at2 .result) (word-at .ensures) (word-at2 .ensures) (if1 .left) in
     put-is e (put-join (put-quad .ensures) (put-quad2 .ensures))
 
 pub put-clock-test-spec : {M : Type 1} → statement M

@@ -17,7 +17,7 @@ put-quad-requires : tie.Need-put-quad-requires
 put-quad-requires c κs =
     let args = c .before .before .before .before .before .args in
     let pre = c .before .before .before .before .before .pre in
-    data-room (args .h .now) (args .out .now) (args .at) (pre .1) .0
+    data-room (args .bytes .now) (args .out .now) (args .at) (pre .1) .0
 
 word-at-requires-2 : tie.Need-word-at-requires-2
 word-at-requires-2 c κs = search needs
@@ -27,7 +27,7 @@ put-quad-requires-2 c κs =
     let put-quad = c .before .before .before .before .put-quad in
     let args = c .before .before .before .before .before .before .before .before .before .before .args in
     let pre = c .before .before .before .before .before .before .before .before .before .before .pre in
-    room-next (put-quad .ensures) (quad 0 0 0) (data-room (args .h .now) (args .out .now) (args .at) (pre .1) .1)
+    room-next (put-quad .ensures) (quad 0 0 0) (data-room (args .bytes .now) (args .out .now) (args .at) (pre .1) .1)
 
 same-length : tie.Need-same-length
 same-length c = search needs
@@ -39,7 +39,7 @@ returns c =
     let word-at2 = c .before .before .before .word-at2 in
     let put-quad = c .before .before .before .before .before .before .before .put-quad in
     let put-quad2 = c .before .before .put-quad2 in
-    let e = data-words (args .h .now) (word-at .result) (word-at2 .result) (omega arith) (omega arith) (word-at .ensures) (word-at2 .ensures) in
+    let e = data-words (args .bytes .now) (word-at .result) (word-at2 .result) (omega arith) (omega arith) (word-at .ensures) (word-at2 .ensures) in
     put-is e (put-join (put-quad .ensures) (put-quad2 .ensures))
 
 pub put-data-test-spec : {M : Type 1} → statement M

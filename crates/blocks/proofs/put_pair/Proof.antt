@@ -29,7 +29,7 @@ returns c =
     let args = c .before .before .before .before .before .before .before .before .before .args in
     let wide16 = c .before .before .before .wide16 in
     let put-quad = c .before .before .put-quad in
-    put-is (ap {B = List ℕ} (λ (k : ℕ). quad 0x06 (byte (args .h .now) 0) k) (wide16 .ensures .0)) (put-quad .ensures)
+    put-is (ap {B = List ℕ} (λ (k : ℕ). quad 0x06 (byte (args .bytes .now) 0) k) (wide16 .ensures .0)) (put-quad .ensures)
 
 pub put-pair-spec : {M : Type 1} → statement M
 put-pair-spec =

@@ -12,7 +12,7 @@ put-clock-test-requires c κs =
     let args = c .before .before .before .before .before .args in
     let enum-told = c .before .enum-told in
     let pre = c .before .before .before .before .before .pre in
-    asked-as (args .h .now) (args .out .now) (args .at) (enum-told .given .1) (pre)
+    asked-as (args .bytes .now) (args .out .now) (args .at) (enum-told .given .1) (pre)
 
 enum-told-2 : tie.Need-enum-told-2
 enum-told-2 c = search needs
@@ -22,7 +22,7 @@ put-data-test-requires c κs =
     let args = c .before .before .before .before .before .args in
     let enum-told2 = c .before .enum-told2 in
     let pre = c .before .before .before .before .before .pre in
-    asked-as (args .h .now) (args .out .now) (args .at) (enum-told2 .given .1) (pre)
+    asked-as (args .bytes .now) (args .out .now) (args .at) (enum-told2 .given .1) (pre)
 
 enum-told-3 : tie.Need-enum-told-3
 enum-told-3 c = search needs
@@ -32,7 +32,7 @@ put-update-requires c κs =
     let args = c .before .before .before .before .before .args in
     let enum-told3 = c .before .enum-told3 in
     let pre = c .before .before .before .before .before .pre in
-    asked-as (args .h .now) (args .out .now) (args .at) (enum-told3 .given .1) (pre)
+    asked-as (args .bytes .now) (args .out .now) (args .at) (enum-told3 .given .1) (pre)
 
 enum-told-4 : tie.Need-enum-told-4
 enum-told-4 c = search needs
@@ -42,7 +42,7 @@ put-pair-requires c κs =
     let args = c .before .before .before .before .before .args in
     let enum-told4 = c .before .enum-told4 in
     let pre = c .before .before .before .before .before .pre in
-    asked-as (args .h .now) (args .out .now) (args .at) (enum-told4 .given .1) (pre)
+    asked-as (args .bytes .now) (args .out .now) (args .at) (enum-told4 .given .1) (pre)
 
 same-length : tie.Need-same-length
 same-length c = search needs
@@ -52,7 +52,7 @@ returns c =
     let args = c .before .before .before .before .before .before .before .before .args in
     let enum-told = c .before .before .before .before .enum-told in
     let put-clock-test = c .before .before .put-clock-test in
-    made-as (args .h .now) (enum-told .given .1) (put-clock-test .ensures)
+    made-as (args .bytes .now) (enum-told .given .1) (put-clock-test .ensures)
 
 same-length-2 : tie.Need-same-length-2
 same-length-2 c = search needs
@@ -62,7 +62,7 @@ returns-2 c =
     let args = c .before .before .before .before .before .before .before .before .args in
     let enum-told2 = c .before .before .before .before .enum-told2 in
     let put-data-test = c .before .before .put-data-test in
-    made-as (args .h .now) (enum-told2 .given .1) (put-data-test .ensures)
+    made-as (args .bytes .now) (enum-told2 .given .1) (put-data-test .ensures)
 
 same-length-3 : tie.Need-same-length-3
 same-length-3 c = search needs
@@ -72,7 +72,7 @@ returns-3 c =
     let args = c .before .before .before .before .before .before .before .before .args in
     let enum-told3 = c .before .before .before .before .enum-told3 in
     let put-update = c .before .before .put-update in
-    made-as (args .h .now) (enum-told3 .given .1) (put-update .ensures)
+    made-as (args .bytes .now) (enum-told3 .given .1) (put-update .ensures)
 
 same-length-4 : tie.Need-same-length-4
 same-length-4 c = search needs
@@ -82,7 +82,7 @@ returns-4 c =
     let args = c .before .before .before .before .before .before .before .before .args in
     let enum-told4 = c .before .before .before .before .enum-told4 in
     let put-pair = c .before .before .put-pair in
-    made-as (args .h .now) (enum-told4 .given .1) (put-pair .ensures)
+    made-as (args .bytes .now) (enum-told4 .given .1) (put-pair .ensures)
 
 pub put-part-spec : {M : Type 1} → statement M
 put-part-spec =

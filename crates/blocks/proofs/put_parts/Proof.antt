@@ -22,7 +22,7 @@ loop-holds : tie.Need-loop-holds Inv-loop μ-loop
 loop-holds c =
     let pre = c .before .before .before .pre in
     let args = c .before .before .before .args in
-    (omega (arith, pre .0), begin (args .out .now) (args .at) (allMade (args .kind) (args .n) (args .h .now)))
+    (omega (arith, pre .0), begin (args .out .now) (args .at) (allMade (args .kind) (args .count) (args .bytes .now)))
 
 sub-put-part : tie.Need-sub-put-part Inv-loop μ-loop
 sub-put-part c = search needs
@@ -39,7 +39,7 @@ put-part-requires c κs =
     let loop = c .before .before .before .loop in
     let loop-test = c .before .before .loop-test in
     let pre = c .before .before .before .before .before .before .before .pre in
-    part-asked (args .kind) (args .h .now) (loop .k) (loop .place) (loop-test .taken) (loop .inv .1) (loop .inv .0) (pre .1)
+    part-asked (args .kind) (args .bytes .now) (loop .k) (loop .place) (loop-test .taken) (loop .inv .1) (loop .inv .0) (pre .1)
 
 add-place : tie.Need-add-place Inv-loop μ-loop
 add-place c =
@@ -63,8 +63,8 @@ loop-again c =
     let loop-test = c .before .before .before .before .before .loop-test in
     let put-part = c .before .before .put-part in
     rw (width .ensures) (
-      parts-fit (loop .k) (widthOf (args .kind)) (loop .place) (length (args .h .now)) (loop-test .taken) (loop .inv .0),
-      part-put (args .kind) (args .h .now) (loop .k) (loop .place) (loop-test .taken) (loop .inv .1) (put-part .ensures),
+      parts-fit (loop .k) (widthOf (args .kind)) (loop .place) (length (args .bytes .now)) (loop-test .taken) (loop .inv .0),
+      part-put (args .kind) (args .bytes .now) (loop .k) (loop .place) (loop-test .taken) (loop .inv .1) (put-part .ensures),
     )
 
 same-length : tie.Need-same-length Inv-loop μ-loop
@@ -75,7 +75,7 @@ returns c =
     let args = c .before .before .before .before .before .args in
     let loop = c .before .loop in
     let loop-test = c .loop-test in
-    parts-done (args .kind) (drop (loop .place) (args .h .now)) (loop .k) (loop-test .left) (loop .inv .1)
+    parts-done (args .kind) (drop (loop .place) (args .bytes .now)) (loop .k) (loop-test .left) (loop .inv .1)
 
 pub put-parts-spec : {M : Type 1} → statement M
 put-parts-spec =

@@ -19,19 +19,19 @@ put-quad-requires : tie.Need-put-quad-requires
 put-quad-requires c κs =
     let args = c .before .before .before .args in
     let pre = c .before .before .before .pre in
-    let h = args .h .now in
-    let r0 = room-is (args .out .now) (args .at) (sym (trial-made (args .l) (args .e) (args .h .now))) (pre .1) in
-    room-first (args .out .now) (args .at) (quad 0x0A 0 0) (fromHigh (args .l) (args .e) (args .h .now)) r0
+    let h = args .bytes .now in
+    let r0 = room-is (args .out .now) (args .at) (sym (trial-made (args .location) (args .number) (args .bytes .now))) (pre .1) in
+    room-first (args .out .now) (args .at) (quad 0x0A 0 0) (fromHigh (args .location) (args .number) (args .bytes .now)) r0
 
 put-quad-requires-2 : tie.Need-put-quad-requires-2
 put-quad-requires-2 c κs =
     let args = c .before .before .before .before .before .before .before .args in
     let pre = c .before .before .before .before .before .before .before .pre in
     let put-quad = c .before .before .before .put-quad in
-    let h = args .h .now in
-    let r0 = room-is (args .out .now) (args .at) (sym (trial-made (args .l) (args .e) (args .h .now))) (pre .1) in
-    let r1 = room-next (put-quad .ensures) (fromHigh (args .l) (args .e) (args .h .now)) r0 in
-    room-first (put-quad .last .0) (put-quad .result) (quad 0x0C (args .l .clock) (args .l .bound)) (fromClocks (args .l) (args .e) (args .h .now)) r1
+    let h = args .bytes .now in
+    let r0 = room-is (args .out .now) (args .at) (sym (trial-made (args .location) (args .number) (args .bytes .now))) (pre .1) in
+    let r1 = room-next (put-quad .ensures) (fromHigh (args .location) (args .number) (args .bytes .now)) r0 in
+    room-first (put-quad .last .0) (put-quad .result) (quad 0x0C (args .location .clock) (args .location .bound)) (fromClocks (args .location) (args .number) (args .bytes .now)) r1
 
 sub-put-parts : tie.Need-sub-put-parts
 sub-put-parts c = search needs
@@ -51,11 +51,11 @@ put-parts-requires c κs =
     let pre = c .before .before .before .before .before .before .before .before .before .before .before .before .before .pre in
     let put-quad = c .before .before .before .before .before .before .before .before .before .put-quad in
     let put-quad2 = c .before .before .before .before .before .put-quad2 in
-    let h = args .h .now in
-    let r0 = room-is (args .out .now) (args .at) (sym (trial-made (args .l) (args .e) (args .h .now))) (pre .1) in
-    let r1 = room-next (put-quad .ensures) (fromHigh (args .l) (args .e) (args .h .now)) r0 in
-    let r2 = room-next (put-quad2 .ensures) (fromClocks (args .l) (args .e) (args .h .now)) r1 in
-    parts-asked ClockGuards (byte h 4) h 7 7 refl (put-quad2 .last .0) (put-quad2 .result) (bounds-fit h (pre .0) .0) (room-first (put-quad2 .last .0) (put-quad2 .result) (allMade ClockGuards (byte h 4) (drop 7 h)) (fromDatas (args .l) (args .e) (args .h .now)) r2)
+    let h = args .bytes .now in
+    let r0 = room-is (args .out .now) (args .at) (sym (trial-made (args .location) (args .number) (args .bytes .now))) (pre .1) in
+    let r1 = room-next (put-quad .ensures) (fromHigh (args .location) (args .number) (args .bytes .now)) r0 in
+    let r2 = room-next (put-quad2 .ensures) (fromClocks (args .location) (args .number) (args .bytes .now)) r1 in
+    parts-asked ClockGuards (byte h 4) h 7 7 refl (put-quad2 .last .0) (put-quad2 .result) (bounds-fit h (pre .0) .0) (room-first (put-quad2 .last .0) (put-quad2 .result) (allMade ClockGuards (byte h 4) (drop 7 h)) (fromDatas (args .location) (args .number) (args .bytes .now)) r2)
 
 shared-slice-read-wide : tie.Need-shared-slice-read-wide
 shared-slice-read-wide c = search needs
@@ -89,14 +89,14 @@ put-parts-requires-2 c κs =
     let put-quad2 = c .before .before .before .before .before .before .before .before .before .before .before .before .before .put-quad2 in
     let put-parts = c .before .before .before .before .before .before .before .put-parts in
     let wide = c .before .before .before .wide in
-    let h = args .h .now in
-    let r0 = room-is (args .out .now) (args .at) (sym (trial-made (args .l) (args .e) (args .h .now))) (pre .1) in
-    let r1 = room-next (put-quad .ensures) (fromHigh (args .l) (args .e) (args .h .now)) r0 in
-    let r2 = room-next (put-quad2 .ensures) (fromClocks (args .l) (args .e) (args .h .now)) r1 in
+    let h = args .bytes .now in
+    let r0 = room-is (args .out .now) (args .at) (sym (trial-made (args .location) (args .number) (args .bytes .now))) (pre .1) in
+    let r1 = room-next (put-quad .ensures) (fromHigh (args .location) (args .number) (args .bytes .now)) r0 in
+    let r2 = room-next (put-quad2 .ensures) (fromClocks (args .location) (args .number) (args .bytes .now)) r1 in
     let p3 = parts-there ClockGuards (byte h 4) h 7 7 refl (put-parts .ensures) in
-    let r3 = room-next p3 (fromDatas (args .l) (args .e) (args .h .now)) r2 in
+    let r3 = room-next p3 (fromDatas (args .location) (args .number) (args .bytes .now)) r2 in
     let e : 7 + wide .result * 5 ≡ 7 + byte h 4 * 5 = omega (arith, wide .ensures .0) in
-    parts-asked DataGuards (byte h 5) h (7 + wide .result * 5) (7 + byte h 4 * 5) e (put-parts .last .1 .1 .1 .0) (put-parts .result) (bounds-fit h (pre .0) .1) (room-first (put-parts .last .1 .1 .1 .0) (put-parts .result) (allMade DataGuards (byte h 5) (drop (7 + byte h 4 * 5) h)) (quad 0x0F 0 (args .e)) r3)
+    parts-asked DataGuards (byte h 5) h (7 + wide .result * 5) (7 + byte h 4 * 5) e (put-parts .last .1 .1 .1 .0) (put-parts .result) (bounds-fit h (pre .0) .1) (room-first (put-parts .last .1 .1 .1 .0) (put-parts .result) (allMade DataGuards (byte h 5) (drop (7 + byte h 4 * 5) h)) (quad 0x0F 0 (args .number)) r3)
 
 wide16-requires : tie.Need-wide16-requires
 wide16-requires c κs = search needs
@@ -110,15 +110,15 @@ put-quad-requires-3 c κs =
     let put-parts = c .before .before .before .before .before .before .before .before .before .before .before .before .put-parts in
     let wide = c .before .before .before .before .before .before .before .before .wide in
     let put-parts2 = c .before .before .before .before .put-parts2 in
-    let h = args .h .now in
-    let r0 = room-is (args .out .now) (args .at) (sym (trial-made (args .l) (args .e) (args .h .now))) (pre .1) in
-    let r1 = room-next (put-quad .ensures) (fromHigh (args .l) (args .e) (args .h .now)) r0 in
-    let r2 = room-next (put-quad2 .ensures) (fromClocks (args .l) (args .e) (args .h .now)) r1 in
+    let h = args .bytes .now in
+    let r0 = room-is (args .out .now) (args .at) (sym (trial-made (args .location) (args .number) (args .bytes .now))) (pre .1) in
+    let r1 = room-next (put-quad .ensures) (fromHigh (args .location) (args .number) (args .bytes .now)) r0 in
+    let r2 = room-next (put-quad2 .ensures) (fromClocks (args .location) (args .number) (args .bytes .now)) r1 in
     let p3 = parts-there ClockGuards (byte h 4) h 7 7 refl (put-parts .ensures) in
-    let r3 = room-next p3 (fromDatas (args .l) (args .e) (args .h .now)) r2 in
+    let r3 = room-next p3 (fromDatas (args .location) (args .number) (args .bytes .now)) r2 in
     let e : 7 + wide .result * 5 ≡ 7 + byte h 4 * 5 = omega (arith, wide .ensures .0) in
     let p4 = parts-there DataGuards (byte h 5) h (7 + wide .result * 5) (7 + byte h 4 * 5) e (put-parts2 .ensures) in
-    room-next p4 (quad 0x0F 0 (args .e)) r3
+    room-next p4 (quad 0x0F 0 (args .number)) r3
 
 same-length : tie.Need-same-length
 same-length c = search needs
@@ -133,12 +133,12 @@ returns c =
     let put-quad3 = c .before .before .put-quad3 in
     let put-quad = c .before .before .before .before .before .before .before .before .before .before .before .before .before .before .before .before .before .before .before .before .before .before .before .before .before .put-quad in
     let put-quad2 = c .before .before .before .before .before .before .before .before .before .before .before .before .before .before .before .before .before .before .before .before .before .put-quad2 in
-    let h = args .h .now in
+    let h = args .bytes .now in
     let e : 7 + wide .result * 5 ≡ 7 + byte h 4 * 5 = omega (arith, wide .ensures .0) in
     let p3 = parts-there ClockGuards (byte h 4) h 7 7 refl (put-parts .ensures) in
     let p4 = parts-there DataGuards (byte h 5) h (7 + wide .result * 5) (7 + byte h 4 * 5) e (put-parts2 .ensures) in
     let p5 = put-is (ap {B = List ℕ} (λ (k : ℕ). quad 0x0F 0 k) (wide16 .ensures .0)) (put-quad3 .ensures) in
-    put-is (trial-made (args .l) (args .e) (args .h .now)) (put-join (put-quad .ensures) (put-join (put-quad2 .ensures) (put-join p3 (put-join p4 p5))))
+    put-is (trial-made (args .location) (args .number) (args .bytes .now)) (put-join (put-quad .ensures) (put-join (put-quad2 .ensures) (put-join p3 (put-join p4 p5))))
 
 pub put-trial-spec : {M : Type 1} → statement M
 put-trial-spec =

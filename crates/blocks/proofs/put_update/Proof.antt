@@ -19,7 +19,7 @@ put-quad-requires : tie.Need-put-quad-requires
 put-quad-requires c κs =
     let args = c .before .before .before .before .before .before .before .args in
     let pre = c .before .before .before .before .before .before .before .pre in
-    update-room (args .h .now) (args .out .now) (args .at) (pre .1)
+    update-room (args .bytes .now) (args .out .now) (args .at) (pre .1)
 
 same-length : tie.Need-same-length
 same-length c = search needs
@@ -30,7 +30,7 @@ returns c =
     let word-at = c .before .before .before .before .before .before .before .word-at in
     let if1 = c .before .before .before .before .before .if1 in
     let put-quad = c .before .before .put-quad in
-    put-is (adds (args .h .now) (word-at .result) (omega arith) (word-at .ensures) (if1 .taken)) (put-quad .ensures)
+    put-is (adds (args .bytes .now) (word-at .result) (omega arith) (word-at .ensures) (if1 .taken)) (put-quad .ensures)
 
 shared-slice-read-put-quad-2 : tie.Need-shared-slice-read-put-quad-2
 shared-slice-read-put-quad-2 c = search needs
@@ -39,7 +39,7 @@ put-quad-requires-2 : tie.Need-put-quad-requires-2
 put-quad-requires-2 c κs =
     let args = c .before .before .before .before .before .before .before .args in
     let pre = c .before .before .before .before .before .before .before .pre in
-    update-room (args .h .now) (args .out .now) (args .at) (pre .1)
+    update-room (args .bytes .now) (args .out .now) (args .at) (pre .1)
 
 same-length-2 : tie.Need-same-length-2
 same-length-2 c = search needs
@@ -50,7 +50,7 @@ returns-2 c =
     let word-at = c .before .before .before .before .before .before .before .word-at in
     let if1 = c .before .before .before .before .before .if1 in
     let put-quad2 = c .before .before .put-quad2 in
-    put-is (sets-to (args .h .now) (word-at .result) (omega arith) (word-at .ensures) (if1 .left)) (put-quad2 .ensures)
+    put-is (sets-to (args .bytes .now) (word-at .result) (omega arith) (word-at .ensures) (if1 .left)) (put-quad2 .ensures)
 
 pub put-update-spec : {M : Type 1} → statement M
 put-update-spec =

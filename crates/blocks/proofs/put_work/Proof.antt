@@ -38,7 +38,7 @@ put-parts-requires : tie.Need-put-parts-requires
 put-parts-requires c κs =
     let args = c .before .before .before .before .before .before .before .before .before .args in
     let pre = c .before .before .before .before .before .before .before .before .before .pre in
-    let h = args .h .now in
+    let h = args .bytes .now in
     let is = sym (c .before .before .before .enum-told .given .1) ∙ c .before .before .before .before .before .action-at .ensures in
     let i = c .before .before .before .before .before .before .items-place in
     let r = room-is (args .out .now) (args .at) (sym (internal-work h is)) (pre .1) in
@@ -48,7 +48,7 @@ put-quad-requires : tie.Need-put-quad-requires
 put-quad-requires c κs =
     let args = c .before .before .before .before .before .before .before .before .before .before .before .before .before .args in
     let pre = c .before .before .before .before .before .before .before .before .before .before .before .before .before .pre in
-    let h = args .h .now in
+    let h = args .bytes .now in
     let is = sym (c .before .before .before .before .before .before .before .enum-told .given .1) ∙ c .before .before .before .before .before .before .before .before .before .action-at .ensures in
     let i = c .before .before .before .before .before .before .before .before .before .before .items-place in
     let r = room-is (args .out .now) (args .at) (sym (internal-work h is)) (pre .1) in
@@ -61,7 +61,7 @@ put-quad-requires-2 : tie.Need-put-quad-requires-2
 put-quad-requires-2 c κs =
     let args = c .before .before .before .before .before .before .before .before .args in
     let pre = c .before .before .before .before .before .before .before .before .pre in
-    let h = args .h .now in
+    let h = args .bytes .now in
     let is = sym (c .before .before .action .given .1) ∙ c .before .before .before .before .action-at .ensures in
     room-is (args .out .now) (args .at) (sym (send-work h _ is)) (pre .1)
 
@@ -75,7 +75,7 @@ put-quad-requires-3 : tie.Need-put-quad-requires-3
 put-quad-requires-3 c κs =
     let args = c .before .before .before .before .before .before .before .before .args in
     let pre = c .before .before .before .before .before .before .before .before .pre in
-    let h = args .h .now in
+    let h = args .bytes .now in
     let is = sym (c .before .before .enum-told2 .given .1) ∙ c .before .before .before .before .action-at .ensures in
     let r = room-is (args .out .now) (args .at) (sym (receive-work h is)) (pre .1) in
     room-first (args .out .now) (args .at) (quad 0x05 (byte h 6) 0) (allMade Pairs (byte h 6) (drop (itemsPlace h) h)) r
@@ -96,7 +96,7 @@ put-parts-requires-2 : tie.Need-put-parts-requires-2
 put-parts-requires-2 c κs =
     let args = c .before .before .before .before .before .before .before .before .before .before .before .before .before .before .args in
     let pre = c .before .before .before .before .before .before .before .before .before .before .before .before .before .before .pre in
-    let h = args .h .now in
+    let h = args .bytes .now in
     let is = sym (c .before .before .before .before .before .before .before .before .enum-told2 .given .1) ∙ c .before .before .before .before .before .before .before .before .before .before .action-at .ensures in
     let i = c .before .before .before .before .before .before .before .before .before .before .before .items-place in
     let r = room-is (args .out .now) (args .at) (sym (receive-work h is)) (pre .1) in
@@ -109,7 +109,7 @@ same-length c = search needs
 returns : tie.Need-returns
 returns c =
     let args = c .before .before .before .before .before .before .before .before .before .before .before .before .before .before .before .before .args in
-    let h = args .h .now in
+    let h = args .bytes .now in
     let is = sym (c .before .before .before .before .before .before .before .before .before .before .enum-told .given .1) ∙ c .before .before .before .before .before .before .before .before .before .before .before .before .action-at .ensures in
     let i = c .before .before .before .before .before .before .before .before .before .before .before .before .before .items-place in
     put-is (internal-work h is) (put-join (parts-there Updates (byte h 6) h (i .result) (itemsPlace h) (i .ensures) (c .before .before .before .before .before .before .put-parts .ensures)) (c .before .before .put-quad .ensures))
@@ -120,7 +120,7 @@ same-length-2 c = search needs
 returns-2 : tie.Need-returns-2
 returns-2 c =
     let args = c .before .before .before .before .before .before .before .before .before .before .before .args in
-    let h = args .h .now in
+    let h = args .bytes .now in
     let is = sym (c .before .before .before .before .before .action .given .1) ∙ c .before .before .before .before .before .before .before .action-at .ensures in
     put-is (send-work h _ is) (c .before .before .put-quad2 .ensures)
 
@@ -130,7 +130,7 @@ same-length-3 c = search needs
 returns-3 : tie.Need-returns-3
 returns-3 c =
     let args = c .before .before .before .before .before .before .before .before .before .before .before .before .before .before .before .before .before .args in
-    let h = args .h .now in
+    let h = args .bytes .now in
     let is = sym (c .before .before .before .before .before .before .before .before .before .before .before .enum-told2 .given .1) ∙ c .before .before .before .before .before .before .before .before .before .before .before .before .before .action-at .ensures in
     let i = c .before .before .before .before .before .before .before .before .before .before .before .before .before .before .items-place in
     put-is (receive-work h is) (put-join (c .before .before .before .before .before .before .before .before .put-quad3 .ensures) (parts-there Pairs (byte h 6) h (i .result) (itemsPlace h) (i .ensures) (c .before .before .put-parts2 .ensures)))

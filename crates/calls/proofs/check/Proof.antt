@@ -1,6 +1,6 @@
 use mathlib.Core.Path.{sym, ap, _∙_}
 use Rattle.model.specs.Calls.{verdictOf, checkCall}
-use Rattle.model.proofs.Acceptance.{accepted-is}
+use Rattle.model.proofs.Checks.Acceptance.{accepted-is}
 use Rattle.translator.proofs.Standing.{slice-bytes}
 use Rattle.table.proofs.Answered.{was-valid, its-starts, was-refused}
 use borrow.Author.Needs.{needs}

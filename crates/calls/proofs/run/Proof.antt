@@ -1,5 +1,5 @@
 -- `calls::run` meets its contract. Assumes nothing.
-use Rattle.model.proofs.ObservationsBack.{observations-read}
+use Rattle.model.proofs.Observations.All.{observations-read}
 use Rattle.table.proofs.Answered.{was-valid, its-starts, was-refused}
 use Rattle.calls.proofs.RunCalls.{run-refused, demanded}
 use borrow.Author.Needs.{needs}

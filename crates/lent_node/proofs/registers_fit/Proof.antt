@@ -34,7 +34,7 @@ both-requires-5 c κs = search needs
 returns : tie.Need-returns
 returns c =
     let d = c .before .before .before .before .before in
-    two-by-two (d .before .before .before .args .r) (search needs) (d .before .both .ensures) (d .both2 .ensures) (c .before .before .both3 .ensures) (c .before .both4 .ensures) (c .both5 .ensures)
+    two-by-two (d .before .before .before .args .registers) (search needs) (d .before .both .ensures) (d .both2 .ensures) (c .before .before .both3 .ensures) (c .before .both4 .ensures) (c .both5 .ensures)
 
 pub registers-fit-spec : {M : Type 1} → statement M
 registers-fit-spec =

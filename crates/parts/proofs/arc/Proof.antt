@@ -14,7 +14,7 @@ sub-if1 : tie.Need-sub-if1
 sub-if1 c = search needs
 
 returns : tie.Need-returns
-returns c = let a = c .before .before .args in record { says = arc-short (a .z) (a .p .now) (a .at) (c .if1 .taken); within = tt }
+returns c = let a = c .before .before .args in record { says = arc-short (a .sizes) (a .component .now) (a .at) (c .if1 .taken); within = tt }
 
 sub-edge-fine : tie.Need-sub-edge-fine
 sub-edge-fine c = search needs
@@ -31,9 +31,9 @@ edge-fine-requires c κs = search needs
 returns-2 : tie.Need-returns-2
 returns-2 c =
     let a = c .before .before .before .before .before .args in
-    let fine : c .before .edge-fine .result ≡ edgeFine (a .z) (drop (a .at) (a .p .now)) =
-    c .before .edge-fine .ensures ∙ ap (edgeFine (a .z)) (tail (a .p .now) (a .at)) in
-    record { says = arc-bad (a .z) (a .p .now) (a .at) (omega arith) (sym fine ∙ not-true _ (c .if2 .taken)); within = tt }
+    let fine : c .before .edge-fine .result ≡ edgeFine (a .sizes) (drop (a .at) (a .component .now)) =
+    c .before .edge-fine .ensures ∙ ap (edgeFine (a .sizes)) (tail (a .component .now) (a .at)) in
+    record { says = arc-bad (a .sizes) (a .component .now) (a .at) (omega arith) (sym fine ∙ not-true _ (c .if2 .taken)); within = tt }
 
 arc-body-requires : tie.Need-arc-body-requires
 arc-body-requires c κs = search needs
@@ -41,10 +41,10 @@ arc-body-requires c κs = search needs
 returns-3 : tie.Need-returns-3
 returns-3 c =
     let a = c .before .before .before .before .before .before .args in
-    let fine : c .before .before .edge-fine .result ≡ edgeFine (a .z) (drop (a .at) (a .p .now)) =
-    c .before .before .edge-fine .ensures ∙ ap (edgeFine (a .z)) (tail (a .p .now) (a .at)) in
+    let fine : c .before .before .edge-fine .result ≡ edgeFine (a .sizes) (drop (a .at) (a .component .now)) =
+    c .before .before .edge-fine .ensures ∙ ap (edgeFine (a .sizes)) (tail (a .component .now) (a .at)) in
     further (c .arc-body .result) (omega arith)
-    (moved (arc-good (a .z) (a .p .now) (a .at) (omega arith) (sym fine ∙ not-false _ (c .before .if2 .left))) (c .arc-body .ensures))
+    (moved (arc-good (a .sizes) (a .component .now) (a .at) (omega arith) (sym fine ∙ not-false _ (c .before .if2 .left))) (c .arc-body .ensures))
 
 pub arc-spec : {M : Type 1} → statement M
 arc-spec =

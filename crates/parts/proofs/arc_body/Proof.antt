@@ -38,7 +38,7 @@ shared-slice-read-parts-2 : tie.Need-shared-slice-read-parts-2
 shared-slice-read-parts-2 c = search needs
 
 parts-requires-2 : tie.Need-parts-requires-2
-parts-requires-2 c κs = let a = c .before .before .before .before .before .before .before .args in subst (Within (a .at + 7) (length (a .p .now))) (c .before .before .c2 .given .1) (c .before .before .before .before .parts .ensures .within) .1
+parts-requires-2 c κs = let a = c .before .before .before .before .before .before .before .args in subst (Within (a .at + 7) (length (a .component .now))) (c .before .before .c2 .given .1) (c .before .before .before .before .parts .ensures .within) .1
 
 enum-known-d : tie.Need-enum-known-d
 enum-known-d c = search needs
@@ -56,44 +56,44 @@ shared-slice-read-items-2 : tie.Need-shared-slice-read-items-2
 shared-slice-read-items-2 c = search needs
 
 items-requires : tie.Need-items-requires
-items-requires c κs = let a = c .before .before .before .before .before .before .before .before .before .before .before .before .before .args in subst (Within (c .before .before .before .before .before .before .before .before .c2 .given .0 .0) (length (a .p .now))) (c .before .before .before .d2 .given .1) (c .before .before .before .before .before .parts2 .ensures .within) .1
+items-requires c κs = let a = c .before .before .before .before .before .before .before .before .before .before .before .before .before .args in subst (Within (c .before .before .before .before .before .before .before .before .c2 .given .0 .0) (length (a .component .now))) (c .before .before .before .d2 .given .1) (c .before .before .before .before .before .parts2 .ensures .within) .1
 
 returns : tie.Need-returns
 returns c =
     let a = c .before .before .before .before .before .before .args in
-    let h = drop (a .at) (a .p .now) in
-    let e : skim (many (passes ClockGuards (a .z)) (byte h 4) (drop (a .at + 7) (a .p .now))) ≡ placed (a .p .now) (c .before .before .before .parts .result) =
-    rw (getD-drop (a .at) (a .p .now) 4 0) (c .before .before .before .parts .ensures .says) in
-    record { says = guards-fail (a .z) h (drop (a .at + 7) (a .p .now)) (e ∙ ap (placed (a .p .now)) (c .before .c .given .1)); within = tt }
+    let h = drop (a .at) (a .component .now) in
+    let e : skim (many (passes ClockGuards (a .sizes)) (byte h 4) (drop (a .at + 7) (a .component .now))) ≡ placed (a .component .now) (c .before .before .before .parts .result) =
+    rw (getD-drop (a .at) (a .component .now) 4 0) (c .before .before .before .parts .ensures .says) in
+    record { says = guards-fail (a .sizes) h (drop (a .at + 7) (a .component .now)) (e ∙ ap (placed (a .component .now)) (c .before .c .given .1)); within = tt }
 
 returns-2 : tie.Need-returns-2
 returns-2 c =
     let a = c .before .before .before .before .before .before .before .before .before .before .before .args in
-    let h = drop (a .at) (a .p .now) in
+    let h = drop (a .at) (a .component .now) in
     let from = c .before .before .before .before .before .before .c2 .given .0 .0 in
-    let e : skim (many (passes ClockGuards (a .z)) (byte h 4) (drop (a .at + 7) (a .p .now))) ≡ left (drop from (a .p .now)) =
-    rw (getD-drop (a .at) (a .p .now) 4 0) (c .before .before .before .before .before .before .before .before .parts .ensures .says ∙ ap (placed (a .p .now)) (c .before .before .before .before .before .before .c2 .given .1)) in
-    let f : skim (many (passes DataGuards (a .z)) (byte h 5) (drop from (a .p .now))) ≡ placed (a .p .now) (c .before .before .before .parts2 .result) =
-    rw (getD-drop (a .at) (a .p .now) 5 0) (c .before .before .before .parts2 .ensures .says) in
-    record { says = data-fail (a .z) h (drop (a .at + 7) (a .p .now)) (drop from (a .p .now)) e (f ∙ ap (placed (a .p .now)) (c .before .d .given .1)); within = tt }
+    let e : skim (many (passes ClockGuards (a .sizes)) (byte h 4) (drop (a .at + 7) (a .component .now))) ≡ left (drop from (a .component .now)) =
+    rw (getD-drop (a .at) (a .component .now) 4 0) (c .before .before .before .before .before .before .before .before .parts .ensures .says ∙ ap (placed (a .component .now)) (c .before .before .before .before .before .before .c2 .given .1)) in
+    let f : skim (many (passes DataGuards (a .sizes)) (byte h 5) (drop from (a .component .now))) ≡ placed (a .component .now) (c .before .before .before .parts2 .result) =
+    rw (getD-drop (a .at) (a .component .now) 5 0) (c .before .before .before .parts2 .ensures .says) in
+    record { says = data-fail (a .sizes) h (drop (a .at + 7) (a .component .now)) (drop from (a .component .now)) e (f ∙ ap (placed (a .component .now)) (c .before .d .given .1)); within = tt }
 
 returns-3 : tie.Need-returns-3
 returns-3 c =
     let a = c .before .before .before .before .before .before .before .before .before .before .before .before .before .before .args in
-    let h = drop (a .at) (a .p .now) in
+    let h = drop (a .at) (a .component .now) in
     let from = c .before .before .before .before .before .before .before .before .before .c2 .given .0 .0 in
-    let e : skim (many (passes ClockGuards (a .z)) (byte h 4) (drop (a .at + 7) (a .p .now))) ≡ left (drop from (a .p .now)) =
-    rw (getD-drop (a .at) (a .p .now) 4 0) (c .before .before .before .before .before .before .before .before .before .before .before .parts .ensures .says ∙ ap (placed (a .p .now)) (c .before .before .before .before .before .before .before .before .before .c2 .given .1)) in
+    let e : skim (many (passes ClockGuards (a .sizes)) (byte h 4) (drop (a .at + 7) (a .component .now))) ≡ left (drop from (a .component .now)) =
+    rw (getD-drop (a .at) (a .component .now) 4 0) (c .before .before .before .before .before .before .before .before .before .before .before .parts .ensures .says ∙ ap (placed (a .component .now)) (c .before .before .before .before .before .before .before .before .before .c2 .given .1)) in
     let on = c .before .before .before .before .d2 .given .0 .0 in
-    let f : skim (many (passes DataGuards (a .z)) (byte h 5) (drop from (a .p .now))) ≡ left (drop on (a .p .now)) =
-    rw (getD-drop (a .at) (a .p .now) 5 0) (c .before .before .before .before .before .before .parts2 .ensures .says ∙ ap (placed (a .p .now)) (c .before .before .before .before .d2 .given .1)) in
-    let w = subst (Within (a .at + 7) (length (a .p .now))) (c .before .before .before .before .before .before .before .before .before .c2 .given .1) (c .before .before .before .before .before .before .before .before .before .before .before .parts .ensures .within) in
-    let v = subst (Within from (length (a .p .now))) (c .before .before .before .before .d2 .given .1) (c .before .before .before .before .before .before .parts2 .ensures .within) in
+    let f : skim (many (passes DataGuards (a .sizes)) (byte h 5) (drop from (a .component .now))) ≡ left (drop on (a .component .now)) =
+    rw (getD-drop (a .at) (a .component .now) 5 0) (c .before .before .before .before .before .before .parts2 .ensures .says ∙ ap (placed (a .component .now)) (c .before .before .before .before .d2 .given .1)) in
+    let w = subst (Within (a .at + 7) (length (a .component .now))) (c .before .before .before .before .before .before .before .before .before .c2 .given .1) (c .before .before .before .before .before .before .before .before .before .before .before .parts .ensures .within) in
+    let v = subst (Within from (length (a .component .now))) (c .before .before .before .before .d2 .given .1) (c .before .before .before .before .before .before .parts2 .ensures .within) in
     let n : a .at + 7 ≤ on = omega (arith, w .0, v .0) in
-    let q : Passed (a .p .now) on (c .items .result) (readItems (a .z) (byte h 0) (byte h 6) (drop on (a .p .now))) =
-    rw (first-of (a .p .now) (a .at), getD-drop (a .at) (a .p .now) 6 0) (c .items .ensures) in
+    let q : Passed (a .component .now) on (c .items .result) (readItems (a .sizes) (byte h 0) (byte h 6) (drop on (a .component .now))) =
+    rw (first-of (a .component .now) (a .at), getD-drop (a .at) (a .component .now) 6 0) (c .items .ensures) in
     further (c .items .result) n
-    (moved (guards-pass (a .z) h (drop (a .at + 7) (a .p .now)) (drop from (a .p .now)) e (drop on (a .p .now)) f) q)
+    (moved (guards-pass (a .sizes) h (drop (a .at + 7) (a .component .now)) (drop from (a .component .now)) e (drop on (a .component .now)) f) q)
 
 pub arc-body-spec : {M : Type 1} → statement M
 arc-body-spec =

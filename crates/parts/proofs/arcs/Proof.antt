@@ -30,8 +30,8 @@ returns : tie.Need-returns Inv-loop μ-loop
 returns c =
     let a = c .before .before .before .before .before .before .before .args in
     let l = c .before .before .before .before .before .loop in
-    let e = c .before .before .before .arc .ensures .says ∙ ap (placed (a .p .now)) (c .before .r .given .1) in
-    record { says = stop (readArc (a .z)) (l .k) (drop (l .at) (a .p .now)) _ (omega arith) e (l .inv .2); within = tt }
+    let e = c .before .before .before .arc .ensures .says ∙ ap (placed (a .component .now)) (c .before .r .given .1) in
+    record { says = stop (readArc (a .sizes)) (l .k) (drop (l .at) (a .component .now)) _ (omega arith) e (l .inv .2); within = tt }
 
 enum-known-r-2 : tie.Need-enum-known-r-2 Inv-loop μ-loop
 enum-known-r-2 c = search needs
@@ -46,15 +46,15 @@ loop-again : tie.Need-loop-again Inv-loop μ-loop
 loop-again c =
     let a = c .before .before .before .before .before .before .before .args in
     let l = c .before .before .before .before .before .loop in
-    let e = c .before .before .before .arc .ensures .says ∙ ap (placed (a .p .now)) (c .before .r2 .given .1) in
-    let w = subst (Within (l .at) (length (a .p .now))) (c .before .r2 .given .1) (c .before .before .before .arc .ensures .within) in
-    (omega (arith, w .0), w .1, turn (readArc (a .z)) (l .k) (drop (l .at) (a .p .now)) _ _ (omega arith) e (l .inv .2))
+    let e = c .before .before .before .arc .ensures .says ∙ ap (placed (a .component .now)) (c .before .r2 .given .1) in
+    let w = subst (Within (l .at) (length (a .component .now))) (c .before .r2 .given .1) (c .before .before .before .arc .ensures .within) in
+    (omega (arith, w .0), w .1, turn (readArc (a .sizes)) (l .k) (drop (l .at) (a .component .now)) _ _ (omega arith) e (l .inv .2))
 
 returns-2 : tie.Need-returns-2 Inv-loop μ-loop
 returns-2 c =
     let a = c .before .before .before .args in
     let l = c .before .loop in
-    record { says = done (readArc (a .z)) (l .k) (drop (l .at) (a .p .now)) _ (omega arith) (l .inv .2); within = (omega arith, omega arith) }
+    record { says = done (readArc (a .sizes)) (l .k) (drop (l .at) (a .component .now)) _ (omega arith) (l .inv .2); within = (omega arith, omega arith) }
 
 pub arcs-spec : {M : Type 1} → statement M
 arcs-spec =

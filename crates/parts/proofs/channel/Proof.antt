@@ -16,7 +16,7 @@ sub-if1 c = search needs
 returns : tie.Need-returns
 returns c =
     let a = c .before .args in
-    record { says = part-short 1 (channelFine (a .z)) (λ bs. byte bs 0) (a .p .now) (a .at) (omega arith); within = tt }
+    record { says = part-short 1 (channelFine (a .sizes)) (λ bs. byte bs 0) (a .component .now) (a .at) (omega arith); within = tt }
 
 shared-slice-read-if2 : tie.Need-shared-slice-read-if2
 shared-slice-read-if2 c = search needs
@@ -24,8 +24,8 @@ shared-slice-read-if2 c = search needs
 returns-2 : tie.Need-returns-2
 returns-2 c =
     let a = c .before .before .before .before .args in
-    let no : channelFine (a .z) (drop (a .at) (a .p .now)) ≡ false = rw (first-of (a .p .now) (a .at)) (le-ltb _ _ (c .if2 .taken)) in
-    record { says = part-bad 1 (channelFine (a .z)) (λ bs. byte bs 0) (a .p .now) (a .at) (omega arith) no; within = tt }
+    let no : channelFine (a .sizes) (drop (a .at) (a .component .now)) ≡ false = rw (first-of (a .component .now) (a .at)) (le-ltb _ _ (c .if2 .taken)) in
+    record { says = part-bad 1 (channelFine (a .sizes)) (λ bs. byte bs 0) (a .component .now) (a .at) (omega arith) no; within = tt }
 
 add-t4 : tie.Need-add-t4
 add-t4 c = search needs
@@ -33,8 +33,8 @@ add-t4 c = search needs
 returns-3 : tie.Need-returns-3
 returns-3 c =
     let a = c .before .before .before .before .args in
-    let yes : channelFine (a .z) (drop (a .at) (a .p .now)) ≡ true = rw (first-of (a .p .now) (a .at)) (lt-ltb _ _ (c .if2 .left)) in
-    record { says = part-good 1 (channelFine (a .z)) (λ bs. byte bs 0) (a .p .now) (a .at) (omega arith) yes; within = (omega arith, omega arith) }
+    let yes : channelFine (a .sizes) (drop (a .at) (a .component .now)) ≡ true = rw (first-of (a .component .now) (a .at)) (lt-ltb _ _ (c .if2 .left)) in
+    record { says = part-good 1 (channelFine (a .sizes)) (λ bs. byte bs 0) (a .component .now) (a .at) (omega arith) yes; within = (omega arith, omega arith) }
 
 pub channel-spec : {M : Type 1} → statement M
 channel-spec =

@@ -14,7 +14,7 @@ enum-told c = search needs
 location-fine-requires : tie.Need-location-fine-requires
 location-fine-requires c κs =
     let s = c .before .before .before in
-    subst (λ (k : Kind). widthOf k ≤ length (s .args .h .now)) (c .enum-told .given .1) (s .pre)
+    subst (λ (k : Kind). widthOf k ≤ length (s .args .bytes .now)) (c .enum-told .given .1) (s .pre)
 
 enum-told-2 : tie.Need-enum-told-2
 enum-told-2 c = search needs
@@ -22,7 +22,7 @@ enum-told-2 c = search needs
 clock-guard-fine-requires : tie.Need-clock-guard-fine-requires
 clock-guard-fine-requires c κs =
     let s = c .before .before .before in
-    subst (λ (k : Kind). widthOf k ≤ length (s .args .h .now)) (c .enum-told2 .given .1) (s .pre)
+    subst (λ (k : Kind). widthOf k ≤ length (s .args .bytes .now)) (c .enum-told2 .given .1) (s .pre)
 
 enum-told-3 : tie.Need-enum-told-3
 enum-told-3 c = search needs
@@ -30,7 +30,7 @@ enum-told-3 c = search needs
 data-guard-fine-requires : tie.Need-data-guard-fine-requires
 data-guard-fine-requires c κs =
     let s = c .before .before .before in
-    subst (λ (k : Kind). widthOf k ≤ length (s .args .h .now)) (c .enum-told3 .given .1) (s .pre)
+    subst (λ (k : Kind). widthOf k ≤ length (s .args .bytes .now)) (c .enum-told3 .given .1) (s .pre)
 
 enum-told-4 : tie.Need-enum-told-4
 enum-told-4 c = search needs
@@ -38,7 +38,7 @@ enum-told-4 c = search needs
 update-fine-requires : tie.Need-update-fine-requires
 update-fine-requires c κs =
     let s = c .before .before .before in
-    subst (λ (k : Kind). widthOf k ≤ length (s .args .h .now)) (c .enum-told4 .given .1) (s .pre)
+    subst (λ (k : Kind). widthOf k ≤ length (s .args .bytes .now)) (c .enum-told4 .given .1) (s .pre)
 
 returns : tie.Need-returns
 returns c = rw (c .before .enum-told .given .1) (c .location-fine .ensures)

@@ -31,7 +31,7 @@ returns : tie.Need-returns Inv-loop μ-loop
 returns c =
     let a = c .before .before .before .before .args in
     let l = c .before .before .before .loop in
-    sym (found (a .h .now) (a .channel) (l .k) (omega arith) (c .if1 .taken)) ∙ l .inv .1
+    sym (found (a .bytes .now) (a .channel) (l .k) (omega arith) (c .if1 .taken)) ∙ l .inv .1
 
 loop-less : tie.Need-loop-less Inv-loop μ-loop
 loop-less c = search needs
@@ -40,13 +40,13 @@ loop-again : tie.Need-loop-again Inv-loop μ-loop
 loop-again c =
     let a = c .before .before .before .before .args in
     let l = c .before .before .before .loop in
-    (search needs, sym (passed-by (a .h .now) (a .channel) (l .k) (omega arith) (c .if1 .left)) ∙ l .inv .1)
+    (search needs, sym (passed-by (a .bytes .now) (a .channel) (l .k) (omega arith) (c .if1 .left)) ∙ l .inv .1)
 
 returns-2 : tie.Need-returns-2 Inv-loop μ-loop
 returns-2 c =
     let a = c .before .before .args in
     let l = c .before .loop in
-    sym (not-found (a .h .now) (a .channel) (l .k) (omega arith)) ∙ l .inv .1
+    sym (not-found (a .bytes .now) (a .channel) (l .k) (omega arith)) ∙ l .inv .1
 
 pub listed-before-spec : {M : Type 1} → statement M
 listed-before-spec =

@@ -32,7 +32,7 @@ returns : tie.Need-returns Inv-loop μ-loop
 returns c =
     let a = c .before .before .before .before .args in
     let l = c .before .before .loop in
-    record { says = pairs-short (a .z) (a .p .now) (a .from) (l .at) (l .i) (l .k) _ (omega arith) (l .inv .2) (c .if1 .taken); within = tt }
+    record { says = pairs-short (a .sizes) (a .component .now) (a .from) (l .at) (l .i) (l .k) _ (omega arith) (l .inv .2) (c .if1 .taken); within = tt }
 
 sub-pair-fine : tie.Need-sub-pair-fine Inv-loop μ-loop
 sub-pair-fine c = search needs
@@ -50,9 +50,9 @@ returns-2 : tie.Need-returns-2 Inv-loop μ-loop
 returns-2 c =
     let a = c .before .before .before .before .before .before .before .args in
     let l = c .before .before .before .before .before .loop in
-    let fine : c .before .pair-fine .result ≡ pairFine (a .z) (drop (l .at) (a .p .now)) =
-    c .before .pair-fine .ensures ∙ ap (pairFine (a .z)) (tail (a .p .now) (l .at)) in
-    record { says = pairs-bad (a .z) (a .p .now) (a .from) (l .at) (l .i) (l .k) _ (omega arith) (l .inv .2) (omega arith) (sym fine ∙ not-true _ (c .if2 .taken)); within = tt }
+    let fine : c .before .pair-fine .result ≡ pairFine (a .sizes) (drop (l .at) (a .component .now)) =
+    c .before .pair-fine .ensures ∙ ap (pairFine (a .sizes)) (tail (a .component .now) (l .at)) in
+    record { says = pairs-bad (a .sizes) (a .component .now) (a .from) (l .at) (l .i) (l .k) _ (omega arith) (l .inv .2) (omega arith) (sym fine ∙ not-true _ (c .if2 .taken)); within = tt }
 
 sub-listed-before : tie.Need-sub-listed-before Inv-loop μ-loop
 sub-listed-before c = search needs
@@ -73,12 +73,12 @@ returns-3 : tie.Need-returns-3 Inv-loop μ-loop
 returns-3 c =
     let a = c .before .before .before .before .before .before .before .before .before .before .before .args in
     let l = c .before .before .before .before .before .before .before .before .before .loop in
-    let fine : c .before .before .before .before .before .pair-fine .result ≡ pairFine (a .z) (drop (l .at) (a .p .now)) =
-    c .before .before .before .before .before .pair-fine .ensures ∙ ap (pairFine (a .z)) (tail (a .p .now) (l .at)) in
-    let seen : c .before .listed-before .result ≡ listed (getD (a .p .now) (l .at) 0) (channelsBefore (drop (a .from) (a .p .now)) (l .i)) =
-    c .before .listed-before .ensures ∙ ap (λ (h : List ℕ). listed (getD (a .p .now) (l .at) 0) (channelsBefore h (l .i))) (tail (a .p .now) (a .from)) in
+    let fine : c .before .before .before .before .before .pair-fine .result ≡ pairFine (a .sizes) (drop (l .at) (a .component .now)) =
+    c .before .before .before .before .before .pair-fine .ensures ∙ ap (pairFine (a .sizes)) (tail (a .component .now) (l .at)) in
+    let seen : c .before .listed-before .result ≡ listed (getD (a .component .now) (l .at) 0) (channelsBefore (drop (a .from) (a .component .now)) (l .i)) =
+    c .before .listed-before .ensures ∙ ap (λ (h : List ℕ). listed (getD (a .component .now) (l .at) 0) (channelsBefore h (l .i))) (tail (a .component .now) (a .from)) in
     record {
-      says = pairs-twice (a .z) (a .p .now) (a .from) (l .at) (l .i) (l .k) _ (omega arith) (l .inv .2) (omega arith) (sym fine ∙ not-false _ (c .before .before .before .before .if2 .left)) (sym seen ∙ c .if3 .taken);
+      says = pairs-twice (a .sizes) (a .component .now) (a .from) (l .at) (l .i) (l .k) _ (omega arith) (l .inv .2) (omega arith) (sym fine ∙ not-false _ (c .before .before .before .before .if2 .left)) (sym seen ∙ c .if3 .taken);
       within = tt;
     }
 
@@ -98,13 +98,13 @@ loop-again : tie.Need-loop-again Inv-loop μ-loop
 loop-again c =
     let a = c .before .before .before .before .before .before .before .before .before .before .before .args in
     let l = c .before .before .before .before .before .before .before .before .before .loop in
-    let fine : c .before .before .before .before .before .pair-fine .result ≡ pairFine (a .z) (drop (l .at) (a .p .now)) =
-    c .before .before .before .before .before .pair-fine .ensures ∙ ap (pairFine (a .z)) (tail (a .p .now) (l .at)) in
-    let seen : c .before .listed-before .result ≡ listed (getD (a .p .now) (l .at) 0) (channelsBefore (drop (a .from) (a .p .now)) (l .i)) =
-    c .before .listed-before .ensures ∙ ap (λ (h : List ℕ). listed (getD (a .p .now) (l .at) 0) (channelsBefore h (l .i))) (tail (a .p .now) (a .from)) in (
+    let fine : c .before .before .before .before .before .pair-fine .result ≡ pairFine (a .sizes) (drop (l .at) (a .component .now)) =
+    c .before .before .before .before .before .pair-fine .ensures ∙ ap (pairFine (a .sizes)) (tail (a .component .now) (l .at)) in
+    let seen : c .before .listed-before .result ≡ listed (getD (a .component .now) (l .at) 0) (channelsBefore (drop (a .from) (a .component .now)) (l .i)) =
+    c .before .listed-before .ensures ∙ ap (λ (h : List ℕ). listed (getD (a .component .now) (l .at) 0) (channelsBefore h (l .i))) (tail (a .component .now) (a .from)) in (
       omega arith,
       omega arith,
-      pairs-turn (a .z) (a .p .now) (a .from) (l .at) (l .i) (l .k) _ (omega arith) (l .inv .2) (l .inv .0) (omega arith) (sym fine ∙ not-false _ (c .before .before .before .before .if2 .left)) (sym seen ∙ c .if3 .left),
+      pairs-turn (a .sizes) (a .component .now) (a .from) (l .at) (l .i) (l .k) _ (omega arith) (l .inv .2) (l .inv .0) (omega arith) (sym fine ∙ not-false _ (c .before .before .before .before .if2 .left)) (sym seen ∙ c .if3 .left),
     )
 
 returns-4 : tie.Need-returns-4 Inv-loop μ-loop
@@ -112,7 +112,7 @@ returns-4 c =
     let a = c .before .before .before .args in
     let l = c .before .loop in
     record {
-      says = pairs-done (a .z) (channelsBefore (drop (a .from) (a .p .now)) (l .i)) (drop (l .at) (a .p .now)) (l .k) _ (omega arith) (l .inv .2);
+      says = pairs-done (a .sizes) (channelsBefore (drop (a .from) (a .component .now)) (l .i)) (drop (l .at) (a .component .now)) (l .k) _ (omega arith) (l .inv .2);
       within = (omega arith, omega arith);
     }
 

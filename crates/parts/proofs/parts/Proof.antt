@@ -33,9 +33,9 @@ returns : tie.Need-returns Inv-loop μ-loop
 returns c =
     let a = c .before .before .before .before .before .args in
     let l = c .before .before .loop in
-    let R = passes (a .kind) (a .z) in
-    let short = part-short (widthOf (a .kind)) (fineOf (a .kind) (a .z)) (λ bs. tt) (a .p .now) (l .at) (omega (arith, c .before .before .before .width .ensures)) in
-    record { says = stop R (l .k) (drop (l .at) (a .p .now)) _ (omega arith) short (l .inv .2); within = tt }
+    let R = passes (a .kind) (a .sizes) in
+    let short = part-short (widthOf (a .kind)) (fineOf (a .kind) (a .sizes)) (λ bs. tt) (a .component .now) (l .at) (omega (arith, c .before .before .before .width .ensures)) in
+    record { says = stop R (l .k) (drop (l .at) (a .component .now)) _ (omega arith) short (l .inv .2); within = tt }
 
 sub-fine : tie.Need-sub-fine Inv-loop μ-loop
 sub-fine c = search needs
@@ -53,11 +53,11 @@ returns-2 : tie.Need-returns-2 Inv-loop μ-loop
 returns-2 c =
     let a = c .before .before .before .before .before .before .before .before .args in
     let l = c .before .before .before .before .before .loop in
-    let fine : c .before .fine .result ≡ fineOf (a .kind) (a .z) (drop (l .at) (a .p .now)) =
-    c .before .fine .ensures ∙ ap (fineOf (a .kind) (a .z)) (tail (a .p .now) (l .at)) in
+    let fine : c .before .fine .result ≡ fineOf (a .kind) (a .sizes) (drop (l .at) (a .component .now)) =
+    c .before .fine .ensures ∙ ap (fineOf (a .kind) (a .sizes)) (tail (a .component .now) (l .at)) in
     let w = c .before .before .before .before .before .before .width .ensures in
-    let bad = part-bad (widthOf (a .kind)) (fineOf (a .kind) (a .z)) (λ bs. tt) (a .p .now) (l .at) (omega (arith, w)) (sym fine ∙ not-true _ (c .if2 .taken)) in
-    record { says = stop (passes (a .kind) (a .z)) (l .k) (drop (l .at) (a .p .now)) _ (omega arith) bad (l .inv .2); within = tt }
+    let bad = part-bad (widthOf (a .kind)) (fineOf (a .kind) (a .sizes)) (λ bs. tt) (a .component .now) (l .at) (omega (arith, w)) (sym fine ∙ not-true _ (c .if2 .taken)) in
+    record { says = stop (passes (a .kind) (a .sizes)) (l .k) (drop (l .at) (a .component .now)) _ (omega arith) bad (l .inv .2); within = tt }
 
 add-at : tie.Need-add-at Inv-loop μ-loop
 add-at c = search needs
@@ -72,18 +72,18 @@ loop-again : tie.Need-loop-again Inv-loop μ-loop
 loop-again c =
     let a = c .before .before .before .before .before .before .before .before .args in
     let l = c .before .before .before .before .before .loop in
-    let fine : c .before .fine .result ≡ fineOf (a .kind) (a .z) (drop (l .at) (a .p .now)) =
-    c .before .fine .ensures ∙ ap (fineOf (a .kind) (a .z)) (tail (a .p .now) (l .at)) in
+    let fine : c .before .fine .result ≡ fineOf (a .kind) (a .sizes) (drop (l .at) (a .component .now)) =
+    c .before .fine .ensures ∙ ap (fineOf (a .kind) (a .sizes)) (tail (a .component .now) (l .at)) in
     let w = c .before .before .before .before .before .before .width .ensures in
-    let good = part-good (widthOf (a .kind)) (fineOf (a .kind) (a .z)) (λ bs. tt) (a .p .now) (l .at) (omega (arith, w)) (sym fine ∙ not-false _ (c .if2 .left)) in
-    let next = turn (passes (a .kind) (a .z)) (l .k) (drop (l .at) (a .p .now)) _ _ (omega arith) good (l .inv .2) in
+    let good = part-good (widthOf (a .kind)) (fineOf (a .kind) (a .sizes)) (λ bs. tt) (a .component .now) (l .at) (omega (arith, w)) (sym fine ∙ not-false _ (c .if2 .left)) in
+    let next = turn (passes (a .kind) (a .sizes)) (l .k) (drop (l .at) (a .component .now)) _ _ (omega arith) good (l .inv .2) in
     (omega arith, omega arith, rw w next)
 
 returns-3 : tie.Need-returns-3 Inv-loop μ-loop
 returns-3 c =
     let a = c .before .before .before .before .args in
     let l = c .before .loop in
-    record { says = done (passes (a .kind) (a .z)) (l .k) (drop (l .at) (a .p .now)) _ (omega arith) (l .inv .2); within = (omega arith, omega arith) }
+    record { says = done (passes (a .kind) (a .sizes)) (l .k) (drop (l .at) (a .component .now)) _ (omega arith) (l .inv .2); within = (omega arith, omega arith) }
 
 pub parts-spec : {M : Type 1} → statement M
 parts-spec =

@@ -46,7 +46,7 @@ returns : tie.Need-returns Inv-loop μ-loop
 returns c =
     let a = c .before .before .before .args in
     let l = c .before .loop in
-    let e : l .i ≡ a .n = omega arith in
+    let e : l .i ≡ a .count = omega arith in
     record { verdict = refl; count = refl; items = λ j h. l .inv .2 j (omega arith) }
 
 pub laid-out-spec : {M : Type 1} → statement M

@@ -29,7 +29,7 @@ shared-slice-read-arcs : tie.Need-shared-slice-read-arcs
 shared-slice-read-arcs c = search needs
 
 arcs-requires : tie.Need-arcs-requires
-arcs-requires c κs = (subst (Within 7 (length (c .before .before .before .before .before .before .before .before .before .args .p .now))) (c .before .before .l2 .given .1) (c .before .before .before .before .parts .ensures .within) .1, c .before .before .before .before .before .before .before .before .before .pre .1)
+arcs-requires c κs = (subst (Within 7 (length (c .before .before .before .before .before .before .before .before .before .args .component .now))) (c .before .before .l2 .given .1) (c .before .before .before .before .parts .ensures .within) .1, c .before .before .before .before .before .before .before .before .before .pre .1)
 
 enum-known-e : tie.Need-enum-known-e
 enum-known-e c = search needs
@@ -40,27 +40,27 @@ enum-known-e-2 c = search needs
 returns : tie.Need-returns
 returns c =
     let a = c .before .before .before .before .before .before .before .before .args in
-    let p = a .p .now in
+    let p = a .component .now in
     sym (locations-fail (a .channels) p (drop 7 p) (c .before .before .before .parts .ensures .says ∙ ap (placed p) (c .before .l .given .1)))
 
 returns-2 : tie.Need-returns-2
 returns-2 c =
     let a = c .before .before .before .before .before .before .before .before .before .before .before .before .before .args in
-    let p = a .p .now in
+    let p = a .component .now in
     let e = c .before .before .before .before .before .before .before .before .parts .ensures .says ∙ ap (placed p) (c .before .before .before .before .before .before .l2 .given .1) in
     sym (arcs-fail (a .channels) p (drop 7 p) _ e (c .before .before .before .arcs .ensures .says ∙ ap (placed p) (c .before .e .given .1)))
 
 returns-3 : tie.Need-returns-3
 returns-3 c =
     let a = c .before .before .before .before .before .before .before .before .before .before .before .before .before .before .args in
-    let p = a .p .now in
+    let p = a .component .now in
     let e = c .before .before .before .before .before .before .before .before .before .parts .ensures .says ∙ ap (placed p) (c .before .before .before .before .before .before .before .l2 .given .1) in
     sym (bytes-left (a .channels) p (drop 7 p) _ e p (c .before .before .e2 .given .0 .0) (c .if1 .taken) (c .before .before .before .before .arcs .ensures .says ∙ ap (placed p) (c .before .before .e2 .given .1)))
 
 returns-4 : tie.Need-returns-4
 returns-4 c =
     let a = c .before .before .before .before .before .before .before .before .before .before .before .before .before .before .args in
-    let p = a .p .now in
+    let p = a .component .now in
     let e = c .before .before .before .before .before .before .before .before .before .parts .ensures .says ∙ ap (placed p) (c .before .before .before .before .before .before .before .l2 .given .1) in
     sym (ends-there (a .channels) p (drop 7 p) _ e p (c .before .before .e2 .given .0 .0) (c .if1 .left) (c .before .before .before .before .arcs .ensures .says ∙ ap (placed p) (c .before .before .e2 .given .1)))
 

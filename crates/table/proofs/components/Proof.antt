@@ -35,7 +35,7 @@ refused-requires c κs = search needs
 returns : tie.Need-returns Inv-loop μ-loop
 returns c =
     let a = c .before .before .before .before .before .args in
-    let s = a .s .now in
+    let s = a .table .now in
     let l = c .before .before .before .loop in
     let all = readComponents (a .channels) (a .count) 0 (drop 7 s) in
     let e = no-length (a .channels) (l .c) s (l .at) 0 (verdictOf all) (a .count - l .c) (omega arith) (l .inv .4) (c .before .if1 .taken) in
@@ -56,7 +56,7 @@ refused-requires-2 c κs = search needs
 returns-2 : tie.Need-returns-2 Inv-loop μ-loop
 returns-2 c =
     let a = c .before .before .before .before .before .before .before .args in
-    let s = a .s .now in
+    let s = a .table .now in
     let l = c .before .before .before .before .before .loop in
     let all = readComponents (a .channels) (a .count) 0 (drop 7 s) in
     let e = too-long (a .channels) (l .c) s (l .at) (c .before .before .word-at .result) (verdictOf all) (a .count - l .c) (omega arith) (l .inv .4) (omega arith) (c .before .before .word-at .ensures) (c .before .if2 .taken) in
@@ -86,7 +86,7 @@ refused-requires-3 c κs = search needs
 returns-3 : tie.Need-returns-3 Inv-loop μ-loop
 returns-3 c =
     let a = c .before .before .before .before .before .before .before .before .before .before .before .before .args in
-    let s = a .s .now in
+    let s = a .table .now in
     let l = c .before .before .before .before .before .before .before .before .before .before .loop in
     let all = readComponents (a .channels) (a .count) 0 (drop 7 s) in
     let n = c .before .before .before .before .before .before .before .word-at .result in
@@ -123,7 +123,7 @@ loop-less c = search needs
 loop-again : tie.Need-loop-again Inv-loop μ-loop
 loop-again c =
     let a = c .before .before .before .before .before .before .before .before .before .before .args in
-    let s = a .s .now in
+    let s = a .table .now in
     let l = c .before .before .before .before .before .before .before .before .loop in
     let all = readComponents (a .channels) (a .count) 0 (drop 7 s) in
     let n = c .before .before .before .before .before .word-at .result in
@@ -148,7 +148,7 @@ refused-requires-4 c κs = search needs
 returns-4 : tie.Need-returns-4 Inv-loop μ-loop
 returns-4 c =
     let a = c .before .before .before .before .before .args in
-    let s = a .s .now in
+    let s = a .table .now in
     let l = c .before .before .before .loop in
     let all = readComponents (a .channels) (a .count) 0 (drop 7 s) in
     let d : a .count - 1 + 1 ≡ l .c = omega arith in
@@ -158,7 +158,7 @@ returns-4 c =
 returns-5 : tie.Need-returns-5 Inv-loop μ-loop
 returns-5 c =
     let a = c .before .before .before .before .args in
-    let s = a .s .now in
+    let s = a .table .now in
     let l = c .before .before .loop in
     let all = readComponents (a .channels) (a .count) 0 (drop 7 s) in
     let d : l .c ≡ a .count = omega arith in

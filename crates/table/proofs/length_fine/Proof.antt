@@ -6,7 +6,7 @@ use Rattle.table.proofs.length_fine.Statement.{statement}
 use Rattle.table.proofs.length_fine.Tie as tie
 
 returns : tie.Need-returns
-returns c = rw (lt-leb 7 (length (c .before .before .args .s .now)) (c .if1 .taken))
+returns c = rw (lt-leb 7 (length (c .before .before .args .table .now)) (c .if1 .taken))
 
 both-requires : tie.Need-both-requires
 both-requires c κs = search needs

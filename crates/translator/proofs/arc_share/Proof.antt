@@ -62,7 +62,7 @@ returns c =
     let wide = c .before .before .wide in
     let work-length = c .before .work-length in
     let wide2 = c .wide2 in
-    shared (args .h .now) (args .clocks) (clocks-length .result) (wide .result) (work-length .result) (wide2 .result) (clocks-length .ensures .0) (wide .ensures .0) (work-length .ensures .0) (wide2 .ensures .0)
+    shared (args .bytes .now) (args .clocks) (clocks-length .result) (wide .result) (work-length .result) (wide2 .result) (clocks-length .ensures .0) (wide .ensures .0) (work-length .ensures .0) (wide2 .ensures .0)
 
 pub arc-share-spec : {M : Type 1} → statement M
 arc-share-spec =

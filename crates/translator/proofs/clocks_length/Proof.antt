@@ -30,14 +30,14 @@ part-clock-length-end : tie.Need-part-clock-length-end Inv-loop μ-loop
 part-clock-length-end c = search needs
 
 clock-length-requires : tie.Need-clock-length-requires Inv-loop μ-loop
-clock-length-requires c κs = left-there (c .before .before .before .before .args .h .now) (c .before .before .loop .place) 5 (omega arith)
+clock-length-requires c κs = left-there (c .before .before .before .before .args .bytes .now) (c .before .before .loop .place) 5 (omega arith)
 
 add-long : tie.Need-add-long Inv-loop μ-loop
 add-long c =
     let loop = c .before .before .before .loop in
     let args = c .before .before .before .before .before .args in
     let clock-length = c .clock-length in
-    omega (arith, loop .inv .1, clocks-most (args .n) (args .h .now), clock-length .ensures .1)
+    omega (arith, loop .inv .1, clocks-most (args .count) (args .bytes .now), clock-length .ensures .1)
 
 add-place : tie.Need-add-place Inv-loop μ-loop
 add-place c = search needs
@@ -54,15 +54,15 @@ loop-again c =
     let loop = c .before .before .before .loop in
     let clock-length = c .clock-length in
     let loop-test = c .before .before .loop-test in
-    (omega arith, clock-counted (args .h .now) (loop .place) (loop .k) (loop .long) (length (allMade ClockGuards (args .n) (args .h .now))) (clock-length .result) (loop-test .taken) (loop .inv .1) (clock-length .ensures .0))
+    (omega arith, clock-counted (args .bytes .now) (loop .place) (loop .k) (loop .long) (length (allMade ClockGuards (args .count) (args .bytes .now))) (clock-length .result) (loop-test .taken) (loop .inv .1) (clock-length .ensures .0))
 
 returns : tie.Need-returns Inv-loop μ-loop
 returns c =
     let loop = c .before .loop in
     let args = c .before .before .before .args in
     let loop-test = c .loop-test in
-    let z = none-counted (drop (loop .place) (args .h .now)) (loop .k) (loop-test .left) in
-    (omega (arith, loop .inv .1), omega (arith, loop .inv .1, clocks-most (args .n) (args .h .now)))
+    let z = none-counted (drop (loop .place) (args .bytes .now)) (loop .k) (loop-test .left) in
+    (omega (arith, loop .inv .1), omega (arith, loop .inv .1, clocks-most (args .count) (args .bytes .now)))
 
 pub clocks-length-spec : {M : Type 1} → statement M
 clocks-length-spec =

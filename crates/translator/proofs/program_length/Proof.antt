@@ -22,31 +22,31 @@ shared-slice-read-count c =
     let args = c .before .before .args in
     let shared-slice-known = c .before .shared-slice-known in
     let pre = c .before .before .pre in
-    omega (arith, valid-long (args .s .now) (slice-bytes (args .s .now) (shared-slice-known .given)) (pre .0))
+    omega (arith, valid-long (args .table .now) (slice-bytes (args .table .now) (shared-slice-known .given)) (pre .0))
 
 loop-holds : tie.Need-loop-holds Inv-loop μ-loop
-loop-holds c = (omega arith, sym (program-long (readOf (c .before .before .args .s .now))))
+loop-holds c = (omega arith, sym (program-long (readOf (c .before .before .args .table .now))))
 
 cast-start : tie.Need-cast-start Inv-loop μ-loop
 cast-start c =
     let args = c .before .before .before .before .args in
     let shared-slice-known = c .before .before .before .shared-slice-known in
     let pre = c .before .before .before .before .pre in
-    omega (arith, few-nodes (args .s .now) (slice-bytes (args .s .now) (shared-slice-known .given)) (pre .0))
+    omega (arith, few-nodes (args .table .now) (slice-bytes (args .table .now) (shared-slice-known .given)) (pre .0))
 
 mul-start : tie.Need-mul-start Inv-loop μ-loop
 mul-start c =
     let args = c .before .before .before .before .args in
     let shared-slice-known = c .before .before .before .shared-slice-known in
     let pre = c .before .before .before .before .pre in
-    omega (arith, few-nodes (args .s .now) (slice-bytes (args .s .now) (shared-slice-known .given)) (pre .0))
+    omega (arith, few-nodes (args .table .now) (slice-bytes (args .table .now) (shared-slice-known .given)) (pre .0))
 
 array-read-start : tie.Need-array-read-start Inv-loop μ-loop
 array-read-start c =
     let args = c .before .before .before .before .args in
     let shared-slice-known = c .before .before .before .shared-slice-known in
     let pre = c .before .before .before .before .pre in
-    omega (arith, few-nodes (args .s .now) (slice-bytes (args .s .now) (shared-slice-known .given)) (pre .0))
+    omega (arith, few-nodes (args .table .now) (slice-bytes (args .table .now) (shared-slice-known .given)) (pre .0))
 
 cast-start-2 : tie.Need-cast-start-2 Inv-loop μ-loop
 cast-start-2 c = search needs
@@ -58,7 +58,7 @@ sub-node-length c =
     let pre = c .before .before .before .before .pre in
     let loop = c .before .loop in
     let loop-test = c .loop-test in
-    omega (arith, start-fits (args .s .now) (slice-bytes (args .s .now) (shared-slice-known .given)) (pre .0) (loop .c) (loop-test .taken) (getD (args .t2) (loop .c) 0) (found (args .s .now) (slice-bytes (args .s .now) (shared-slice-known .given)) (pre .0) (args .t2) (pre .1) (loop .c) (loop-test .taken)))
+    omega (arith, start-fits (args .table .now) (slice-bytes (args .table .now) (shared-slice-known .given)) (pre .0) (loop .c) (loop-test .taken) (getD (args .t2) (loop .c) 0) (found (args .table .now) (slice-bytes (args .table .now) (shared-slice-known .given)) (pre .0) (args .t2) (pre .1) (loop .c) (loop-test .taken)))
 
 part-node-length-start : tie.Need-part-node-length-start Inv-loop μ-loop
 part-node-length-start c =
@@ -67,7 +67,7 @@ part-node-length-start c =
     let pre = c .before .before .before .before .pre in
     let loop = c .before .loop in
     let loop-test = c .loop-test in
-    omega (arith, start-fits (args .s .now) (slice-bytes (args .s .now) (shared-slice-known .given)) (pre .0) (loop .c) (loop-test .taken) (getD (args .t2) (loop .c) 0) (found (args .s .now) (slice-bytes (args .s .now) (shared-slice-known .given)) (pre .0) (args .t2) (pre .1) (loop .c) (loop-test .taken)))
+    omega (arith, start-fits (args .table .now) (slice-bytes (args .table .now) (shared-slice-known .given)) (pre .0) (loop .c) (loop-test .taken) (getD (args .t2) (loop .c) 0) (found (args .table .now) (slice-bytes (args .table .now) (shared-slice-known .given)) (pre .0) (args .t2) (pre .1) (loop .c) (loop-test .taken)))
 
 part-node-length-end : tie.Need-part-node-length-end Inv-loop μ-loop
 part-node-length-end c = search needs
@@ -79,7 +79,7 @@ node-length-requires c κs =
     let pre = c .before .before .before .before .before .pre in
     let loop = c .before .before .loop in
     let loop-test = c .before .loop-test in
-    (node-whole (args .s .now) (slice-bytes (args .s .now) (shared-slice-known .given)) (pre .0) (loop .c) (loop-test .taken) (getD (args .t2) (loop .c) 0) (found (args .s .now) (slice-bytes (args .s .now) (shared-slice-known .given)) (pre .0) (args .t2) (pre .1) (loop .c) (loop-test .taken)), node-sourced (args .s .now) (slice-bytes (args .s .now) (shared-slice-known .given)) (pre .0) (loop .c) (loop-test .taken) (getD (args .t2) (loop .c) 0) (found (args .s .now) (slice-bytes (args .s .now) (shared-slice-known .given)) (pre .0) (args .t2) (pre .1) (loop .c) (loop-test .taken)), node-small (args .s .now) (slice-bytes (args .s .now) (shared-slice-known .given)) (pre .0) (loop .c) (loop-test .taken) (getD (args .t2) (loop .c) 0) (found (args .s .now) (slice-bytes (args .s .now) (shared-slice-known .given)) (pre .0) (args .t2) (pre .1) (loop .c) (loop-test .taken)))
+    (node-whole (args .table .now) (slice-bytes (args .table .now) (shared-slice-known .given)) (pre .0) (loop .c) (loop-test .taken) (getD (args .t2) (loop .c) 0) (found (args .table .now) (slice-bytes (args .table .now) (shared-slice-known .given)) (pre .0) (args .t2) (pre .1) (loop .c) (loop-test .taken)), node-sourced (args .table .now) (slice-bytes (args .table .now) (shared-slice-known .given)) (pre .0) (loop .c) (loop-test .taken) (getD (args .t2) (loop .c) 0) (found (args .table .now) (slice-bytes (args .table .now) (shared-slice-known .given)) (pre .0) (args .t2) (pre .1) (loop .c) (loop-test .taken)), node-small (args .table .now) (slice-bytes (args .table .now) (shared-slice-known .given)) (pre .0) (loop .c) (loop-test .taken) (getD (args .t2) (loop .c) 0) (found (args .table .now) (slice-bytes (args .table .now) (shared-slice-known .given)) (pre .0) (args .t2) (pre .1) (loop .c) (loop-test .taken)))
 
 add-long : tie.Need-add-long Inv-loop μ-loop
 add-long c =
@@ -89,14 +89,14 @@ add-long c =
     let loop = c .before .before .before .loop in
     let loop-test = c .before .before .loop-test in
     let node-length = c .node-length in
-    omega (arith, node-counted (args .s .now) (slice-bytes (args .s .now) (shared-slice-known .given)) (pre .0) (loop .c) (loop-test .taken) (getD (args .t2) (loop .c) 0) (found (args .s .now) (slice-bytes (args .s .now) (shared-slice-known .given)) (pre .0) (args .t2) (pre .1) (loop .c) (loop-test .taken)) (loop .long) (length (programBytes (readOf (args .s .now)))) (node-length .result) (loop .inv .1) (node-length .ensures) .0, program-most (args .s .now) (slice-bytes (args .s .now) (shared-slice-known .given)) (pre .0))
+    omega (arith, node-counted (args .table .now) (slice-bytes (args .table .now) (shared-slice-known .given)) (pre .0) (loop .c) (loop-test .taken) (getD (args .t2) (loop .c) 0) (found (args .table .now) (slice-bytes (args .table .now) (shared-slice-known .given)) (pre .0) (args .t2) (pre .1) (loop .c) (loop-test .taken)) (loop .long) (length (programBytes (readOf (args .table .now)))) (node-length .result) (loop .inv .1) (node-length .ensures) .0, program-most (args .table .now) (slice-bytes (args .table .now) (shared-slice-known .given)) (pre .0))
 
 add-c : tie.Need-add-c Inv-loop μ-loop
 add-c c =
     let args = c .before .before .before .before .before .before .args in
     let shared-slice-known = c .before .before .before .before .before .shared-slice-known in
     let pre = c .before .before .before .before .before .before .pre in
-    omega (arith, few-nodes (args .s .now) (slice-bytes (args .s .now) (shared-slice-known .given)) (pre .0))
+    omega (arith, few-nodes (args .table .now) (slice-bytes (args .table .now) (shared-slice-known .given)) (pre .0))
 
 loop-less : tie.Need-loop-less Inv-loop μ-loop
 loop-less c = search needs
@@ -109,7 +109,7 @@ loop-again c =
     let loop = c .before .before .before .loop in
     let loop-test = c .before .before .loop-test in
     let node-length = c .node-length in
-    (omega arith, node-counted (args .s .now) (slice-bytes (args .s .now) (shared-slice-known .given)) (pre .0) (loop .c) (loop-test .taken) (getD (args .t2) (loop .c) 0) (found (args .s .now) (slice-bytes (args .s .now) (shared-slice-known .given)) (pre .0) (args .t2) (pre .1) (loop .c) (loop-test .taken)) (loop .long) (length (programBytes (readOf (args .s .now)))) (node-length .result) (loop .inv .1) (node-length .ensures) .1)
+    (omega arith, node-counted (args .table .now) (slice-bytes (args .table .now) (shared-slice-known .given)) (pre .0) (loop .c) (loop-test .taken) (getD (args .t2) (loop .c) 0) (found (args .table .now) (slice-bytes (args .table .now) (shared-slice-known .given)) (pre .0) (args .t2) (pre .1) (loop .c) (loop-test .taken)) (loop .long) (length (programBytes (readOf (args .table .now)))) (node-length .result) (loop .inv .1) (node-length .ensures) .1)
 
 returns : tie.Need-returns Inv-loop μ-loop
 returns c =
@@ -118,8 +118,8 @@ returns c =
     let pre = c .before .before .before .before .pre in
     let loop = c .before .loop in
     let loop-test = c .loop-test in
-    let z = ap length (nodes-gone (args .s .now) (slice-bytes (args .s .now) (shared-slice-known .given)) (pre .0) (loop .c) (loop-test .left)) in
-    (omega (arith, loop .inv .1), omega (arith, loop .inv .1, program-most (args .s .now) (slice-bytes (args .s .now) (shared-slice-known .given)) (pre .0)))
+    let z = ap length (nodes-gone (args .table .now) (slice-bytes (args .table .now) (shared-slice-known .given)) (pre .0) (loop .c) (loop-test .left)) in
+    (omega (arith, loop .inv .1), omega (arith, loop .inv .1, program-most (args .table .now) (slice-bytes (args .table .now) (shared-slice-known .given)) (pre .0)))
 
 pub program-length-spec : {M : Type 1} → statement M
 program-length-spec =

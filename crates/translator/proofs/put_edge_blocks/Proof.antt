@@ -31,7 +31,7 @@ statements-between-requires c κs =
     let args = c .before .before .before .before .before .args in
     let loop = c .before .before .loop in
     let loop-test = c .before .loop-test in
-    let s = args .h .now in
+    let s = args .bytes .now in
     let l = loop in
     let h = lay-is (edges-ahead (args .clocks) (l .k) (drop (l .edge) s) (loop-test .taken)) (l .inv .3) in
     (l .inv .2 .behind, start-room h .1)
@@ -41,7 +41,7 @@ put-word-requires c κs =
     let args = c .before .before .before .before .before .before .args in
     let loop = c .before .before .before .loop in
     let loop-test = c .before .before .loop-test in
-    let s = args .h .now in
+    let s = args .bytes .now in
     let l = loop in
     let h = lay-is (edges-ahead (args .clocks) (l .k) (drop (l .edge) s) (loop-test .taken)) (l .inv .3) in
     start-room h .0
@@ -62,10 +62,10 @@ put-edge-block-requires c κs =
     let loop-test = c .before .before .before .before .before .before .before .loop-test in
     let put-word = c .before .before .before .before .put-word in
     let statements-between = c .before .before .before .before .before .statements-between in
-    let s = args .h .now in
+    let s = args .bytes .now in
     let l = loop in
     let h = lay-is (edges-ahead (args .clocks) (l .k) (drop (l .edge) s) (loop-test .taken)) (l .inv .3) in
-    (edge-whole (args .h .now) (loop .edge) (loop .k) (loop-test .taken) (loop .inv .0) (loop .inv .1), edge-room s (l .edge) (args .clocks) (put-word .last .0) (l .at) (block-room h (put-is (ap be16 (statements-between .ensures)) (put-word .ensures))))
+    (edge-whole (args .bytes .now) (loop .edge) (loop .k) (loop-test .taken) (loop .inv .0) (loop .inv .1), edge-room s (l .edge) (args .clocks) (put-word .last .0) (l .at) (block-room h (put-is (ap be16 (statements-between .ensures)) (put-word .ensures))))
 
 sub-arc-length : tie.Need-sub-arc-length Inv-loop μ-loop
 sub-arc-length c = search needs
@@ -81,7 +81,7 @@ arc-length-requires c κs =
     let args = c .before .before .before .before .before .before .before .before .before .before .before .before .before .before .before .args in
     let loop = c .before .before .before .before .before .before .before .before .before .before .before .before .loop in
     let loop-test = c .before .before .before .before .before .before .before .before .before .before .before .loop-test in
-    edge-head (args .h .now) (loop .edge) (loop .k) (loop-test .taken) (loop .inv .0) (loop .inv .1)
+    edge-head (args .bytes .now) (loop .edge) (loop .k) (loop-test .taken) (loop .inv .0) (loop .inv .1)
 
 add-edge : tie.Need-add-edge Inv-loop μ-loop
 add-edge c =
@@ -89,7 +89,7 @@ add-edge c =
     let loop = c .before .before .before .before .before .before .before .before .before .before .before .before .before .loop in
     let loop-test = c .before .before .before .before .before .before .before .before .before .before .before .before .loop-test in
     let arc-length = c .arc-length in
-    omega (arith, edge-on (args .h .now) (loop .edge) (loop .k) (loop-test .taken) (loop .inv .0) (loop .inv .1) (arc-length .result) (arc-length .ensures))
+    omega (arith, edge-on (args .bytes .now) (loop .edge) (loop .k) (loop-test .taken) (loop .inv .0) (loop .inv .1) (arc-length .result) (arc-length .ensures))
 
 sub-k : tie.Need-sub-k Inv-loop μ-loop
 sub-k c = search needs
@@ -106,13 +106,13 @@ loop-again c =
     let arc-length = c .arc-length in
     let statements-between = c .before .before .before .before .before .before .before .before .before .before .statements-between in
     let put-word = c .before .before .before .before .before .before .before .before .before .put-word in
-    let s = args .h .now in
+    let s = args .bytes .now in
     let l = loop in
     let h = lay-is (edges-ahead (args .clocks) (l .k) (drop (l .edge) s) (loop-test .taken)) (l .inv .3) in
     let b = edge-put s (l .edge) (args .clocks) (put-edge-block .ensures) in
     let t = aligned-on (edgeBlockOf (args .clocks) (arcAt (drop (l .edge) s))) (l .inv .2) b in (
-      edge-on (args .h .now) (loop .edge) (loop .k) (loop-test .taken) (loop .inv .0) (loop .inv .1) (arc-length .result) (arc-length .ensures),
-      edges-on (args .h .now) (loop .edge) (loop .k) (loop-test .taken) (loop .inv .0) (loop .inv .1) (arc-length .result) (arc-length .ensures),
+      edge-on (args .bytes .now) (loop .edge) (loop .k) (loop-test .taken) (loop .inv .0) (loop .inv .1) (arc-length .result) (arc-length .ensures),
+      edges-on (args .bytes .now) (loop .edge) (loop .k) (loop-test .taken) (loop .inv .0) (loop .inv .1) (arc-length .result) (arc-length .ensures),
       t .0,
       lay-is (edges-behind s (l .edge) (args .clocks) (l .k - 1) (arc-length .result) (arc-length .ensures)) (lay-on h (put-is (ap be16 (statements-between .ensures)) (put-word .ensures)) b (t .1)),
     )
@@ -125,7 +125,7 @@ returns c =
     let args = c .before .before .before .before .args in
     let loop = c .before .loop in
     let loop-test = c .loop-test in
-    lay-end (lay-is (edges-gone (args .clocks) (loop .k) (drop (loop .edge) (args .h .now)) (loop-test .left)) (loop .inv .3))
+    lay-end (lay-is (edges-gone (args .clocks) (loop .k) (drop (loop .edge) (args .bytes .now)) (loop-test .left)) (loop .inv .3))
 
 pub put-edge-blocks-spec : {M : Type 1} → statement M
 put-edge-blocks-spec =

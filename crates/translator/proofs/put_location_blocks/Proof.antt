@@ -36,7 +36,7 @@ add-edges c = search needs
 loop-holds : tie.Need-loop-holds Inv-loop μ-loop
 loop-holds c =
     let a = c .before .before .before .before .args in
-    let p = a .p .now in
+    let p = a .component .now in
     let z : byte p 2 - 0 ≡ byte p 2 = omega arith in
     let y : (a .first - a .first) / 4 ≡ 0 = omega arith in
     let r = subst (λ l. Ready (a .out .now) 0 (a .starts) (a .first) l) (sym (all-locations p)) (c .before .before .before .before .pre .1) in
@@ -58,7 +58,7 @@ sub-location-at c =
     let wide2 = c .wide2 in
     let pre = c .before .before .before .before .before .before .before .pre in
     let loop-test = c .before .loop-test in
-    omega (arith, location-fits (args .p .now) (loop .here) (7 + wide2 .result * 3) (pre .0) (loop-test .taken) (omega (arith, wide2 .ensures .0)))
+    omega (arith, location-fits (args .component .now) (loop .here) (7 + wide2 .result * 3) (pre .0) (loop-test .taken) (omega (arith, wide2 .ensures .0)))
 
 part-location-at-start : tie.Need-part-location-at-start Inv-loop μ-loop
 part-location-at-start c =
@@ -67,7 +67,7 @@ part-location-at-start c =
     let wide2 = c .wide2 in
     let pre = c .before .before .before .before .before .before .before .pre in
     let loop-test = c .before .loop-test in
-    omega (arith, location-fits (args .p .now) (loop .here) (7 + wide2 .result * 3) (pre .0) (loop-test .taken) (omega (arith, wide2 .ensures .0)))
+    omega (arith, location-fits (args .component .now) (loop .here) (7 + wide2 .result * 3) (pre .0) (loop-test .taken) (omega (arith, wide2 .ensures .0)))
 
 part-location-at-end : tie.Need-part-location-at-end Inv-loop μ-loop
 part-location-at-end c = search needs
@@ -79,18 +79,18 @@ location-at-requires c κs =
     let loop = c .before .before .before .loop in
     let pre = c .before .before .before .before .before .before .before .before .pre in
     let loop-test = c .before .before .loop-test in
-    left-there (args .p .now) (7 + wide2 .result * 3) 3 (location-fits (args .p .now) (loop .here) (7 + wide2 .result * 3) (pre .0) (loop-test .taken) (omega (arith, wide2 .ensures .0)))
+    left-there (args .component .now) (7 + wide2 .result * 3) 3 (location-fits (args .component .now) (loop .here) (7 + wide2 .result * 3) (pre .0) (loop-test .taken) (omega (arith, wide2 .ensures .0)))
 
 statements-between-requires : tie.Need-statements-between-requires Inv-loop μ-loop
 statements-between-requires c κs =
-    let p = c .before .before .before .before .before .before .before .before .before .before .args .p .now in
+    let p = c .before .before .before .before .before .before .before .before .before .before .args .component .now in
     let l = c .before .before .before .before .before .loop in
     let h = lay-is (locations-ahead p (l .here) (byte p 2) (c .before .before .before .before .loop-test .taken)) (l .inv .2) in
     (l .inv .1 .behind, start-room h .1)
 
 put-word-requires : tie.Need-put-word-requires Inv-loop μ-loop
 put-word-requires c κs =
-    let p = c .before .before .before .before .before .before .before .before .before .before .before .args .p .now in
+    let p = c .before .before .before .before .before .before .before .before .before .before .before .args .component .now in
     let l = c .before .before .before .before .before .before .loop in
     let h = lay-is (locations-ahead p (l .here) (byte p 2) (c .before .before .before .before .before .loop-test .taken)) (l .inv .2) in
     start-room h .0
@@ -126,7 +126,7 @@ put-location-block-requires c κs =
     let pre = c .before .before .before .before .before .before .before .before .before .before .before .before .before .before .before .before .before .pre in
     let put-word = c .before .before .before .before .before .put-word in
     let statements-between = c .before .before .before .before .before .before .statements-between in
-    let p = args .p .now in
+    let p = args .component .now in
     let l = loop in
     let h = lay-is (locations-ahead p (l .here) (byte p 2) (loop-test .taken)) (l .inv .2) in
     let d : 7 + wide2 .result * 3 ≡ 7 + l .here * 3 = omega (arith, wide2 .ensures .0) in
@@ -151,7 +151,7 @@ loop-again c =
     let put-location-block = c .before .before .put-location-block in
     let statements-between = c .before .before .before .before .before .before .before .before .before .statements-between in
     let put-word = c .before .before .before .before .before .before .before .before .put-word in
-    let p = args .p .now in
+    let p = args .component .now in
     let l = loop in
     let h = lay-is (locations-ahead p (l .here) (byte p 2) (loop-test .taken)) (l .inv .2) in
     let d : 7 + wide2 .result * 3 ≡ 7 + l .here * 3 = omega (arith, wide2 .ensures .0) in
@@ -169,7 +169,7 @@ returns c =
     let args = c .before .before .before .before .before .before .args in
     let loop = c .before .loop in
     let loop-test = c .loop-test in
-    let p = args .p .now in
+    let p = args .component .now in
     let l = loop in
     subst (λ k. Laid (args .out .now) 0 (args .starts) (args .first) k (l .at) (l .out)) (all-locations p) (lay-end (lay-is (locations-gone p (l .here) (byte p 2) (loop-test .left)) (l .inv .2)))
 

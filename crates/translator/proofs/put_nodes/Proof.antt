@@ -20,33 +20,33 @@ shared-slice-read-count c =
     let args = c .before .before .before .args in
     let shared-slice-known = c .before .before .shared-slice-known in
     let pre = c .before .before .before .pre in
-    omega (arith, valid-long (args .s .now) (slice-bytes (args .s .now) (shared-slice-known .given)) (pre .0))
+    omega (arith, valid-long (args .table .now) (slice-bytes (args .table .now) (shared-slice-known .given)) (pre .0))
 
 loop-holds : tie.Need-loop-holds Inv-loop μ-loop
 loop-holds c =
     let args = c .before .before .before .args in
-    (omega arith, begin (args .out .now) (args .from) (nodesFrom (args .s .now) 0))
+    (omega arith, begin (args .out .now) (args .from) (nodesFrom (args .table .now) 0))
 
 cast-start : tie.Need-cast-start Inv-loop μ-loop
 cast-start c =
     let args = c .before .before .before .before .before .args in
     let shared-slice-known = c .before .before .before .before .shared-slice-known in
     let pre = c .before .before .before .before .before .pre in
-    omega (arith, few-nodes (args .s .now) (slice-bytes (args .s .now) (shared-slice-known .given)) (pre .0))
+    omega (arith, few-nodes (args .table .now) (slice-bytes (args .table .now) (shared-slice-known .given)) (pre .0))
 
 mul-start : tie.Need-mul-start Inv-loop μ-loop
 mul-start c =
     let args = c .before .before .before .before .before .args in
     let shared-slice-known = c .before .before .before .before .shared-slice-known in
     let pre = c .before .before .before .before .before .pre in
-    omega (arith, few-nodes (args .s .now) (slice-bytes (args .s .now) (shared-slice-known .given)) (pre .0))
+    omega (arith, few-nodes (args .table .now) (slice-bytes (args .table .now) (shared-slice-known .given)) (pre .0))
 
 array-read-start : tie.Need-array-read-start Inv-loop μ-loop
 array-read-start c =
     let args = c .before .before .before .before .before .args in
     let shared-slice-known = c .before .before .before .before .shared-slice-known in
     let pre = c .before .before .before .before .before .pre in
-    omega (arith, few-nodes (args .s .now) (slice-bytes (args .s .now) (shared-slice-known .given)) (pre .0))
+    omega (arith, few-nodes (args .table .now) (slice-bytes (args .table .now) (shared-slice-known .given)) (pre .0))
 
 cast-start-2 : tie.Need-cast-start-2 Inv-loop μ-loop
 cast-start-2 c = search needs
@@ -58,7 +58,7 @@ sub-put-node c =
     let pre = c .before .before .before .before .before .pre in
     let loop = c .before .loop in
     let loop-test = c .loop-test in
-    omega (arith, start-fits (args .s .now) (slice-bytes (args .s .now) (shared-slice-known .given)) (pre .0) (loop .c) (loop-test .taken) (getD (args .t2) (loop .c) 0) (found (args .s .now) (slice-bytes (args .s .now) (shared-slice-known .given)) (pre .0) (args .t2) (pre .1) (loop .c) (loop-test .taken)))
+    omega (arith, start-fits (args .table .now) (slice-bytes (args .table .now) (shared-slice-known .given)) (pre .0) (loop .c) (loop-test .taken) (getD (args .t2) (loop .c) 0) (found (args .table .now) (slice-bytes (args .table .now) (shared-slice-known .given)) (pre .0) (args .t2) (pre .1) (loop .c) (loop-test .taken)))
 
 part-put-node-start : tie.Need-part-put-node-start Inv-loop μ-loop
 part-put-node-start c =
@@ -67,7 +67,7 @@ part-put-node-start c =
     let pre = c .before .before .before .before .before .pre in
     let loop = c .before .loop in
     let loop-test = c .loop-test in
-    omega (arith, start-fits (args .s .now) (slice-bytes (args .s .now) (shared-slice-known .given)) (pre .0) (loop .c) (loop-test .taken) (getD (args .t2) (loop .c) 0) (found (args .s .now) (slice-bytes (args .s .now) (shared-slice-known .given)) (pre .0) (args .t2) (pre .1) (loop .c) (loop-test .taken)))
+    omega (arith, start-fits (args .table .now) (slice-bytes (args .table .now) (shared-slice-known .given)) (pre .0) (loop .c) (loop-test .taken) (getD (args .t2) (loop .c) 0) (found (args .table .now) (slice-bytes (args .table .now) (shared-slice-known .given)) (pre .0) (args .t2) (pre .1) (loop .c) (loop-test .taken)))
 
 part-put-node-end : tie.Need-part-put-node-end Inv-loop μ-loop
 part-put-node-end c = search needs
@@ -79,14 +79,14 @@ put-node-requires c κs =
     let pre = c .before .before .before .before .before .before .before .pre in
     let loop = c .before .before .before .loop in
     let loop-test = c .before .before .loop-test in
-    node-asked (args .s .now) (slice-bytes (args .s .now) (shared-slice-known .given)) (pre .0) (loop .c) (loop-test .taken) (getD (args .t2) (loop .c) 0) (found (args .s .now) (slice-bytes (args .s .now) (shared-slice-known .given)) (pre .0) (args .t2) (pre .1) (loop .c) (loop-test .taken)) (loop .inv .1) (pre .2)
+    node-asked (args .table .now) (slice-bytes (args .table .now) (shared-slice-known .given)) (pre .0) (loop .c) (loop-test .taken) (getD (args .t2) (loop .c) 0) (found (args .table .now) (slice-bytes (args .table .now) (shared-slice-known .given)) (pre .0) (args .t2) (pre .1) (loop .c) (loop-test .taken)) (loop .inv .1) (pre .2)
 
 add-c : tie.Need-add-c Inv-loop μ-loop
 add-c c =
     let args = c .before .before .before .before .before .before .before .before .before .before .args in
     let shared-slice-known = c .before .before .before .before .before .before .before .before .before .shared-slice-known in
     let pre = c .before .before .before .before .before .before .before .before .before .before .pre in
-    omega (arith, few-nodes (args .s .now) (slice-bytes (args .s .now) (shared-slice-known .given)) (pre .0))
+    omega (arith, few-nodes (args .table .now) (slice-bytes (args .table .now) (shared-slice-known .given)) (pre .0))
 
 loop-less : tie.Need-loop-less Inv-loop μ-loop
 loop-less c = search needs
@@ -99,7 +99,7 @@ loop-again c =
     let loop = c .before .before .before .before .before .before .loop in
     let loop-test = c .before .before .before .before .before .loop-test in
     let put-node = c .before .before .put-node in
-    (omega arith, node-on (args .s .now) (slice-bytes (args .s .now) (shared-slice-known .given)) (pre .0) (loop .c) (loop-test .taken) (getD (args .t2) (loop .c) 0) (found (args .s .now) (slice-bytes (args .s .now) (shared-slice-known .given)) (pre .0) (args .t2) (pre .1) (loop .c) (loop-test .taken)) (loop .inv .1) (put-node .ensures))
+    (omega arith, node-on (args .table .now) (slice-bytes (args .table .now) (shared-slice-known .given)) (pre .0) (loop .c) (loop-test .taken) (getD (args .t2) (loop .c) 0) (found (args .table .now) (slice-bytes (args .table .now) (shared-slice-known .given)) (pre .0) (args .t2) (pre .1) (loop .c) (loop-test .taken)) (loop .inv .1) (put-node .ensures))
 
 same-length : tie.Need-same-length Inv-loop μ-loop
 same-length c = writing-long (c .before .loop .inv .1)
@@ -111,7 +111,7 @@ returns c =
     let pre = c .before .before .before .before .before .pre in
     let loop = c .before .loop in
     let loop-test = c .loop-test in
-    put-all (left-is (nodes-gone (args .s .now) (slice-bytes (args .s .now) (shared-slice-known .given)) (pre .0) (loop .c) (loop-test .left)) (loop .inv .1))
+    put-all (left-is (nodes-gone (args .table .now) (slice-bytes (args .table .now) (shared-slice-known .given)) (pre .0) (loop .c) (loop-test .left)) (loop .inv .1))
 
 pub put-nodes-spec : {M : Type 1} → statement M
 put-nodes-spec =

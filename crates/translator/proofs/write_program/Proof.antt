@@ -11,7 +11,7 @@ put-nodes-requires c κs =
     let pre = c .before .before .before .pre in
     let args = c .before .before .before .args in
     let shared-slice-known = c .before .before .shared-slice-known in
-    (pre .0, pre .1, nodes-room (args .s .now) (slice-bytes (args .s .now) (shared-slice-known .given)) (pre .0) (args .out .now) (pre .2))
+    (pre .0, pre .1, nodes-room (args .table .now) (slice-bytes (args .table .now) (shared-slice-known .given)) (pre .0) (args .out .now) (pre .2))
 
 cast-put-program-head : tie.Need-cast-put-program-head
 cast-put-program-head c =
@@ -19,21 +19,21 @@ cast-put-program-head c =
     let shared-slice-known = c .before .before .before .before .before .before .shared-slice-known in
     let pre = c .before .before .before .before .before .before .before .pre in
     let put-nodes = c .before .before .before .put-nodes in
-    omega (arith, ends (args .s .now) (slice-bytes (args .s .now) (shared-slice-known .given)) (pre .0) (args .out .now) (pre .2) (put-nodes .ensures), program-most (args .s .now) (slice-bytes (args .s .now) (shared-slice-known .given)) (pre .0))
+    omega (arith, ends (args .table .now) (slice-bytes (args .table .now) (shared-slice-known .given)) (pre .0) (args .out .now) (pre .2) (put-nodes .ensures), program-most (args .table .now) (slice-bytes (args .table .now) (shared-slice-known .given)) (pre .0))
 
 shared-slice-read-put-program-head : tie.Need-shared-slice-read-put-program-head
 shared-slice-read-put-program-head c =
     let args = c .before .before .before .before .before .before .before .before .args in
     let shared-slice-known = c .before .before .before .before .before .before .before .shared-slice-known in
     let pre = c .before .before .before .before .before .before .before .before .pre in
-    omega (arith, valid-long (args .s .now) (slice-bytes (args .s .now) (shared-slice-known .given)) (pre .0))
+    omega (arith, valid-long (args .table .now) (slice-bytes (args .table .now) (shared-slice-known .given)) (pre .0))
 
 word-at-requires : tie.Need-word-at-requires
 word-at-requires c κs =
     let args = c .before .before .before .before .before .before .before .before .args in
     let shared-slice-known = c .before .before .before .before .before .before .before .shared-slice-known in
     let pre = c .before .before .before .before .before .before .before .before .pre in
-    omega (arith, valid-long (args .s .now) (slice-bytes (args .s .now) (shared-slice-known .given)) (pre .0))
+    omega (arith, valid-long (args .table .now) (slice-bytes (args .table .now) (shared-slice-known .given)) (pre .0))
 
 put-program-head-requires : tie.Need-put-program-head-requires
 put-program-head-requires c κs =
@@ -41,7 +41,7 @@ put-program-head-requires c κs =
     let shared-slice-known = c .before .before .before .before .before .before .before .before .shared-slice-known in
     let pre = c .before .before .before .before .before .before .before .before .before .pre in
     let put-nodes = c .before .before .before .before .before .put-nodes in
-    head-fits (args .s .now) (slice-bytes (args .s .now) (shared-slice-known .given)) (pre .0) (args .out .now) (pre .2) (put-nodes .ensures)
+    head-fits (args .table .now) (slice-bytes (args .table .now) (shared-slice-known .given)) (pre .0) (args .out .now) (pre .2) (put-nodes .ensures)
 
 same-length : tie.Need-same-length
 same-length c = search needs
@@ -54,7 +54,7 @@ returns c =
     let put-nodes = c .before .before .before .before .before .before .before .before .put-nodes in
     let word-at = c .before .before .before .word-at in
     let put-program-head = c .before .before .put-program-head in
-    (ends (args .s .now) (slice-bytes (args .s .now) (shared-slice-known .given)) (pre .0) (args .out .now) (pre .2) (put-nodes .ensures), program-put (args .s .now) (slice-bytes (args .s .now) (shared-slice-known .given)) (pre .0) (args .out .now) (pre .2) (put-nodes .ensures) (word-at .result) (word-at .ensures) (put-program-head .ensures))
+    (ends (args .table .now) (slice-bytes (args .table .now) (shared-slice-known .given)) (pre .0) (args .out .now) (pre .2) (put-nodes .ensures), program-put (args .table .now) (slice-bytes (args .table .now) (shared-slice-known .given)) (pre .0) (args .out .now) (pre .2) (put-nodes .ensures) (word-at .result) (word-at .ensures) (put-program-head .ensures))
 
 pub write-program-spec : {M : Type 1} → statement M
 write-program-spec =

@@ -2,7 +2,7 @@
 use mathlib.Core.Path.{_≡_, sym}
 use Prim.Native.Nat.{_<_}
 use lib.ListN.{length}
-use Rattle.model.proofs.Walk.{all-at}
+use Rattle.model.proofs.Basics.Walk.{all-at}
 use Rattle.window.proofs.Leaving.{aged-four}
 use borrow.Author.Needs.{needs}
 use Rattle.window.proofs.age.Statement.{statement}

@@ -1,0 +1,151 @@
+-- The observations of a run of an accepted table fit their bytes, so what the call `run` wrote is read back as them. Assumes nothing.
+use mathlib.Core.Path.{_≡_, refl, sym, ap, subst, _∙_}
+use mathlib.Core.Bool.{Bool, true, false, cond}
+use mathlib.Core.List.{List, [], _∷_, _++_, map}
+use mathlib.Core.Logic.{_⊎_, inl, inr}
+use mathlib.Core.Option.{Option, none, some}
+use Prim.Native.Nat.{ℕ, _+_, _*_, _≤_, _<_}
+use native.Mathlib.Omega.{arith}
+use borrow.Author.Tests.{leb-true, eq-eqb}
+use lib.Dec.{leb, ltb, eqb}
+use lib.IntN.{ℤ, pos, negsuc}
+use lib.ListN.{length, drop, length-map}
+use Rattle.model.specs.declared.Verdict.the-variants.{Accepted}
+use Rattle.model.specs.Lists.{only, All, empty, more, each, Answer, accepted}
+use Rattle.model.specs.Table.{Component, Read, noLocation, size, componentOf, locationOf, arcOf}
+use Rattle.model.specs.Limits.{Int16}
+use Rattle.model.specs.Reader.{readTable}
+use Rattle.model.specs.Window.{Entry, inRange, readyOf}
+use Rattle.model.specs.Schedule.{Passage, own}
+use Rattle.model.specs.Checks.{acceptedScheduleOf}
+use Rattle.model.specs.Network.{PathPassage, Taken, Observation, observation, takenOr, observationsOn, passagesOn, start}
+use Rattle.model.specs.Run.{settingOf, run, observationBytes}
+use Rattle.model.specs.Demand3.{TakenAs, PassAs}
+use Rattle.model.specs.Calls.{RunCall, notRun, ran, runWith, runCall, runPlanned, runRead}
+use Rattle.model.specs.Observations.{readObservation, readObservations, ObservationsRead}
+use Rattle.model.proofs.Basics.Bools.{and-is}
+use Rattle.model.proofs.Basics.Words.{all-before}
+use Rattle.model.proofs.Basics.Walk.{all-at, list-back}
+use Rattle.model.proofs.Basics.Members.{only-is}
+use Rattle.model.proofs.Window.Opening.{end-bounded}
+use Rattle.model.proofs.Schedule.Own.{all-in, in-all, all-then, all-map, own-in}
+use Rattle.model.proofs.Schedule.Passages.{Entered, entered}
+use Rattle.model.proofs.Node.Working.{arc-in}
+use Rattle.model.proofs.Network.Says.{seen}
+use Rattle.model.proofs.Reader.Limits.{read-limits}
+use Rattle.model.proofs.Run.Tied.{Given, given, component-in}
+use Rattle.model.proofs.Run.Promise.{promised}
+use Rattle.model.proofs.Run.Few.{of-nodes}
+use Rattle.model.proofs.Observations.Size.{observation-long}
+use Rattle.model.proofs.Observations.One.{Fits, observation-back}
+
+-- ## What a passage shows
+
+-- in range, it fits two bytes
+range-fits : (z : ℤ) → inRange z ≡ true → Int16 z
+range-fits (pos n) e = omega (arith, leb-true n 32767 (and-is true (leb n 32767) .0 e .1))
+range-fits (negsuc n) e = omega (arith, leb-true n 32767 (and-is (leb n 32767) true .0 e .0))
+
+-- a tick that is 0 or below the horizon
+small-tick : {n H : ℕ} → H ≤ 60000 → (n ≡ 0) ⊎ (n < H) → n ≤ 60000
+small-tick h (inl e) = omega arith
+small-tick h (inr e) = omega arith
+
+module _ {t : Read} {S : List Passage} (G : Given t (t .horizon) S) where
+  -- what a passage of component c shows fits its bytes
+  passage-fits : (c : ℕ) → c < size (t .table) → (v : Passage) → Entered (t .horizon) c (componentOf (t .table) c) v → Fits (t .table) (seen (componentOf (t .table) c) c v)
+  passage-fits c h v k =
+      let C = componentOf (t .table) c in
+      let i = component-in G c h in
+      let o = k .opened in
+      let there : v .entry .location < length (C .locations) = omega (arith, o .source, arc-in i (v .edge) (o .there) .source) in
+      let bound = all-at noLocation (i .locations) (v .entry .location) there .bound in
+      let early = small-tick (G .limits .mostHorizon) (k .tick) in
+      let ready = readyOf (arcOf C (v .edge) .clockGuards) (v .entry .clocks) in
+      let tick : v .entry .tick + ready ≤ 120000 = omega (arith, o .ready, o .wide, end-bounded c C (v .entry) o, bound, early) in
+      let clocks = length-map (v .entry .clocks) (λ x. x + ready) ∙ k .entry .clocks in
+      record {
+        tick = omega (arith, tick);
+        clocks = all-map (λ x. x + ready) (all-then (λ x p. omega (arith, tick)) (k .entry .below));
+        values = all-then range-fits (k .entry .ranged);
+        fewClocks = omega (arith, clocks, i .mostClocks);
+        fewValues = omega (arith, k .entry .values, i .variables);
+        clocksOf = clocks;
+        valuesOf = k .entry .values;
+      }
+
+  -- so do those of a component's passages
+  own-fit : (c : ℕ) → c < size (t .table) → All (λ v. Fits (t .table) (seen (componentOf (t .table) c) c v)) (own c S)
+  own-fit c h = in-all (own c S) (λ v i. (let j = own-in c S i in passage-fits c h v (subst (λ n. Entered (t .horizon) n (componentOf (t .table) n) v) (j .1) (all-in (entered (G .sched)) (j .0)))))
+
+-- ## What a path shows
+
+-- the edge that counts as taken is the schedule's
+edge-taken : (w : Option Taken) (v : Passage) → TakenAs w v → takenOr w (v .edge) ≡ v .edge
+edge-taken none v h = refl
+edge-taken (some w) v h = h .0
+
+-- what holds of all that the schedule's passages show holds of all that the path's show
+shown-all : (P : Observation → Type 0) (C : Component) (c last : ℕ) (ps : List PathPassage) (vs : List Passage) → PassAs ps vs → All (λ v. P (seen C c v)) vs
+    → All P (observationsOn C c last ps (map (λ v. v .edge) vs))
+unfolding observationsOn
+shown-all P C c last [] vs h a = empty
+shown-all P C c last (p ∷ ps) [] h a = absurd h
+shown-all P C c last (p ∷ ps) (v ∷ vs) h (more q a) = go (leb (o .tick) last) (shown-all P C c last ps vs (h .2) a)
+  where
+    o : Observation
+    o = observation C c (p .entry) (takenOr (p .waiting) (v .edge))
+
+    same : seen C c v ≡ o
+    same = ap (λ (at : Entry). observation C c at (v .edge)) (sym (h .0)) ∙ ap (observation C c (p .entry)) (sym (edge-taken (p .waiting) v (h .1)))
+
+    go : (x : Bool) {os : List Observation} → All P os → All P (cond x (o ∷ os) os)
+    go true b = more (subst P same q) b
+    go false b = b
+
+-- ## What a run shows
+
+module _ (bytes : List ℕ) (t : Read) (S : List Passage) (r : readTable bytes ≡ accepted t) (e : acceptedScheduleOf t ≡ accepted S) (cs : List ℕ) where
+  -- the observations of the run
+  abbrev os : List Observation
+  os = run (settingOf t S) cs .state .observations
+
+  -- what is given
+  given′ : Given t (t .horizon) S
+  given′ = given t S (read-limits bytes t r) e
+
+  -- those of one node fit
+  node-fits : (c : ℕ) → c < size (t .table) → All (Fits (t .table)) (only (λ o. eqb (o .component) c) os)
+  node-fits c h =
+      let d = promised bytes t S r e cs in
+      let b = d .observed c h in
+      let a = shown-all (Fits (t .table)) (componentOf (t .table) c) c (d .last .tick) (passagesOn (t .table) c (start (t .table)) (d .path)) (own c S) (d .scheduled c h) (own-fit given′ c h) in
+      all-before _ (b .rest) (subst (All (Fits (t .table))) (sym (b .is)) a)
+
+  -- all of them fit
+  pub fit : All (Fits (t .table)) os
+  fit = in-all os (λ o i. all-in (node-fits (o .component) (all-in (of-nodes given′ cs) i)) (only-is (λ (x : Observation). eqb (x .component) (o .component)) os .1 (i, eq-eqb (o .component) (o .component) refl)))
+
+  -- their bytes are read back
+  pub read-back : (rest : List ℕ) → readObservations (t .table) (length os) (each observationBytes os ++ rest) ≡ os
+  read-back rest = list-back observationBytes 32 observation-long (readObservation (t .table)) (Fits (t .table)) (λ o r. observation-back (t .table) o r) fit rest
+
+-- the call `run`: what it wrote is read back
+pub observations-read : (table choices lent : List ℕ) → ObservationsRead table choices lent
+unfolding runCall
+observations-read table choices lent t S r e = subst Back (sym same) (go (ltb (length lent) (length S * 32)) (ltb 1000000 (length choices)))
+  where
+    shown : List Observation
+    shown = run (settingOf t S) choices .state .observations
+
+    -- of this answer
+    Back : RunCall → Type 0
+    Back c = c .verdict ≡ Accepted → readObservations (t .table) (c .size) (c .lent) ≡ shown
+
+    same : runCall table choices lent ≡ runWith t S choices lent
+    same = ap (λ (x : Answer Read). runRead x choices lent) r ∙ ap (λ (x : Answer (List Passage)). runPlanned t x choices lent) e
+
+    go : (x y : Bool) → Back (cond x (notRun 13 255 lent) (cond y (notRun 14 255 lent) (ran (run (settingOf t S) choices) lent)))
+    go true y v = absurd (let z : _≡_ {A = ℕ} 0 1 = cc in omega arith)
+    go false true v = absurd (let z : _≡_ {A = ℕ} 0 1 = cc in omega arith)
+    go false false v = read-back table t S r e choices (drop (length (each observationBytes shown)) lent)

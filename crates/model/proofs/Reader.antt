@@ -1,0 +1,14 @@
+-- The table's reader: it accepts exactly the bytes of tables in the limits, and what it accepts stands where it is looked for.
+-- To cite: `RoundTrip.law` (reading gives t exactly if t is in the limits and the bytes are its bytes), `Located.located` and `valid-located` (the parts
+-- of an accepted table, by place), `Limits.read-limits` (for any numbers, bytes or not).
+pub mod Parts
+pub mod Fixed
+pub mod Items
+pub mod Edges
+pub mod Components
+pub mod RoundTrip
+pub mod Written
+pub mod ArcPlaces
+pub mod Located
+pub mod PartLimits
+pub mod Limits

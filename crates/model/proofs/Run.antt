@@ -1,0 +1,18 @@
+-- Nodes and network together: every state of a run is held against the schedule, and so demand 3 holds.
+-- To cite: `Promise.promised` (demand 3 for every list of choices), `Tied.Tied` (what holds of each state), `Few.few` (no more observations than passages),
+-- `Ends.end-numbers` (the four ends).
+pub mod Tied
+pub mod Start
+pub mod Node
+pub mod Tick
+pub mod Move
+pub mod Statement
+pub mod Listener
+pub mod Send
+pub mod Count
+pub mod Path
+pub mod Due
+pub mod Choices
+pub mod Promise
+pub mod Few
+pub mod Ends

@@ -1,0 +1,110 @@
+-- The delays at which invariant and clock bounds hold are those from readyOf up to, and without, pastOf. Assumes nothing.
+use mathlib.Core.Path.{_≡_, refl}
+use mathlib.Core.Bool.{Bool, true, false, cond, _&&_, _||_}
+use mathlib.Core.List.{List, [], _∷_}
+use mathlib.Core.Logic.{_↔_}
+use Prim.Native.Nat.{ℕ, suc, pred, _+_, _-_, _≤_, _<_, min}
+use native.Mathlib.Omega.{arith}
+use borrow.Author.Tests.{leb-true, le-leb, ltb-true, lt-ltb}
+use lib.Dec.{leb, ltb, eqb}
+use lib.IntN.{ℤ}
+use Rattle.model.specs.declared.Location.{Location}
+use Rattle.model.specs.declared.ClockGuard.{ClockGuard}
+use Rattle.model.specs.Lists.{all}
+use Rattle.model.specs.Table.{Arc}
+use Rattle.model.specs.Window.{clockAt, within, holdsAfter, IsWindow, readyOf, pastOf, dataHolds, candidate}
+use Rattle.model.proofs.Basics.Bools.{and-is}
+
+module _ (l : Location) (xs : List ℕ) (d : ℕ) where
+  -- the clock bounds hold
+  abbrev guards : List ClockGuard → Bool
+  guards gs = all (λ g. within g (clockAt xs (g .clock) + d)) gs
+
+  -- invariant and clock bounds hold: the delay is in the interval
+  inside : (gs : List ClockGuard) → leb (clockAt xs (l .clock) + d) (l .bound) ≡ true → guards gs ≡ true → (readyOf gs xs ≤ d) × (d < pastOf l gs xs)
+  inside [] i e = (omega arith, omega (arith, leb-true))
+  inside (g ∷ gs) i e =
+      let x = clockAt xs (g .clock) + d in
+      let h = and-is (within g x) (guards gs) .0 e in
+      let w = and-is (leb (g .low) x) (eqb (g .high) 65535 || leb x (g .high)) .0 (h .0) in
+      let ih = inside gs i (h .1) in
+      (omega (arith, leb-true (g .low) x (w .0)), go (ih .1) (eqb (g .high) 65535) (w .1))
+    where
+      go : d < pastOf l gs xs → (t : Bool) → t || leb (clockAt xs (g .clock) + d) (g .high) ≡ true
+          → d < cond t (pastOf l gs xs) (min (suc (g .high) - clockAt xs (g .clock)) (pastOf l gs xs))
+      go h true p = h
+      go h false p = omega (arith, leb-true (clockAt xs (g .clock) + d) (g .high) p)
+
+  -- the delay is in the interval: invariant and clock bounds hold
+  outside : (gs : List ClockGuard) → readyOf gs xs ≤ d → d < pastOf l gs xs → (leb (clockAt xs (l .clock) + d) (l .bound) ≡ true) × (guards gs ≡ true)
+  outside [] r p = (le-leb (clockAt xs (l .clock) + d) (l .bound) (omega arith), refl)
+  outside (g ∷ gs) r p = go (outside gs (omega arith)) (eqb (g .high) 65535) p
+    where
+      low : leb (g .low) (clockAt xs (g .clock) + d) ≡ true
+      low = le-leb (g .low) (clockAt xs (g .clock) + d) (omega arith)
+
+      go : (d < pastOf l gs xs → (leb (clockAt xs (l .clock) + d) (l .bound) ≡ true) × (guards gs ≡ true)) → (t : Bool)
+          → d < cond t (pastOf l gs xs) (min (suc (g .high) - clockAt xs (g .clock)) (pastOf l gs xs))
+          → (leb (clockAt xs (l .clock) + d) (l .bound) ≡ true)
+          × (leb (g .low) (clockAt xs (g .clock) + d) && (t || leb (clockAt xs (g .clock) + d) (g .high)) && guards gs ≡ true)
+      go ih true q = let h = ih q in (h .0, rw (low, h .1))
+      go ih false q = let h = ih (omega arith) in (h .0, rw (low, le-leb (clockAt xs (g .clock) + d) (g .high) (omega arith), h .1))
+
+  -- a delay at which they hold is in the interval
+  pub holds-inside : (gs : List ClockGuard) → holdsAfter l gs xs d ≡ true → (readyOf gs xs ≤ d) × (d < pastOf l gs xs)
+  holds-inside gs e = let h = and-is (leb (clockAt xs (l .clock) + d) (l .bound)) (guards gs) .0 e in inside gs (h .0) (h .1)
+
+  -- at a delay in the interval they hold
+  pub inside-holds : (gs : List ClockGuard) → readyOf gs xs ≤ d → d < pastOf l gs xs → holdsAfter l gs xs d ≡ true
+  inside-holds gs r p = let h = outside gs r p in rw (h .0, h .1)
+
+  -- before the end the invariant holds, ready or not
+  pub invariant : (gs : List ClockGuard) → d < pastOf l gs xs → clockAt xs (l .clock) + d ≤ l .bound
+  invariant [] p = omega arith
+  invariant (g ∷ gs) p = go (invariant gs) (eqb (g .high) 65535) p
+    where
+      go : (d < pastOf l gs xs → clockAt xs (l .clock) + d ≤ l .bound) → (t : Bool)
+          → d < cond t (pastOf l gs xs) (min (suc (g .high) - clockAt xs (g .clock)) (pastOf l gs xs)) → clockAt xs (l .clock) + d ≤ l .bound
+      go ih true q = ih q
+      go ih false q = ih (omega arith)
+
+module _ (l : Location) (gs : List ClockGuard) (xs : List ℕ) where
+  -- where there is a delay at which they hold, ready and end are the first and the last such delay
+  pub is-window : readyOf gs xs < pastOf l gs xs → IsWindow l gs xs (readyOf gs xs) (pred (pastOf l gs xs))
+  is-window h =
+      record {
+        atReady = inside-holds l xs (readyOf gs xs) gs (omega arith) h;
+        least = λ d e. holds-inside l xs d gs e .0;
+        atEnd = inside-holds l xs (pred (pastOf l gs xs)) gs (omega arith) (omega arith);
+        last = λ d e. omega (arith, holds-inside l xs d gs e .1);
+      }
+
+  -- where the end is not past ready, they hold at no delay
+  pub no-window : pastOf l gs xs ≤ readyOf gs xs → (d : ℕ) → holdsAfter l gs xs d ≡ true → ⊥
+  no-window h d e = omega (arith, holds-inside l xs d gs e .0, holds-inside l xs d gs e .1)
+
+  -- there is one window at most
+  pub one-window : {r e : ℕ} → IsWindow l gs xs r e → (r ≡ readyOf gs xs) × (e ≡ pred (pastOf l gs xs))
+  one-window {r} {e} w =
+      let h = holds-inside l xs r gs (w .atReady) in
+      let some′ : readyOf gs xs < pastOf l gs xs = omega (arith, h .0, h .1) in
+      let v = is-window some′ in (
+        omega (arith, w .least (readyOf gs xs) (v .atReady), h .0),
+        omega (arith, w .last (pred (pastOf l gs xs)) (v .atEnd), holds-inside l xs e gs (w .atEnd) .1),
+      )
+
+-- an edge is a candidate exactly if its data bounds hold and it has a window with ready < end
+pub candidate-is : (l : Location) (a : Arc) (xs : List ℕ) (vs : List ℤ)
+    → (candidate l a xs vs ≡ true) ↔ (dataHolds (a .dataGuards) vs ≡ true) × ((r : ℕ) × (e : ℕ) × IsWindow l (a .clockGuards) xs r e × (r < e))
+candidate-is l a xs vs = (to, from)
+  where
+    to : candidate l a xs vs ≡ true → (dataHolds (a .dataGuards) vs ≡ true) × ((r : ℕ) × (e : ℕ) × IsWindow l (a .clockGuards) xs r e × (r < e))
+    to c =
+        let h = and-is (dataHolds (a .dataGuards) vs) (ltb (suc (readyOf (a .clockGuards) xs)) (pastOf l (a .clockGuards) xs)) .0 c in
+        let k : suc (readyOf (a .clockGuards) xs) < pastOf l (a .clockGuards) xs = ltb-true _ _ (h .1) in
+        (h .0, (readyOf (a .clockGuards) xs, pred (pastOf l (a .clockGuards) xs), is-window l (a .clockGuards) xs (omega arith), omega arith))
+
+    from : (dataHolds (a .dataGuards) vs ≡ true) × ((r : ℕ) × (e : ℕ) × IsWindow l (a .clockGuards) xs r e × (r < e)) → candidate l a xs vs ≡ true
+    from h =
+        let o = one-window l (a .clockGuards) xs (h .1 .2) in
+        rw (h .0) (lt-ltb (suc (readyOf (a .clockGuards) xs)) (pastOf l (a .clockGuards) xs) (omega (arith, o .0, o .1, h .1 .3)))
