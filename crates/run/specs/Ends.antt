@@ -1,9 +1,9 @@
 -- What is known when a run begins, and what holds when it has ended.
 use mathlib.Core.Path.{_≡_}
 use mathlib.Core.List.{List, _++_, map}
-use Prim.Native.Nat.{ℕ, _*_, _≤_, _<_}
+use Prim.Native.Nat.{ℕ, _*_, _-_, _≤_, _<_}
 use lib.IntN.{ℤ}
-use lib.ListN.{length, take, drop}
+use lib.ListN.{length, getD, take, drop}
 use Rattle.model.specs.Lists.{each, below, accepted}
 use Rattle.model.specs.Table.{Component}
 use Rattle.model.specs.Reader.{byte}
@@ -35,6 +35,16 @@ pub record FirstLate (l : List ℕ) (count tick r : ℕ) : Type 0 where
   pub among : r ≤ count
   pub before : (i : ℕ) → i < r → tick ≤ wordIn l i 27
   pub there : r < count → wordIn l r 27 < tick
+
+-- before that tick no node is due, up to it none is late, and it lies before the horizon
+pub record Calm (l : List ℕ) (count H calm : ℕ) : Type 0 where
+  pub due : (i : ℕ) → i < count → calm ≤ wordIn l i 26
+  pub last : (i : ℕ) → i < count → calm ≤ wordIn l i 27
+  pub before : calm ≤ H - 1
+
+-- the choices from one place up to another are ticks
+abbrev pub Ticks : List ℕ → ℕ → ℕ → Type 0
+Ticks choices from end = (i : ℕ) → from ≤ i → i < end → getD choices i 0 ≡ 255
 
 -- ## The start
 

@@ -1,9 +1,9 @@
 // The whole list of choices (document 01, 'The run'): the nodes at their programs' start, the choices one after the other, the end.
 ghost use mathlib.Core.Path.{_≡_};
 ghost use mathlib.Core.List.{List};
-ghost use Prim.Native.Nat.{_+_, _*_, _≤_, _<_};
+ghost use Prim.Native.Nat.{ℕ, _+_, _*_, _≤_, _<_};
 ghost use lib.Dec.{eqb};
-ghost use lib.ListN.{length};
+ghost use lib.ListN.{length, getD};
 ghost use Rattle.model.specs.Lists.{any, below, accepted};
 ghost use Rattle.model.specs.Reader.{byte};
 ghost use Rattle.model.specs.Places.{Valid, readOf};
@@ -14,7 +14,7 @@ ghost use Rattle.model.specs.Run.{settingOf, startRun};
 ghost use Rattle.table.specs.Directory.{startsOf};
 ghost use Rattle.registers.specs.Words.{wordIn, Eight};
 ghost use Rattle.machine.specs.Running.{RowsStand, settingIn, Running};
-ghost use Rattle.run.specs.Ends.{Roomy, EndsAs, FirstLate, WordsPut, NodeStarted, Started, Planned};
+ghost use Rattle.run.specs.Ends.{Roomy, EndsAs, FirstLate, Calm, Ticks, WordsPut, NodeStarted, Started, Planned};
 
 // How a run ended: document 01's number of the end, the node, the tick, the choices used, the observations written.
 pub struct Ended {
@@ -55,6 +55,86 @@ fn first_late(l: &[u64], count: usize, tick: u64) -> usize
     count
 }
 
+fn lesser(a: u64, b: u64) -> u64
+    ensures { λ r. ⌜ (r ≤ a) × (r ≤ b) × ((m : ℕ) → m ≤ a → m ≤ b → m ≤ r) ⌝ }
+{
+    if a < b { a } else { b }
+}
+
+// A tick before the horizon up to which no node is due and none is late.
+fn calm_until(l: &[u64], count: usize, horizon: u64) -> u64
+    requires { ⌜ (256 ≤ length (now l)) × (count ≤ 8) ⌝ }
+    ensures { λ calm. ⌜ Calm (now (l .entry)) count horizon calm ⌝ }
+{
+    if horizon == 0 {
+        return 0;
+    }
+    let mut calm = horizon - 1;
+    let mut c: usize = 0;
+    while c < count {
+        let due = registers::word(l, c, 26);
+        let last = registers::word(l, c, 27);
+        calm = lesser(calm, lesser(due, last));
+        c += 1;
+    }
+    calm
+}
+
+fn wide(x: u8) -> u32
+    ensures { λ r. ⌜ (r ≡ x) × (r < 256) ⌝ }
+{
+    x as u32
+}
+
+// Four choices from a place on, added up: 1,020 if they are ticks.
+fn sum_of_four(choices: &[u8], at: usize) -> u32
+    requires { ⌜ at + 4 ≤ length (now choices) ⌝ }
+    ensures { λ r. ⌜ (r ≤ 1020) × (r ≡ 1020 → Ticks (now (choices .entry)) at (at + 4)) ⌝ }
+{
+    let first = wide(choices[at]) + wide(choices[at + 1]);
+    first + (wide(choices[at + 2]) + wide(choices[at + 3]))
+}
+
+// How far the choices from a place on are ticks, eight looked at together.
+fn ticks_by_eight(choices: &[u8], from: usize, end: usize) -> usize
+    requires { ⌜ (from ≤ end) × (end ≤ length (now choices)) ⌝ }
+    ensures { λ at. ⌜ (from ≤ at) × (at ≤ end) × Ticks (now (choices .entry)) from at ⌝ }
+{
+    let mut at = from;
+    while 8 <= end - at {
+        if sum_of_four(choices, at) + sum_of_four(choices, at + 4) != 2040 {
+            return at;
+        }
+        at += 8;
+    }
+    at
+}
+
+// The same, one by one.
+fn ticks_by_one(choices: &[u8], from: usize, end: usize) -> usize
+    requires { ⌜ (from ≤ end) × (end ≤ length (now choices)) ⌝ }
+    ensures { λ at. ⌜ (from ≤ at) × (at ≤ end) × Ticks (now (choices .entry)) from at ⌝ }
+{
+    let mut at = from;
+    while at < end {
+        if choices[at] != 255 {
+            return at;
+        }
+        at += 1;
+    }
+    at
+}
+
+// How many of the choices from a place on are ticks, so many at most; the first one is.
+fn ticks_in_a_row(choices: &[u8], from: usize, most: u64) -> usize
+    requires { ⌜ (from < length (now choices)) × (1 ≤ most) × (getD (now choices) from 0 ≡ 255) ⌝ }
+    ensures { λ k. ⌜ (1 ≤ k) × (k ≤ most) × (from + k ≤ length (now (choices .entry))) × Ticks (now (choices .entry)) from (from + k) ⌝ }
+{
+    let end = from + lesser(most, (choices.len() - from) as u64) as usize;
+    let at = ticks_by_eight(choices, from + 1, end);
+    ticks_by_one(choices, at, end) - from
+}
+
 fn end_of(end: u8, node: u8, tick: u64, used: usize, written: usize) -> Ended
     ensures { λ r. ⌜ (r .end ≡ end) × (r .node ≡ node) × (r .tick ≡ tick) × (r .used ≡ used) × (r .written ≡ written) ⌝ }
 {
@@ -88,17 +168,24 @@ fn carry_out(
     while used < choices.len() {
         let b = choices[used];
         if b == 255 {
-            if some_due(l, count, tick) {
-                return end_of(3, 255, tick, used, written);
-            }
-            tick += 1;
-            used += 1;
-            let c = first_late(l, count, tick);
-            if c < count {
-                return end_of(2, c as u8, tick, used, written);
-            }
-            if tick == horizon {
-                return end_of(0, 255, tick, used, written);
+            let calm = calm_until(l, count, horizon);
+            if tick < calm {
+                let k = ticks_in_a_row(choices, used, calm - tick);
+                tick += k as u64;
+                used += k;
+            } else {
+                if some_due(l, count, tick) {
+                    return end_of(3, 255, tick, used, written);
+                }
+                tick += 1;
+                used += 1;
+                let c = first_late(l, count, tick);
+                if c < count {
+                    return end_of(2, c as u8, tick, used, written);
+                }
+                if tick == horizon {
+                    return end_of(0, 255, tick, used, written);
+                }
             }
         } else {
             let m = machine::choose_node(program, rows, n, count, l, v, tick, b, out, written);
