@@ -294,6 +294,23 @@ fn run_program(
     )
 }
 
+// The same, its program written to the bytes lent.
+fn run_in(
+    table: &[u8],
+    starts: [u16; 8],
+    program: &mut [u8],
+    rows: &[u32],
+    n: usize,
+    choices: &[u8],
+    out: &mut [u8],
+) -> Ended
+    requires { ⌜ Valid (now table) × (starts ≡ startsOf (now table) (byte (now table) 3)) × (length (programBytes (readOf (now table))) ≤ length (now program)) × Planned (now table) (now rows) n × (n * 32 ≤ length (now out)) × (length (now choices) ≤ 1000000) ⌝ }
+    ensures { λ e. ⌜ ((S : List Passage) → acceptedScheduleOf (readOf (now (table .entry))) ≡ accepted S → EndsAs (settingOf (readOf (now (table .entry))) S) (now (choices .entry)) (now (out .entry)) e (now (out .exit))) ⌝ }
+{
+    let long = translator::write_program(table, starts, program);
+    run_program(table, starts, &program[..long], rows, n, choices, out)
+}
+
 // Runs the programs of an accepted table whose schedule stands in the rows.
 pub fn run_table(
     table: &[u8],
@@ -306,7 +323,10 @@ pub fn run_table(
     requires { ⌜ Valid (now table) × (starts ≡ startsOf (now table) (byte (now table) 3)) × Planned (now table) (now rows) n × (n * 32 ≤ length (now out)) × (length (now choices) ≤ 1000000) ⌝ }
     ensures { λ e. ⌜ ((S : List Passage) → acceptedScheduleOf (readOf (now (table .entry))) ≡ accepted S → EndsAs (settingOf (readOf (now (table .entry))) S) (now (choices .entry)) (now (out .entry)) e (now (out .exit))) ⌝ }
 {
+    if translator::program_length(table, starts) <= 2048 {
+        let mut program = [0u8; 2048];
+        return run_in(table, starts, &mut program, rows, n, choices, out);
+    }
     let mut program = [0u8; 24576];
-    let long = translator::write_program(table, starts, &mut program);
-    run_program(table, starts, &program[..long], rows, n, choices, out)
+    run_in(table, starts, &mut program, rows, n, choices, out)
 }
