@@ -12,7 +12,7 @@ ghost use Rattle.model.specs.Checks.{acceptedScheduleOf};
 ghost use Rattle.model.specs.Program.{programBytes};
 ghost use Rattle.model.specs.Run.{settingOf, startRun};
 ghost use Rattle.table.specs.Directory.{startsOf};
-ghost use Rattle.registers.specs.Words.{wordIn, Eight};
+ghost use Rattle.registers.specs.Words.{Eight, dueIn};
 ghost use Rattle.machine.specs.Running.{RowsStand, settingIn, Running};
 ghost use Rattle.run.specs.Ends.{Roomy, EndsAs, FirstLate, Calm, Ticks, WordsPut, NodeStarted, Started, Planned};
 
@@ -28,11 +28,11 @@ pub struct Ended {
 // Whether a sleep or a listen is due.
 fn some_due(l: &[u64], count: usize, tick: u64) -> bool
     requires { ⌜ (256 ≤ length (now l)) × (count ≤ 8) ⌝ }
-    ensures { λ r. ⌜ r ≡ any (λ c. eqb (wordIn (now (l .entry)) c 26) tick) (below count) ⌝ }
+    ensures { λ r. ⌜ r ≡ any (λ c. eqb (dueIn (now (l .entry)) c) tick) (below count) ⌝ }
 {
     let mut c: usize = 0;
     while c < count {
-        if registers::word(l, c, 26) == tick {
+        if registers::word(l, c, registers::DUE) == tick {
             return true;
         }
         c += 1;
@@ -47,7 +47,7 @@ fn first_late(l: &[u64], count: usize, tick: u64) -> usize
 {
     let mut c: usize = 0;
     while c < count {
-        if registers::word(l, c, 27) < tick {
+        if registers::word(l, c, registers::LAST) < tick {
             return c;
         }
         c += 1;
@@ -72,8 +72,8 @@ fn calm_until(l: &[u64], count: usize, horizon: u64) -> u64
     let mut calm = horizon - 1;
     let mut c: usize = 0;
     while c < count {
-        let due = registers::word(l, c, 26);
-        let last = registers::word(l, c, 27);
+        let due = registers::word(l, c, registers::DUE);
+        let last = registers::word(l, c, registers::LAST);
         calm = lesser(calm, lesser(due, last));
         c += 1;
     }
@@ -212,11 +212,11 @@ fn put_fixed(
     requires { ⌜ (256 ≤ length (now l)) × (c < 8) ⌝ }
     ensures { λ _. ⌜ WordsPut (now (l .entry)) c start long clocks variables row (now (l .exit)) ⌝ }
 {
-    registers::put_word(l, c, 21, start as u64);
-    registers::put_word(l, c, 22, long as u64);
-    registers::put_word(l, c, 23, clocks as u64);
-    registers::put_word(l, c, 24, variables as u64);
-    registers::put_word(l, c, 25, row as u64);
+    registers::put_word(l, c, registers::PART_START, start as u64);
+    registers::put_word(l, c, registers::PART_LENGTH, long as u64);
+    registers::put_word(l, c, registers::CLOCK_COUNT, clocks as u64);
+    registers::put_word(l, c, registers::VARIABLE_COUNT, variables as u64);
+    registers::put_word(l, c, registers::ROW, row as u64);
 }
 
 // Node c at its program's start; its component stands at that place of the table.
