@@ -16,39 +16,39 @@ use Rattle.node.specs.declared.Counts.{Counts}
 use Rattle.node.specs.declared.Node.{Node}
 use Rattle.node.specs.Views.{opIn, nodeOf}
 use Rattle.stand.specs.Stands.{dueTick, lastTick}
-use Rattle.registers.specs.Words.{wordIn, nodeIn, partIn, Eight, SameNode}
+use Rattle.registers.specs.Words.{wordIn, nodeIn, partIn, Eight, SameNode, placeIn, readyTickIn, partStart, partLength, rowIn, dueIn, lastIn}
 use Rattle.machine.specs.declared.Moved.{Moved}
 use Rattle.machine.specs.Running.{RowIs, readyAt, settingIn, viewIn, NodeStands, Running}
 
 -- the op of the statement that node c stands at
 abbrev pub opOf : List ℕ → List ℕ → List ℤ → ℕ → ℕ
-opOf program l v c = opIn (drop (wordIn l c 0) (partIn program l c))
+opOf program l v c = opIn (drop (placeIn l c) (partIn program l c))
 
 -- where node c's part lies in the program
 pub record Inside (program l : List ℕ) (c : ℕ) : Type 0 where
-  pub inside : wordIn l c 21 + wordIn l c 22 ≤ length program
-  pub short : wordIn l c 22 ≤ 65535
+  pub inside : partStart l c + partLength l c ≤ length program
+  pub short : partLength l c ≤ 65535
 
 -- it is noted when node c, whose part is p, is due and when it is late
 pub record Noted (p rows : List ℕ) (n : ℕ) (l : List ℕ) (c : ℕ) (l′ : List ℕ) : Type 0 where
   pub due : ℕ
   pub last : ℕ
   pub dues : (held : Counts) (v : List ℤ) → due ≡ dueTick (nodeOf p held (nodeIn l v c)) (standOf (nodeOf p held (nodeIn l v c)))
-  pub lasts : (held : Counts) (v : List ℤ) → last ≡ lastTick (nodeOf p held (nodeIn l v c)) (readyAt (rowsOf rows n) (wordIn l c 25)) (standOf (nodeOf p held (nodeIn l v c)))
+  pub lasts : (held : Counts) (v : List ℤ) → last ≡ lastTick (nodeOf p held (nodeIn l v c)) (readyAt (rowsOf rows n) (rowIn l c)) (standOf (nodeOf p held (nodeIn l v c)))
   pub put : l′ ≡ set (set l (c * 32 + 26) due) (c * 32 + 27) last
 
 -- node c's registers are q, and it is noted when it is due and when it is late; all of any other node is as it was
 pub record NodePut (program rows : List ℕ) (n : ℕ) (l : List ℕ) (v : List ℤ) (c : ℕ) (q : Node) (l′ : List ℕ) (v′ : List ℤ) : Type 0 where
   pub node : nodeIn l′ v′ c ≡ q
   pub beside : (k : ℕ) → 21 ≤ k → k < 26 → wordIn l′ c k ≡ wordIn l c k
-  pub due : wordIn l′ c 26 ≡ dueTick (viewIn program l′ v′ c) (standOf (viewIn program l′ v′ c))
-  pub last : wordIn l′ c 27 ≡ lastTick (viewIn program l′ v′ c) (readyAt (rowsOf rows n) (wordIn l′ c 25)) (standOf (viewIn program l′ v′ c))
+  pub due : dueIn l′ c ≡ dueTick (viewIn program l′ v′ c) (standOf (viewIn program l′ v′ c))
+  pub last : lastIn l′ c ≡ lastTick (viewIn program l′ v′ c) (readyAt (rowsOf rows n) (rowIn l′ c)) (standOf (viewIn program l′ v′ c))
   pub others : (i : ℕ) → (i ≡ c → ⊥) → SameNode l v l′ v′ i
   pub eight : Eight l′ v′
 
 -- the row of node c's passage is that of its next passage now
 pub record RowPassed (rows : List ℕ) (n : ℕ) (l : List ℕ) (c : ℕ) (l′ : List ℕ) : Type 0 where
-  pub row : (k : ℕ) → RowIs (rowsOf rows n) c k (wordIn l c 25) → RowIs (rowsOf rows n) c (suc k) (wordIn l′ c 25)
+  pub row : (k : ℕ) → RowIs (rowsOf rows n) c k (rowIn l c) → RowIs (rowsOf rows n) c (suc k) (rowIn l′ c)
   pub beside : (k : ℕ) → k < 32 → (k ≡ 25 → ⊥) → wordIn l′ c k ≡ wordIn l c k
   pub others : (i k : ℕ) → (i ≡ c → ⊥) → k < 32 → wordIn l′ i k ≡ wordIn l i k
   pub same : length l′ ≡ length l
@@ -68,7 +68,7 @@ pub record NodeMoved (program rows : List ℕ) (n : ℕ) (l : List ℕ) (v : Lis
 
 -- node c sleeps until now, so that an observation is written if it goes on
 abbrev pub observesNow : List ℕ → List ℕ → List ℤ → ℕ → ℕ → Bool
-observesNow program l v c tick = eqb (opOf program l v c) 0 && eqb tick (wordIn l c 1)
+observesNow program l v c tick = eqb (opOf program l v c) 0 && eqb tick (readyTickIn l c)
 
 -- the state after a choice that is allowed, and what was written
 pub record After (program rows : List ℕ) (n H count : ℕ) (b : ℕ) (l : List ℕ) (s : Run) (out : List ℕ) (written : ℕ) (m : Moved) (l′ : List ℕ) (v′ : List ℤ) (out′ : List ℕ) : Type 0 where

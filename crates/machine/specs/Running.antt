@@ -14,7 +14,7 @@ use Rattle.model.specs.Run.{Counts, Setting, readyOfNth, Run, standOf}
 use Rattle.rows.specs.Rows.{rowsOf}
 use Rattle.node.specs.Views.{nodeOf, Held, Within}
 use Rattle.stand.specs.Stands.{never, dueTick, lastTick}
-use Rattle.registers.specs.Words.{wordIn, nodeIn, partIn, heldIn, Eight}
+use Rattle.registers.specs.Words.{nodeIn, partIn, heldIn, Eight, partStart, partLength, rowIn, dueIn, lastIn}
 
 -- ## Rows of the schedule
 
@@ -54,14 +54,14 @@ viewIn program l v c = nodeOf (partIn program l c) (heldIn l c) (nodeIn l v c)
 
 -- the words beside node c's registers are right, and the registers have not grown beyond m
 pub record NodeStands (program rows : List ℕ) (n : ℕ) (l : List ℕ) (v : List ℤ) (c m : ℕ) : Type 0 where
-  pub inside : wordIn l c 21 + wordIn l c 22 ≤ length program
-  pub short : wordIn l c 22 ≤ 65535
+  pub inside : partStart l c + partLength l c ≤ length program
+  pub short : partLength l c ≤ 65535
   pub part : partIn program l c ≡ partBytes program c
   pub held : Held (heldIn l c)
   pub within : Within m (nodeIn l v c)
-  pub row : RowIs (rowsOf rows n) c (nodeIn l v c .sleeps) (wordIn l c 25)
-  pub due : wordIn l c 26 ≡ dueTick (viewIn program l v c) (standOf (viewIn program l v c))
-  pub last : wordIn l c 27 ≡ lastTick (viewIn program l v c) (readyAt (rowsOf rows n) (wordIn l c 25)) (standOf (viewIn program l v c))
+  pub row : RowIs (rowsOf rows n) c (nodeIn l v c .sleeps) (rowIn l c)
+  pub due : dueIn l c ≡ dueTick (viewIn program l v c) (standOf (viewIn program l v c))
+  pub last : lastIn l c ≡ lastTick (viewIn program l v c) (readyAt (rowsOf rows n) (rowIn l c)) (standOf (viewIn program l v c))
 
 -- the slices hold so many nodes
 pub record Standing (program rows : List ℕ) (n : ℕ) (l : List ℕ) (v : List ℤ) (count : ℕ) : Type 0 where

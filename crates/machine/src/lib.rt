@@ -14,7 +14,7 @@ ghost use Rattle.model.specs.Run.{Run, standOf, names, listeners, takesMessage}
 ghost use Rattle.rows.specs.Rows.{num, rowsOf};
 ghost use Rattle.node.specs.Views.{Held, Within, opIn, Addable};
 ghost use Rattle.stand.specs.Stands.{mayFinish};
-ghost use Rattle.registers.specs.Words.{wordIn, nodeIn, partIn, heldIn, Eight};
+ghost use Rattle.registers.specs.Words.{nodeIn, partIn, heldIn, Eight, placeIn, readyTickIn};
 ghost use Rattle.machine.specs.Running.{RowsStand, readyAt, viewIn, NodeStands, Standing};
 ghost use Rattle.machine.specs.Chosen.{opOf, Inside, Noted, NodePut, RowPassed, IsFirst, NodeMoved, observesNow, Chosen};
 use node::Node;
@@ -53,17 +53,17 @@ fn next_ready(rows: &[u32], n: usize, row: usize) -> u64
 
 // Notes when node c is due and when it is late; p is its part, and its next statement stands at that place.
 fn note(p: &[u8], rows: &[u32], n: usize, l: &mut [u64], c: usize, pc: usize)
-    requires { ⌜ (256 ≤ length (now l)) × RowsStand (now rows) n × (c < 8) × (wordIn (now l) c 1 ≤ 4000000000000000000) × (pc ≡ wordIn (now l) c 0) ⌝ }
+    requires { ⌜ (256 ≤ length (now l)) × RowsStand (now rows) n × (c < 8) × (readyTickIn (now l) c ≤ 4000000000000000000) × (pc ≡ placeIn (now l) c) ⌝ }
     ensures { λ _. ⌜ Noted (now (p .entry)) (now (rows .entry)) n (now (l .entry)) c (now (l .exit)) ⌝ }
 {
     let op = node::op_at(p, pc);
-    let t = registers::word(l, c, 1);
-    let d = registers::half(registers::word(l, c, 7));
-    let next = next_ready(rows, n, registers::word(l, c, 25) as usize);
+    let t = registers::word(l, c, registers::READY_TICK);
+    let d = registers::half(registers::word(l, c, registers::WINDOW_LENGTH));
+    let next = next_ready(rows, n, registers::word(l, c, registers::ROW) as usize);
     let due = stand::due_by(op, t, d);
     let last = stand::last_by(op, t, d, next);
-    registers::put_word(l, c, 26, due);
-    registers::put_word(l, c, 27, last);
+    registers::put_word(l, c, registers::DUE, due);
+    registers::put_word(l, c, registers::LAST, last);
 }
 
 // Puts the registers of node c back, and notes when it is due and when it is late.
@@ -80,8 +80,8 @@ pub fn put_node(
     ensures { λ _. ⌜ NodePut (now (program .entry)) (now (rows .entry)) n (now (l .entry)) (now (v .entry)) c q (now (l .exit)) (now (v .exit)) ⌝ }
 {
     registers::store(l, v, c, q);
-    let base = registers::word(l, c, 21) as usize;
-    let end = base + registers::word(l, c, 22) as usize;
+    let base = registers::word(l, c, registers::PART_START) as usize;
+    let end = base + registers::word(l, c, registers::PART_LENGTH) as usize;
     note(&program[base..end], rows, n, l, c, q.pc);
 }
 
@@ -90,10 +90,10 @@ fn pass_row(rows: &[u32], n: usize, l: &mut [u64], c: usize)
     requires { ⌜ (256 ≤ length (now l)) × RowsStand (now rows) n × (c < 8) ⌝ }
     ensures { λ _. ⌜ RowPassed (now (rows .entry)) n (now (l .entry)) c (now (l .exit)) ⌝ }
 {
-    let row = registers::word(l, c, 25) as usize;
+    let row = registers::word(l, c, registers::ROW) as usize;
     if row < n {
         let next = next_row(rows, n, c, row + 1);
-        registers::put_word(l, c, 25, next as u64);
+        registers::put_word(l, c, registers::ROW, next as u64);
     }
 }
 
@@ -107,12 +107,12 @@ fn finish_node(
     c: usize,
     op: u8,
 )
-    requires { ⌜ Eight (now l) (now v) × RowsStand (now rows) n × (c < 8) × NodeStands (now program) (now rows) n (now l) (now v) c 3000000000000000000 × (op ≡ opOf (now program) (now l) (now v) c) × Addable (drop (wordIn (now l) c 0) (partIn (now program) (now l) c)) (heldIn (now l) c) (nodeIn (now l) (now v) c) ⌝ }
+    requires { ⌜ Eight (now l) (now v) × RowsStand (now rows) n × (c < 8) × NodeStands (now program) (now rows) n (now l) (now v) c 3000000000000000000 × (op ≡ opOf (now program) (now l) (now v) c) × Addable (drop (placeIn (now l) c) (partIn (now program) (now l) c)) (heldIn (now l) c) (nodeIn (now l) (now v) c) ⌝ }
     ensures { λ _. ⌜ NodeMoved (now (program .entry)) (now (rows .entry)) n (now (l .entry)) (now (v .entry)) c (finish (partIn (now (program .entry)) (now (l .entry)) c) (viewIn (now (program .entry)) (now (l .entry)) (now (v .entry)) c) (viewIn (now (program .entry)) (now (l .entry)) (now (v .entry)) c .rest)) (now (l .exit)) (now (v .exit)) ⌝ }
 {
-    let base = registers::word(l, c, 21) as usize;
-    let end = base + registers::word(l, c, 22) as usize;
-    if op == 0 {
+    let base = registers::word(l, c, registers::PART_START) as usize;
+    let end = base + registers::word(l, c, registers::PART_LENGTH) as usize;
+    if op == node::SLEEP {
         pass_row(rows, n, l, c);
     }
     let pc = statement::finish(&program[base..end], l, v, c, op);
@@ -124,8 +124,8 @@ fn hear(program: &[u8], rows: &[u32], n: usize, l: &mut [u64], v: &mut [i16], i:
     requires { ⌜ Eight (now l) (now v) × RowsStand (now rows) n × (i < 8) × NodeStands (now program) (now rows) n (now l) (now v) i 3000000000000000000 × (opOf (now program) (now l) (now v) i ≡ 5) ⌝ }
     ensures { λ _. ⌜ NodeMoved (now (program .entry)) (now (rows .entry)) n (now (l .entry)) (now (v .entry)) i (takesMessage (partIn (now (program .entry)) (now (l .entry)) i) k (viewIn (now (program .entry)) (now (l .entry)) (now (v .entry)) i)) (now (l .exit)) (now (v .exit)) ⌝ }
 {
-    let base = registers::word(l, i, 21) as usize;
-    let end = base + registers::word(l, i, 22) as usize;
+    let base = registers::word(l, i, registers::PART_START) as usize;
+    let end = base + registers::word(l, i, registers::PART_LENGTH) as usize;
     let r = registers::load(l, v, i);
     let q = stand::take_message(&program[base..end], r, k);
     put_node(program, rows, n, l, v, i, q);
@@ -134,26 +134,26 @@ fn hear(program: &[u8], rows: &[u32], n: usize, l: &mut [u64], v: &mut [i16], i:
 // Whether node i stands at a listen that names the channel, has taken nothing, and has listened since that tick or longer.
 fn hears(program: &[u8], l: &[u64], i: usize, t: u64, k: u8) -> bool
     requires { ⌜ (256 ≤ length (now l)) × (i < 8) × Inside (now program) (now l) i ⌝ }
-    ensures { λ r. ⌜ ((v : List ℤ) → r ≡ names k (standOf (viewIn (now (program .entry)) (now (l .entry)) v i)) && isNone (viewIn (now (program .entry)) (now (l .entry)) v i .goes) && leb (wordIn (now (l .entry)) i 1) t) ⌝ }
+    ensures { λ r. ⌜ ((v : List ℤ) → r ≡ names k (standOf (viewIn (now (program .entry)) (now (l .entry)) v i)) && isNone (viewIn (now (program .entry)) (now (l .entry)) v i .goes) && leb (readyTickIn (now (l .entry)) i) t) ⌝ }
 {
-    if t < registers::word(l, i, 1) {
+    if t < registers::word(l, i, registers::READY_TICK) {
         return false;
     }
-    if registers::word(l, i, 10) == 1 {
+    if registers::word(l, i, registers::TAKEN) == 1 {
         return false;
     }
-    let base = registers::word(l, i, 21) as usize;
-    let end = base + registers::word(l, i, 22) as usize;
-    let pc = registers::word(l, i, 0) as usize;
+    let base = registers::word(l, i, registers::PART_START) as usize;
+    let end = base + registers::word(l, i, registers::PART_LENGTH) as usize;
+    let pc = registers::word(l, i, registers::PLACE) as usize;
     stand::names(&program[base..end], pc, k)
 }
 
 // The lowest node that hears a send of node c on the channel, 8 where there is none.
 fn listener(program: &[u8], l: &[u64], count: usize, c: usize, k: u8) -> usize
     requires { ⌜ (256 ≤ length (now l)) × (count ≤ 8) × (c < count) × ((i : ℕ) → i < count → Inside (now program) (now l) i) ⌝ }
-    ensures { λ r. ⌜ ((v : List ℤ) (s : Run) → s .nodes ≡ map (viewIn (now (program .entry)) (now (l .entry)) v) (below count) → IsFirst (listeners s c k) r) × (r < 8 → (r < count) × ((r ≡ c) → ⊥) × (opIn (drop (wordIn (now (l .entry)) r 0) (partIn (now (program .entry)) (now (l .entry)) r)) ≡ 5)) ⌝ }
+    ensures { λ r. ⌜ ((v : List ℤ) (s : Run) → s .nodes ≡ map (viewIn (now (program .entry)) (now (l .entry)) v) (below count) → IsFirst (listeners s c k) r) × (r < 8 → (r < count) × ((r ≡ c) → ⊥) × (opIn (drop (placeIn (now (l .entry)) r) (partIn (now (program .entry)) (now (l .entry)) r)) ≡ 5)) ⌝ }
 {
-    let t = registers::word(l, c, 1);
+    let t = registers::word(l, c, registers::READY_TICK);
     let mut i: usize = 0;
     while i < count {
         if i != c {
@@ -179,31 +179,31 @@ fn send_message(
     requires { ⌜ Standing (now program) (now rows) n (now l) (now v) count × (c < count) × (opOf (now program) (now l) (now v) c ≡ 4) ⌝ }
     ensures { λ r. ⌜ ((H tick written : ℕ) (out : List ℕ) → Chosen (now (program .entry)) (now (rows .entry)) n H count tick c (now (l .entry)) (now (v .entry)) out written (record { allowed = r; written = written }) (now (l .exit)) (now (v .exit)) out) ⌝ }
 {
-    let base = registers::word(l, c, 21) as usize;
-    let end = base + registers::word(l, c, 22) as usize;
-    let pc = registers::word(l, c, 0) as usize;
+    let base = registers::word(l, c, registers::PART_START) as usize;
+    let end = base + registers::word(l, c, registers::PART_LENGTH) as usize;
+    let pc = registers::word(l, c, registers::PLACE) as usize;
     let k = node::byte_at(&program[base..end], pc + 1);
     let i = listener(program, l, count, c, k);
     if 8 <= i {
         return false;
     }
-    finish_node(program, rows, n, l, v, c, 4);
+    finish_node(program, rows, n, l, v, c, node::SEND);
     hear(program, rows, n, l, v, i, k);
     true
 }
 
 // Whether node c, whose statement's op that is, may finish it at that tick without another node.
 fn may_finish(program: &[u8], l: &[u64], v: &[i16], c: usize, op: u8, tick: u64) -> bool
-    requires { ⌜ Eight (now l) (now v) × (c < 8) × Inside (now program) (now l) c × Held (heldIn (now l) c) × (wordIn (now l) c 1 ≤ 4000000000000000000) × (op ≡ opOf (now program) (now l) (now v) c) ⌝ }
+    requires { ⌜ Eight (now l) (now v) × (c < 8) × Inside (now program) (now l) c × Held (heldIn (now l) c) × (readyTickIn (now l) c ≤ 4000000000000000000) × (op ≡ opOf (now program) (now l) (now v) c) ⌝ }
     ensures { λ b. ⌜ b ≡ mayFinish tick (viewIn (now (program .entry)) (now (l .entry)) (now (v .entry)) c) (standOf (viewIn (now (program .entry)) (now (l .entry)) (now (v .entry)) c)) ⌝ }
 {
-    let t = registers::word(l, c, 1);
-    let d = registers::half(registers::word(l, c, 7));
-    let kept = registers::word(l, c, 16) == 1;
-    if op == 2 {
-        let base = registers::word(l, c, 21) as usize;
-        let end = base + registers::word(l, c, 22) as usize;
-        let at = registers::word(l, c, 0) as usize;
+    let t = registers::word(l, c, registers::READY_TICK);
+    let d = registers::half(registers::word(l, c, registers::WINDOW_LENGTH));
+    let kept = registers::word(l, c, registers::KEPT) == 1;
+    if op == node::ADD {
+        let base = registers::word(l, c, registers::PART_START) as usize;
+        let end = base + registers::word(l, c, registers::PART_LENGTH) as usize;
+        let at = registers::word(l, c, registers::PLACE) as usize;
         let p = &program[base..end];
         let value = registers::value(l, v, c, p[at + 1]);
         let fits = stand::adds_in_range(&p[at..], value);
@@ -235,11 +235,11 @@ fn go_alone(
             written,
         };
     }
-    if op == 0 {
+    if op == node::SLEEP {
         let held = registers::counts(l, c);
         let r = registers::load(l, v, c);
         observation::put_observation(r, held, c as u8, tick, out, written * 32);
-        finish_node(program, rows, n, l, v, c, 0);
+        finish_node(program, rows, n, l, v, c, node::SLEEP);
         return Moved {
             allowed: true,
             written: written + 1,
@@ -275,11 +275,11 @@ pub fn choose_node(
             written,
         };
     }
-    let base = registers::word(l, c, 21) as usize;
-    let end = base + registers::word(l, c, 22) as usize;
-    let pc = registers::word(l, c, 0) as usize;
+    let base = registers::word(l, c, registers::PART_START) as usize;
+    let end = base + registers::word(l, c, registers::PART_LENGTH) as usize;
+    let pc = registers::word(l, c, registers::PLACE) as usize;
     let op = node::op_at(&program[base..end], pc);
-    if op == 4 {
+    if op == node::SEND {
         let allowed = send_message(program, rows, n, l, v, count, c);
         return Moved { allowed, written };
     }

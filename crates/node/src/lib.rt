@@ -16,6 +16,47 @@ ghost use Rattle.node.specs.declared.Node.{Node};
 ghost use Rattle.node.specs.Views.{Held, Within, opIn, Addable};
 ghost use Rattle.node.specs.After.{trying, clockTried, valueTried, effect, edgeTaken, blockChosen, after};
 
+// The ops of the statements. Those below `UNUSED` stand before or in a node's work, those above behind it; `NOWHERE` is no statement.
+pub const SLEEP: u8 = 0x00;
+
+pub const SET: u8 = 0x01;
+
+pub const ADD: u8 = 0x02;
+
+pub const DONE: u8 = 0x03;
+
+pub const SEND: u8 = 0x04;
+
+pub const LISTEN: u8 = 0x05;
+
+pub const UNUSED: u8 = 0x06;
+
+pub const AGE: u8 = 0x07;
+
+pub const RESET: u8 = 0x08;
+
+pub const ENTER: u8 = 0x09;
+
+pub const TRIAL: u8 = 0x0A;
+
+pub const LOW: u8 = 0x0B;
+
+pub const HIGH: u8 = 0x0C;
+
+pub const DATA_LOW: u8 = 0x0D;
+
+pub const DATA_HIGH: u8 = 0x0E;
+
+pub const KEEP: u8 = 0x0F;
+
+pub const TAKE: u8 = 0x10;
+
+pub const CHOOSE: u8 = 0x11;
+
+pub const BEYOND: u8 = 0x12;
+
+pub const NOWHERE: u8 = 0xFF;
+
 // How many clocks and variables the node has.
 pub struct Counts {
     pub clocks: u8,
@@ -101,16 +142,16 @@ pub fn op_at(p: &[u8], at: usize) -> u8
     ensures { λ r. ⌜ r ≡ opIn (drop at (now (p .entry))) ⌝ }
 {
     if p.len() < 4 {
-        return 255;
+        return NOWHERE;
     }
     if p.len() - 4 < at {
-        return 255;
+        return NOWHERE;
     }
     let op = p[at];
-    if op == 6 {
-        return 255;
+    if op == UNUSED {
+        return NOWHERE;
     }
-    if op < 18 { op } else { 255 }
+    if op < BEYOND { op } else { NOWHERE }
 }
 
 // Where block i starts.
@@ -143,7 +184,7 @@ pub fn by_clock(h: &[u8], x: Trial, clock: u64) -> Trial
     ensures { λ y. ⌜ y ≡ clockTried (now (h .entry)) x clock ⌝ }
 {
     let k = parts::word_at(h, 2);
-    if h[0] == 11 {
+    if h[0] == LOW {
         return candidate::raised(x, k, clock);
     }
     candidate::lowered(x, k, clock)
@@ -155,7 +196,7 @@ pub fn by_value(h: &[u8], x: Trial, value: i16) -> Trial
     ensures { λ y. ⌜ y ≡ valueTried (now (h .entry)) x value ⌝ }
 {
     let bound = decoder::signed_at(h, 2);
-    if h[0] == 13 {
+    if h[0] == DATA_LOW {
         return candidate::met(x, bound <= value);
     }
     candidate::met(x, value <= bound)
@@ -171,10 +212,10 @@ fn tried(h: &[u8], held: Counts, r: Node) -> Trial
     let x = r.tried;
     let clocks = r.clocks;
     let values = r.values;
-    if op == 10 {
+    if op == TRIAL {
         return candidate::no_trial();
     }
-    if op < 13 {
+    if op < DATA_LOW {
         return by_clock(h, x, clock_at(clocks, held.clocks, a));
     }
     by_value(h, x, value_at(values, held.variables, a))
@@ -186,7 +227,7 @@ fn try_statement(h: &[u8], held: Counts, r: Node) -> Node
     ensures { λ q. ⌜ q ≡ effect (now (h .entry)) held r ⌝ }
 {
     let mut q = r;
-    if h[0] == 15 {
+    if h[0] == KEEP {
         let k = candidate::keeps(r.tried, h[3], r.kept);
         q.kept = k;
     } else {
@@ -215,7 +256,7 @@ fn update_statement(h: &[u8], held: Counts, r: Node) -> Node
     }
     let z = decoder::signed_at(h, 2);
     let mut values = r.values;
-    if h[0] == 1 {
+    if h[0] == SET {
         values[wide(a)] = z;
     } else {
         values[wide(a)] = sum(values[wide(a)], z);
@@ -235,7 +276,7 @@ fn clock_statement(h: &[u8], held: Counts, r: Node) -> Node
         return r;
     }
     let mut clocks = r.clocks;
-    if h[0] == 8 {
+    if h[0] == RESET {
         clocks[wide(a)] = 0;
     } else {
         clocks[wide(a)] = clocks[wide(a)] + (wide64(r.n) + wide64(r.d));
@@ -267,18 +308,18 @@ fn work_statement(h: &[u8], held: Counts, r: Node) -> Node
     ensures { λ q. ⌜ q ≡ effect (now (h .entry)) held r ⌝ }
 {
     let op = h[0];
-    if op == 0 {
+    if op == SLEEP {
         let mut q = r;
         q.sleeps = r.sleeps + 1;
         return q;
     }
-    if op < 3 {
+    if op < DONE {
         return update_statement(h, held, r);
     }
-    if op < 7 {
+    if op < AGE {
         return r;
     }
-    if op < 9 {
+    if op < ENTER {
         return clock_statement(h, held, r);
     }
     enter_statement(h, held, r)
@@ -289,7 +330,7 @@ pub fn statement_length(h: &[u8]) -> usize
     requires { ⌜ 4 ≤ length (now h) ⌝ }
     ensures { λ r. ⌜ (r ≡ statementLength (now (h .entry))) × (r ≤ 1024) ⌝ }
 {
-    if h[0] == 5 {
+    if h[0] == LISTEN {
         return 4 + wide(h[1]) * 4;
     }
     4
@@ -336,20 +377,20 @@ pub fn finish(p: &[u8], held: Counts, r: Node) -> Node
     ensures { λ q. ⌜ q ≡ after (now (p .entry)) held r ⌝ }
 {
     let op = op_at(p, r.pc);
-    if op == 255 {
+    if op == NOWHERE {
         return r;
     }
-    if op == 16 {
+    if op == TAKE {
         return take_edge(p, r);
     }
-    if op == 17 {
+    if op == CHOOSE {
         return choose_block(p, r);
     }
     let at = r.pc;
     let h = &p[at..];
     let mut q = r;
     q.pc = at + statement_length(h);
-    if op < 10 {
+    if op < TRIAL {
         return work_statement(h, held, q);
     }
     try_statement(h, held, q)

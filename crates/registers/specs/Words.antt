@@ -18,6 +18,35 @@ wordIn l c k = getD l (c * 32 + k) 0
 abbrev pub valueIn : List ℤ → ℕ → ℕ → ℤ
 valueIn v c k = getD v (c * 4 + k) (pos 0)
 
+-- Words by name: the place of the next statement and t; where the node's part begins and its length, how many clocks and variables the node
+-- has, which never change; the row of its next passage, the tick at which it is due, the last tick before it is late.
+abbrev pub placeIn : List ℕ → ℕ → ℕ
+placeIn l c = wordIn l c 0
+
+abbrev pub readyTickIn : List ℕ → ℕ → ℕ
+readyTickIn l c = wordIn l c 1
+
+abbrev pub partStart : List ℕ → ℕ → ℕ
+partStart l c = wordIn l c 21
+
+abbrev pub partLength : List ℕ → ℕ → ℕ
+partLength l c = wordIn l c 22
+
+abbrev pub clockCount : List ℕ → ℕ → ℕ
+clockCount l c = wordIn l c 23
+
+abbrev pub variableCount : List ℕ → ℕ → ℕ
+variableCount l c = wordIn l c 24
+
+abbrev pub rowIn : List ℕ → ℕ → ℕ
+rowIn l c = wordIn l c 25
+
+abbrev pub dueIn : List ℕ → ℕ → ℕ
+dueIn l c = wordIn l c 26
+
+abbrev pub lastIn : List ℕ → ℕ → ℕ
+lastIn l c = wordIn l c 27
+
 -- the word of a boolean: 1 for true
 abbrev pub flagOf : Bool → ℕ
 flagOf true = 1
@@ -55,11 +84,11 @@ keptIn l c =
 abbrev pub nodeIn : List ℕ → List ℤ → ℕ → Node
 nodeIn l v c =
     record {
-      pc = wordIn l c 0;
+      pc = placeIn l c;
       location = wordIn l c 8 % 256;
       clocks = clocksIn l c;
       values = valuesIn v c;
-      t = wordIn l c 1;
+      t = readyTickIn l c;
       n = wordIn l c 6 % 65536;
       d = wordIn l c 7 % 65536;
       edge = wordIn l c 9 % 256;
@@ -87,14 +116,12 @@ keptWords k = flagOf (k .some) ∷ k .edge ∷ k .ready ∷ k .end ∷ []
 abbrev pub fourOf : List ℤ → List ℤ
 fourOf xs = getD xs 0 (pos 0) ∷ getD xs 1 (pos 0) ∷ getD xs 2 (pos 0) ∷ getD xs 3 (pos 0) ∷ []
 
--- Words 21 to 24: where the node's part begins and its length, how many clocks and variables the node has. They never change.
+-- the node's part, and how many clocks and variables the node has
 abbrev pub partIn : List ℕ → List ℕ → ℕ → List ℕ
-partIn program l c = take (wordIn l c 22) (drop (wordIn l c 21) program)
+partIn program l c = take (partLength l c) (drop (partStart l c) program)
 
 abbrev pub heldIn : List ℕ → ℕ → Counts
-heldIn l c = record { clocks = wordIn l c 23 % 256; variables = wordIn l c 24 % 256 }
-
--- Words 25 to 27: the row of the node's next passage, the tick at which it is due, the last tick before it is late.
+heldIn l c = record { clocks = clockCount l c % 256; variables = variableCount l c % 256 }
 
 -- the slices hold eight nodes
 pub record Eight (l : List ℕ) (v : List ℤ) : Type 0 where

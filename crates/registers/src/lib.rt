@@ -16,6 +16,57 @@ use node::Kept;
 use node::Node;
 use node::Trial;
 
+// The words of a node, each by its number. Words 0 to 20 are the registers, 21 to 24 never change, 25 to 27 serve the ticks.
+pub const PLACE: usize = 0;
+
+pub const READY_TICK: usize = 1;
+
+pub const CLOCKS: usize = 2;
+
+pub const READY_DELAY: usize = 6;
+
+pub const WINDOW_LENGTH: usize = 7;
+
+pub const LOCATION: usize = 8;
+
+pub const EDGE: usize = 9;
+
+pub const TAKEN: usize = 10;
+
+pub const GOES: usize = 11;
+
+pub const TRIAL_READY: usize = 12;
+
+pub const TRIAL_ENDED: usize = 13;
+
+pub const TRIAL_END: usize = 14;
+
+pub const TRIAL_GOOD: usize = 15;
+
+pub const KEPT: usize = 16;
+
+pub const KEPT_EDGE: usize = 17;
+
+pub const KEPT_READY: usize = 18;
+
+pub const KEPT_END: usize = 19;
+
+pub const SLEEPS: usize = 20;
+
+pub const PART_START: usize = 21;
+
+pub const PART_LENGTH: usize = 22;
+
+pub const CLOCK_COUNT: usize = 23;
+
+pub const VARIABLE_COUNT: usize = 24;
+
+pub const ROW: usize = 25;
+
+pub const DUE: usize = 26;
+
+pub const LAST: usize = 27;
+
 pub fn small(x: u64) -> u8
     ensures { λ r. ⌜ r ≡ x % 256 ⌝ }
 {
@@ -62,8 +113,8 @@ pub fn counts(l: &[u64], c: usize) -> Counts
     ensures { λ r. ⌜ r ≡ heldIn (now (l .entry)) c ⌝ }
 {
     Counts {
-        clocks: small(word(l, c, 23)),
-        variables: small(word(l, c, 24)),
+        clocks: small(word(l, c, CLOCK_COUNT)),
+        variables: small(word(l, c, VARIABLE_COUNT)),
     }
 }
 
@@ -73,10 +124,10 @@ pub fn load_trial(l: &[u64], c: usize) -> Trial
     ensures { λ r. ⌜ r ≡ trialIn (now (l .entry)) c ⌝ }
 {
     Trial {
-        ready: half(word(l, c, 12)),
-        ended: word(l, c, 13) == 1,
-        end: half(word(l, c, 14)),
-        good: word(l, c, 15) == 1,
+        ready: half(word(l, c, TRIAL_READY)),
+        ended: word(l, c, TRIAL_ENDED) == 1,
+        end: half(word(l, c, TRIAL_END)),
+        good: word(l, c, TRIAL_GOOD) == 1,
     }
 }
 
@@ -86,10 +137,10 @@ pub fn load_kept(l: &[u64], c: usize) -> Kept
     ensures { λ r. ⌜ r ≡ keptIn (now (l .entry)) c ⌝ }
 {
     Kept {
-        some: word(l, c, 16) == 1,
-        edge: small(word(l, c, 17)),
-        ready: half(word(l, c, 18)),
-        end: half(word(l, c, 19)),
+        some: word(l, c, KEPT) == 1,
+        edge: small(word(l, c, KEPT_EDGE)),
+        ready: half(word(l, c, KEPT_READY)),
+        end: half(word(l, c, KEPT_END)),
     }
 }
 
@@ -114,19 +165,19 @@ pub fn load(l: &[u64], v: &[i16], c: usize) -> Node
     ensures { λ r. ⌜ r ≡ nodeIn (now (l .entry)) (now (v .entry)) c ⌝ }
 {
     Node {
-        pc: word(l, c, 0) as usize,
-        location: small(word(l, c, 8)),
+        pc: word(l, c, PLACE) as usize,
+        location: small(word(l, c, LOCATION)),
         clocks: load_clocks(l, c),
         values: load_values(v, c),
-        t: word(l, c, 1),
-        n: half(word(l, c, 6)),
-        d: half(word(l, c, 7)),
-        edge: small(word(l, c, 9)),
-        taken: word(l, c, 10) == 1,
-        goes: small(word(l, c, 11)),
+        t: word(l, c, READY_TICK),
+        n: half(word(l, c, READY_DELAY)),
+        d: half(word(l, c, WINDOW_LENGTH)),
+        edge: small(word(l, c, EDGE)),
+        taken: word(l, c, TAKEN) == 1,
+        goes: small(word(l, c, GOES)),
         tried: load_trial(l, c),
         kept: load_kept(l, c),
-        sleeps: word(l, c, 20),
+        sleeps: word(l, c, SLEEPS),
     }
 }
 
@@ -209,10 +260,19 @@ pub fn store(l: &mut [u64], v: &mut [i16], c: usize, r: Node)
     let kept = r.kept;
     let values = r.values;
     store_times(l, at, r.pc, r.t, clocks);
-    store_place(l, at + 6, r.n, r.d, r.location, r.edge, r.taken, r.goes);
-    store_trial(l, at + 12, tried);
-    store_kept(l, at + 16, kept);
-    l[at + 20] = r.sleeps;
+    store_place(
+        l,
+        at + READY_DELAY,
+        r.n,
+        r.d,
+        r.location,
+        r.edge,
+        r.taken,
+        r.goes,
+    );
+    store_trial(l, at + TRIAL_READY, tried);
+    store_kept(l, at + KEPT, kept);
+    l[at + SLEEPS] = r.sleeps;
     store_values(v, c * 4, values);
 }
 
@@ -221,8 +281,8 @@ pub fn clock(l: &[u64], c: usize, a: u8) -> u64
     requires { ⌜ (256 ≤ length (now l)) × (c < 8) × Held (heldIn (now l) c) ⌝ }
     ensures { λ r. ⌜ r ≡ clockAt (take (heldIn (now (l .entry)) c .clocks) (clocksIn (now (l .entry)) c)) a ⌝ }
 {
-    if a < small(word(l, c, 23)) {
-        return word(l, c, 2 + wide(a));
+    if a < small(word(l, c, CLOCK_COUNT)) {
+        return word(l, c, CLOCKS + wide(a));
     }
     0
 }
@@ -232,7 +292,7 @@ pub fn value(l: &[u64], v: &[i16], c: usize, a: u8) -> i16
     requires { ⌜ Eight (now l) (now v) × (c < 8) × Held (heldIn (now l) c) ⌝ }
     ensures { λ r. ⌜ r ≡ valueAt (take (heldIn (now (l .entry)) c .variables) (valuesIn (now (v .entry)) c)) a ⌝ }
 {
-    if a < small(word(l, c, 24)) {
+    if a < small(word(l, c, VARIABLE_COUNT)) {
         return v[c * 4 + wide(a)];
     }
     0
@@ -243,7 +303,7 @@ pub fn put_place(l: &mut [u64], c: usize, pc: usize)
     requires { ⌜ (256 ≤ length (now l)) × (c < 8) ⌝ }
     ensures { λ _. ⌜ ((v : List ℤ) → Stored (now (l .entry)) v c (atPlace (nodeIn (now (l .entry)) v c) pc) (now (l .exit)) v) ⌝ }
 {
-    put_word(l, c, 0, pc as u64);
+    put_word(l, c, PLACE, pc as u64);
 }
 
 // Puts clock a of node c.
@@ -251,7 +311,7 @@ pub fn put_clock(l: &mut [u64], c: usize, a: u8, x: u64)
     requires { ⌜ (256 ≤ length (now l)) × (c < 8) × (a < 4) ⌝ }
     ensures { λ _. ⌜ ((v : List ℤ) → Stored (now (l .entry)) v c (withClocks (nodeIn (now (l .entry)) v c) (set (clocksIn (now (l .entry)) c) a x)) (now (l .exit)) v) ⌝ }
 {
-    put_word(l, c, 2 + wide(a), x);
+    put_word(l, c, CLOCKS + wide(a), x);
 }
 
 // Puts variable a of node c.
@@ -267,8 +327,8 @@ pub fn put_location(l: &mut [u64], c: usize, location: u8)
     requires { ⌜ (256 ≤ length (now l)) × (c < 8) ⌝ }
     ensures { λ _. ⌜ ((v : List ℤ) → Stored (now (l .entry)) v c (entering (nodeIn (now (l .entry)) v c) location) (now (l .exit)) v) ⌝ }
 {
-    put_word(l, c, 8, location as u64);
-    put_word(l, c, 10, 0);
+    put_word(l, c, LOCATION, location as u64);
+    put_word(l, c, TAKEN, 0);
 }
 
 // Puts the trial of node c.
@@ -276,7 +336,7 @@ pub fn put_trial(l: &mut [u64], c: usize, x: Trial)
     requires { ⌜ (256 ≤ length (now l)) × (c < 8) ⌝ }
     ensures { λ _. ⌜ ((v : List ℤ) → Stored (now (l .entry)) v c (withTrial (nodeIn (now (l .entry)) v c) x) (now (l .exit)) v) ⌝ }
 {
-    store_trial(l, c * 32 + 12, x);
+    store_trial(l, c * 32 + TRIAL_READY, x);
 }
 
 // Puts the edge that node c keeps.
@@ -284,7 +344,7 @@ pub fn put_kept(l: &mut [u64], c: usize, k: Kept)
     requires { ⌜ (256 ≤ length (now l)) × (c < 8) ⌝ }
     ensures { λ _. ⌜ ((v : List ℤ) → Stored (now (l .entry)) v c (withKept (nodeIn (now (l .entry)) v c) k) (now (l .exit)) v) ⌝ }
 {
-    store_kept(l, c * 32 + 16, k);
+    store_kept(l, c * 32 + KEPT, k);
 }
 
 // Puts the passage of node c: its edge, t, n and d.
@@ -292,10 +352,10 @@ pub fn put_passage(l: &mut [u64], c: usize, edge: u8, t: u64, n: u16, d: u16)
     requires { ⌜ (256 ≤ length (now l)) × (c < 8) ⌝ }
     ensures { λ _. ⌜ ((v : List ℤ) → Stored (now (l .entry)) v c (withPassage (nodeIn (now (l .entry)) v c) edge t n d) (now (l .exit)) v) ⌝ }
 {
-    put_word(l, c, 1, t);
-    put_word(l, c, 6, n as u64);
-    put_word(l, c, 7, d as u64);
-    put_word(l, c, 9, edge as u64);
+    put_word(l, c, READY_TICK, t);
+    put_word(l, c, READY_DELAY, n as u64);
+    put_word(l, c, WINDOW_LENGTH, d as u64);
+    put_word(l, c, EDGE, edge as u64);
 }
 
 // Puts the number of sleeps that node c has finished.
@@ -303,5 +363,5 @@ pub fn put_sleeps(l: &mut [u64], c: usize, sleeps: u64)
     requires { ⌜ (256 ≤ length (now l)) × (c < 8) ⌝ }
     ensures { λ _. ⌜ ((v : List ℤ) → Stored (now (l .entry)) v c (withSleeps (nodeIn (now (l .entry)) v c) sleeps) (now (l .exit)) v) ⌝ }
 {
-    put_word(l, c, 20, sleeps);
+    put_word(l, c, SLEEPS, sleeps);
 }

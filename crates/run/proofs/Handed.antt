@@ -6,7 +6,7 @@ use Prim.Native.Nat.{ℕ, zero, suc, _*_, _≤_}
 use native.Mathlib.Omega.{arith}
 use lib.Dec.{eqb}
 use lib.IntN.{ℤ}
-use lib.ListN.{length, take}
+use lib.ListN.{length, take, length-append}
 use lib.Seq.{take-at}
 use Rattle.model.specs.Lists.{below, Bytes, Answer, accepted, refused}
 use Rattle.model.specs.Reader.{byte, word}
@@ -42,6 +42,10 @@ same-plan d e = ap passagesIn (sym d ∙ e)
 
 abbrev settingWith : List ℕ → ℕ → List Counts → (ℕ → ℕ → Option ℕ) → Setting
 settingWith program H counts ready = record { program = program; horizon = H; counts = counts; ready = ready }
+
+-- what stands at the front of bytes is no longer than they are
+pub front-fits : (front back : List ℕ) {k : ℕ} {bytes : List ℕ} → k ≡ length front → bytes ≡ front ++ back → k ≤ length bytes
+front-fits front back {k} {bytes} e w = omega (arith, e, ap length w, length-append front back)
 
 -- the front of what was written
 pub front-is : (p q : List ℕ) {long : ℕ} {written : List ℕ} → long ≡ length p → written ≡ p ++ q → take long written ≡ p

@@ -1,8 +1,10 @@
 pub mod Looked
+pub mod InARow
 pub mod Ticks
 pub mod Carried
 pub mod Choices
 pub mod Stages
+pub mod Bulk
 pub mod Beginning
 pub mod Beginnings
 pub mod Handed

@@ -1,9 +1,9 @@
 -- What is known when a run begins, and what holds when it has ended.
 use mathlib.Core.Path.{_≡_}
 use mathlib.Core.List.{List, _++_, map}
-use Prim.Native.Nat.{ℕ, _*_, _≤_, _<_}
+use Prim.Native.Nat.{ℕ, _*_, _-_, _≤_, _<_}
 use lib.IntN.{ℤ}
-use lib.ListN.{length, take, drop}
+use lib.ListN.{length, getD, take, drop}
 use Rattle.model.specs.Lists.{each, below, accepted}
 use Rattle.model.specs.Table.{Component}
 use Rattle.model.specs.Reader.{byte}
@@ -13,7 +13,7 @@ use Rattle.model.specs.Checks.{acceptedScheduleOf}
 use Rattle.model.specs.Machine.{startNode, partBytes}
 use Rattle.model.specs.Run.{Counts, Setting, startRun, run, observationBytes}
 use Rattle.rows.specs.Rows.{rowsOf}
-use Rattle.registers.specs.Words.{wordIn, Eight, SameNode}
+use Rattle.registers.specs.Words.{wordIn, Eight, SameNode, partStart, partLength, clockCount, variableCount, rowIn, dueIn, lastIn}
 use Rattle.machine.specs.Running.{RowsStand, countsAt, settingIn, viewIn, NodeStands, Running}
 use Rattle.run.specs.declared.Ended.{Ended}
 
@@ -33,18 +33,28 @@ pub record EndsAs (g : Setting) (choices out : List ℕ) (e : Ended) (out′ : L
 -- the first late node, the number of nodes where none is
 pub record FirstLate (l : List ℕ) (count tick r : ℕ) : Type 0 where
   pub among : r ≤ count
-  pub before : (i : ℕ) → i < r → tick ≤ wordIn l i 27
-  pub there : r < count → wordIn l r 27 < tick
+  pub before : (i : ℕ) → i < r → tick ≤ lastIn l i
+  pub there : r < count → lastIn l r < tick
+
+-- before that tick no node is due, up to it none is late, and it lies before the horizon
+pub record Calm (l : List ℕ) (count H calm : ℕ) : Type 0 where
+  pub due : (i : ℕ) → i < count → calm ≤ dueIn l i
+  pub last : (i : ℕ) → i < count → calm ≤ lastIn l i
+  pub before : calm ≤ H - 1
+
+-- the choices from one place up to another are ticks
+abbrev pub Ticks : List ℕ → ℕ → ℕ → Type 0
+Ticks choices from end = (i : ℕ) → from ≤ i → i < end → getD choices i 0 ≡ 255
 
 -- ## The start
 
 -- words 21 to 25 of node c are these numbers; the words of any other node are as they were
 pub record WordsPut (l : List ℕ) (c start long clocks variables row : ℕ) (l′ : List ℕ) : Type 0 where
-  pub begins : wordIn l′ c 21 ≡ start
-  pub lasts : wordIn l′ c 22 ≡ long
-  pub ages : wordIn l′ c 23 ≡ clocks
-  pub holds : wordIn l′ c 24 ≡ variables
-  pub passes : wordIn l′ c 25 ≡ row
+  pub begins : partStart l′ c ≡ start
+  pub lasts : partLength l′ c ≡ long
+  pub ages : clockCount l′ c ≡ clocks
+  pub holds : variableCount l′ c ≡ variables
+  pub passes : rowIn l′ c ≡ row
   pub others : (i k : ℕ) → (i ≡ c → ⊥) → k < 32 → wordIn l′ i k ≡ wordIn l i k
   pub same : length l′ ≡ length l
 

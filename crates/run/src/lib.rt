@@ -1,9 +1,9 @@
 // The whole list of choices (document 01, 'The run'): the nodes at their programs' start, the choices one after the other, the end.
 ghost use mathlib.Core.Path.{_≡_};
 ghost use mathlib.Core.List.{List};
-ghost use Prim.Native.Nat.{_+_, _*_, _≤_, _<_};
+ghost use Prim.Native.Nat.{ℕ, _+_, _*_, _≤_, _<_};
 ghost use lib.Dec.{eqb};
-ghost use lib.ListN.{length};
+ghost use lib.ListN.{length, getD};
 ghost use Rattle.model.specs.Lists.{any, below, accepted};
 ghost use Rattle.model.specs.Reader.{byte};
 ghost use Rattle.model.specs.Places.{Valid, readOf};
@@ -12,9 +12,9 @@ ghost use Rattle.model.specs.Checks.{acceptedScheduleOf};
 ghost use Rattle.model.specs.Program.{programBytes};
 ghost use Rattle.model.specs.Run.{settingOf, startRun};
 ghost use Rattle.table.specs.Directory.{startsOf};
-ghost use Rattle.registers.specs.Words.{wordIn, Eight};
+ghost use Rattle.registers.specs.Words.{Eight, dueIn};
 ghost use Rattle.machine.specs.Running.{RowsStand, settingIn, Running};
-ghost use Rattle.run.specs.Ends.{Roomy, EndsAs, FirstLate, WordsPut, NodeStarted, Started, Planned};
+ghost use Rattle.run.specs.Ends.{Roomy, EndsAs, FirstLate, Calm, Ticks, WordsPut, NodeStarted, Started, Planned};
 
 // How a run ended: document 01's number of the end, the node, the tick, the choices used, the observations written.
 pub struct Ended {
@@ -28,11 +28,11 @@ pub struct Ended {
 // Whether a sleep or a listen is due.
 fn some_due(l: &[u64], count: usize, tick: u64) -> bool
     requires { ⌜ (256 ≤ length (now l)) × (count ≤ 8) ⌝ }
-    ensures { λ r. ⌜ r ≡ any (λ c. eqb (wordIn (now (l .entry)) c 26) tick) (below count) ⌝ }
+    ensures { λ r. ⌜ r ≡ any (λ c. eqb (dueIn (now (l .entry)) c) tick) (below count) ⌝ }
 {
     let mut c: usize = 0;
     while c < count {
-        if registers::word(l, c, 26) == tick {
+        if registers::word(l, c, registers::DUE) == tick {
             return true;
         }
         c += 1;
@@ -47,12 +47,92 @@ fn first_late(l: &[u64], count: usize, tick: u64) -> usize
 {
     let mut c: usize = 0;
     while c < count {
-        if registers::word(l, c, 27) < tick {
+        if registers::word(l, c, registers::LAST) < tick {
             return c;
         }
         c += 1;
     }
     count
+}
+
+fn lesser(a: u64, b: u64) -> u64
+    ensures { λ r. ⌜ (r ≤ a) × (r ≤ b) × ((m : ℕ) → m ≤ a → m ≤ b → m ≤ r) ⌝ }
+{
+    if a < b { a } else { b }
+}
+
+// A tick before the horizon up to which no node is due and none is late.
+fn calm_until(l: &[u64], count: usize, horizon: u64) -> u64
+    requires { ⌜ (256 ≤ length (now l)) × (count ≤ 8) ⌝ }
+    ensures { λ calm. ⌜ Calm (now (l .entry)) count horizon calm ⌝ }
+{
+    if horizon == 0 {
+        return 0;
+    }
+    let mut calm = horizon - 1;
+    let mut c: usize = 0;
+    while c < count {
+        let due = registers::word(l, c, registers::DUE);
+        let last = registers::word(l, c, registers::LAST);
+        calm = lesser(calm, lesser(due, last));
+        c += 1;
+    }
+    calm
+}
+
+fn wide(x: u8) -> u32
+    ensures { λ r. ⌜ (r ≡ x) × (r < 256) ⌝ }
+{
+    x as u32
+}
+
+// Four choices from a place on, added up: 1,020 if they are ticks.
+fn sum_of_four(choices: &[u8], at: usize) -> u32
+    requires { ⌜ at + 4 ≤ length (now choices) ⌝ }
+    ensures { λ r. ⌜ (r ≤ 1020) × (r ≡ 1020 → Ticks (now (choices .entry)) at (at + 4)) ⌝ }
+{
+    let first = wide(choices[at]) + wide(choices[at + 1]);
+    first + (wide(choices[at + 2]) + wide(choices[at + 3]))
+}
+
+// How far the choices from a place on are ticks, eight looked at together.
+fn ticks_by_eight(choices: &[u8], from: usize, end: usize) -> usize
+    requires { ⌜ (from ≤ end) × (end ≤ length (now choices)) ⌝ }
+    ensures { λ at. ⌜ (from ≤ at) × (at ≤ end) × Ticks (now (choices .entry)) from at ⌝ }
+{
+    let mut at = from;
+    while 8 <= end - at {
+        if sum_of_four(choices, at) + sum_of_four(choices, at + 4) != 2040 {
+            return at;
+        }
+        at += 8;
+    }
+    at
+}
+
+// The same, one by one.
+fn ticks_by_one(choices: &[u8], from: usize, end: usize) -> usize
+    requires { ⌜ (from ≤ end) × (end ≤ length (now choices)) ⌝ }
+    ensures { λ at. ⌜ (from ≤ at) × (at ≤ end) × Ticks (now (choices .entry)) from at ⌝ }
+{
+    let mut at = from;
+    while at < end {
+        if choices[at] != 255 {
+            return at;
+        }
+        at += 1;
+    }
+    at
+}
+
+// How many of the choices from a place on are ticks, so many at most; the first one is.
+fn ticks_in_a_row(choices: &[u8], from: usize, most: u64) -> usize
+    requires { ⌜ (from < length (now choices)) × (1 ≤ most) × (getD (now choices) from 0 ≡ 255) ⌝ }
+    ensures { λ k. ⌜ (1 ≤ k) × (k ≤ most) × (from + k ≤ length (now (choices .entry))) × Ticks (now (choices .entry)) from (from + k) ⌝ }
+{
+    let end = from + lesser(most, (choices.len() - from) as u64) as usize;
+    let at = ticks_by_eight(choices, from + 1, end);
+    ticks_by_one(choices, at, end) - from
 }
 
 fn end_of(end: u8, node: u8, tick: u64, used: usize, written: usize) -> Ended
@@ -88,17 +168,24 @@ fn carry_out(
     while used < choices.len() {
         let b = choices[used];
         if b == 255 {
-            if some_due(l, count, tick) {
-                return end_of(3, 255, tick, used, written);
-            }
-            tick += 1;
-            used += 1;
-            let c = first_late(l, count, tick);
-            if c < count {
-                return end_of(2, c as u8, tick, used, written);
-            }
-            if tick == horizon {
-                return end_of(0, 255, tick, used, written);
+            let calm = calm_until(l, count, horizon);
+            if tick < calm {
+                let k = ticks_in_a_row(choices, used, calm - tick);
+                tick += k as u64;
+                used += k;
+            } else {
+                if some_due(l, count, tick) {
+                    return end_of(3, 255, tick, used, written);
+                }
+                tick += 1;
+                used += 1;
+                let c = first_late(l, count, tick);
+                if c < count {
+                    return end_of(2, c as u8, tick, used, written);
+                }
+                if tick == horizon {
+                    return end_of(0, 255, tick, used, written);
+                }
             }
         } else {
             let m = machine::choose_node(program, rows, n, count, l, v, tick, b, out, written);
@@ -125,11 +212,11 @@ fn put_fixed(
     requires { ⌜ (256 ≤ length (now l)) × (c < 8) ⌝ }
     ensures { λ _. ⌜ WordsPut (now (l .entry)) c start long clocks variables row (now (l .exit)) ⌝ }
 {
-    registers::put_word(l, c, 21, start as u64);
-    registers::put_word(l, c, 22, long as u64);
-    registers::put_word(l, c, 23, clocks as u64);
-    registers::put_word(l, c, 24, variables as u64);
-    registers::put_word(l, c, 25, row as u64);
+    registers::put_word(l, c, registers::PART_START, start as u64);
+    registers::put_word(l, c, registers::PART_LENGTH, long as u64);
+    registers::put_word(l, c, registers::CLOCK_COUNT, clocks as u64);
+    registers::put_word(l, c, registers::VARIABLE_COUNT, variables as u64);
+    registers::put_word(l, c, registers::ROW, row as u64);
 }
 
 // Node c at its program's start; its component stands at that place of the table.
@@ -207,6 +294,23 @@ fn run_program(
     )
 }
 
+// The same, its program written to the bytes lent.
+fn run_in(
+    table: &[u8],
+    starts: [u16; 8],
+    program: &mut [u8],
+    rows: &[u32],
+    n: usize,
+    choices: &[u8],
+    out: &mut [u8],
+) -> Ended
+    requires { ⌜ Valid (now table) × (starts ≡ startsOf (now table) (byte (now table) 3)) × (length (programBytes (readOf (now table))) ≤ length (now program)) × Planned (now table) (now rows) n × (n * 32 ≤ length (now out)) × (length (now choices) ≤ 1000000) ⌝ }
+    ensures { λ e. ⌜ ((S : List Passage) → acceptedScheduleOf (readOf (now (table .entry))) ≡ accepted S → EndsAs (settingOf (readOf (now (table .entry))) S) (now (choices .entry)) (now (out .entry)) e (now (out .exit))) ⌝ }
+{
+    let long = translator::write_program(table, starts, program);
+    run_program(table, starts, &program[..long], rows, n, choices, out)
+}
+
 // Runs the programs of an accepted table whose schedule stands in the rows.
 pub fn run_table(
     table: &[u8],
@@ -219,7 +323,10 @@ pub fn run_table(
     requires { ⌜ Valid (now table) × (starts ≡ startsOf (now table) (byte (now table) 3)) × Planned (now table) (now rows) n × (n * 32 ≤ length (now out)) × (length (now choices) ≤ 1000000) ⌝ }
     ensures { λ e. ⌜ ((S : List Passage) → acceptedScheduleOf (readOf (now (table .entry))) ≡ accepted S → EndsAs (settingOf (readOf (now (table .entry))) S) (now (choices .entry)) (now (out .entry)) e (now (out .exit))) ⌝ }
 {
+    if translator::program_length(table, starts) <= 2048 {
+        let mut program = [0u8; 2048];
+        return run_in(table, starts, &mut program, rows, n, choices, out);
+    }
     let mut program = [0u8; 24576];
-    let long = translator::write_program(table, starts, &mut program);
-    run_program(table, starts, &program[..long], rows, n, choices, out)
+    run_in(table, starts, &mut program, rows, n, choices, out)
 }

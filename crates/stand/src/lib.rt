@@ -61,7 +61,7 @@ pub fn names(p: &[u8], at: usize, k: u8) -> bool
     requires { ⌜ length (now p) ≤ 65535 ⌝ }
     ensures { λ r. ⌜ r ≡ Rattle.model.specs.Run.names k (standAt (restAt (now (p .entry)) at)) ⌝ }
 {
-    if node::op_at(p, at) == 5 {
+    if node::op_at(p, at) == node::LISTEN {
         return lists_channel(p, at + 4, p[at + 1], k);
     }
     false
@@ -96,22 +96,22 @@ pub fn may_by(op: u8, tick: u64, t: u64, d: u16, kept: bool, fits: bool) -> bool
     requires { ⌜ t ≤ 4000000000000000000 ⌝ }
     ensures { λ b. ⌜ ((p : List ℕ) (held : Counts) (r : Node) → op ≡ opIn (drop (r .pc) p) → t ≡ r .t → d ≡ r .d → kept ≡ r .kept .some → (op ≡ 2 → fits ≡ addFits p held r) → b ≡ mayFinish tick (nodeOf p held r) (standOf (nodeOf p held r))) ⌝ }
 {
-    if op == 0 {
+    if op == node::SLEEP {
         return tick == t;
     }
-    if op == 5 {
+    if op == node::LISTEN {
         return tick == t + node::wide64(d);
     }
-    if op == 2 {
+    if op == node::ADD {
         return fits;
     }
-    if op == 16 {
+    if op == node::TAKE {
         return kept;
     }
-    if op == 4 {
+    if op == node::SEND {
         return false;
     }
-    op != 255
+    op != node::NOWHERE
 }
 
 // The tick at which a node is due that stands at that op.
@@ -119,10 +119,10 @@ pub fn due_by(op: u8, t: u64, d: u16) -> u64
     requires { ⌜ t ≤ 4000000000000000000 ⌝ }
     ensures { λ e. ⌜ ((p : List ℕ) (held : Counts) (r : Node) → op ≡ opIn (drop (r .pc) p) → t ≡ r .t → d ≡ r .d → e ≡ dueTick (nodeOf p held r) (standOf (nodeOf p held r))) ⌝ }
 {
-    if op == 0 {
+    if op == node::SLEEP {
         return t;
     }
-    if op == 5 {
+    if op == node::LISTEN {
         return t + node::wide64(d);
     }
     18446744073709551615
@@ -133,10 +133,10 @@ pub fn last_by(op: u8, t: u64, d: u16, next: u64) -> u64
     requires { ⌜ t ≤ 4000000000000000000 ⌝ }
     ensures { λ e. ⌜ ((p : List ℕ) (held : Counts) (r : Node) → op ≡ opIn (drop (r .pc) p) → t ≡ r .t → d ≡ r .d → e ≡ lastTick (nodeOf p held r) next (standOf (nodeOf p held r))) ⌝ }
 {
-    if op == 0 {
+    if op == node::SLEEP {
         return 18446744073709551615;
     }
-    if op < 6 {
+    if op < node::UNUSED {
         return t + node::wide64(d);
     }
     next
@@ -149,7 +149,7 @@ pub fn may_finish(p: &[u8], held: Counts, r: Node, tick: u64) -> bool
 {
     let op = node::op_at(p, r.pc);
     let k = r.kept;
-    if op == 2 {
+    if op == node::ADD {
         let at = r.pc;
         let values = r.values;
         let value = node::value_at(values, held.variables, p[at + 1]);

@@ -8,7 +8,7 @@ ghost use lib.ListN.{length, drop};
 ghost use Rattle.model.specs.Lists.{All};
 ghost use Rattle.model.specs.Reader.{byte};
 ghost use Rattle.node.specs.Views.{Held, Within, opIn, Addable};
-ghost use Rattle.registers.specs.Words.{wordIn, clocksIn, nodeIn, heldIn, Eight};
+ghost use Rattle.registers.specs.Words.{clocksIn, nodeIn, heldIn, Eight, placeIn, readyTickIn};
 ghost use Rattle.statement.specs.Done.{Carried, Finished};
 use node::Kept;
 
@@ -18,20 +18,20 @@ fn try_statement(h: &[u8], l: &mut [u64], v: &[i16], c: usize)
     ensures { λ _. ⌜ Carried (now (h .entry)) (now (l .entry)) (now (v .entry)) c (now (l .exit)) (now (v .entry)) ⌝ }
 {
     let op = h[0];
-    if op == 15 {
+    if op == node::KEEP {
         let x = registers::load_trial(l, c);
         let k = registers::load_kept(l, c);
         let kept = node::candidate::keeps(x, h[3], k);
         registers::put_kept(l, c, kept);
         return;
     }
-    if op == 10 {
+    if op == node::TRIAL {
         let none = node::candidate::no_trial();
         registers::put_trial(l, c, none);
         return;
     }
     let x = registers::load_trial(l, c);
-    if op < 13 {
+    if op < node::DATA_LOW {
         let clock = registers::clock(l, c, h[1]);
         let y = node::by_clock(h, x, clock);
         registers::put_trial(l, c, y);
@@ -48,11 +48,11 @@ fn update_statement(h: &[u8], l: &[u64], v: &mut [i16], c: usize)
     ensures { λ _. ⌜ Carried (now (h .entry)) (now (l .entry)) (now (v .entry)) c (now (l .entry)) (now (v .exit)) ⌝ }
 {
     let a = h[1];
-    if registers::small(registers::word(l, c, 24)) <= a {
+    if registers::small(registers::word(l, c, registers::VARIABLE_COUNT)) <= a {
         return;
     }
     let z = decoder::signed_at(h, 2);
-    if h[0] == 1 {
+    if h[0] == node::SET {
         registers::put_value(v, c, a, z);
     } else {
         let x = registers::value(l, v, c, a);
@@ -67,14 +67,14 @@ fn clock_statement(h: &[u8], l: &mut [u64], c: usize)
     ensures { λ _. ⌜ ((v : List ℤ) → Carried (now (h .entry)) (now (l .entry)) v c (now (l .exit)) v) ⌝ }
 {
     let a = h[1];
-    if registers::small(registers::word(l, c, 23)) <= a {
+    if registers::small(registers::word(l, c, registers::CLOCK_COUNT)) <= a {
         return;
     }
-    if h[0] == 8 {
+    if h[0] == node::RESET {
         registers::put_clock(l, c, a, 0);
     } else {
-        let n = registers::half(registers::word(l, c, 6));
-        let d = registers::half(registers::word(l, c, 7));
+        let n = registers::half(registers::word(l, c, registers::READY_DELAY));
+        let d = registers::half(registers::word(l, c, registers::WINDOW_LENGTH));
         let x = registers::clock(l, c, a);
         registers::put_clock(l, c, a, x + (node::wide64(n) + node::wide64(d)));
     }
@@ -85,8 +85,8 @@ fn enter_statement(h: &[u8], l: &mut [u64], c: usize)
     requires { ⌜ (4 ≤ length (now h)) × (byte (now h) 0 ≡ 9) × (256 ≤ length (now l)) × (c < 8) ⌝ }
     ensures { λ _. ⌜ ((v : List ℤ) → Carried (now (h .entry)) (now (l .entry)) v c (now (l .exit)) v) ⌝ }
 {
-    if registers::word(l, c, 10) == 1 {
-        let to = registers::small(registers::word(l, c, 11));
+    if registers::word(l, c, registers::TAKEN) == 1 {
+        let to = registers::small(registers::word(l, c, registers::GOES));
         registers::put_location(l, c, to);
     } else {
         registers::put_location(l, c, h[3]);
@@ -99,20 +99,20 @@ fn work_statement(h: &[u8], l: &mut [u64], v: &mut [i16], c: usize)
     ensures { λ _. ⌜ Carried (now (h .entry)) (now (l .entry)) (now (v .entry)) c (now (l .exit)) (now (v .exit)) ⌝ }
 {
     let op = h[0];
-    if op == 9 {
+    if op == node::ENTER {
         enter_statement(h, l, c);
         return;
     }
-    if op == 0 {
-        let sleeps = registers::word(l, c, 20);
+    if op == node::SLEEP {
+        let sleeps = registers::word(l, c, registers::SLEEPS);
         registers::put_sleeps(l, c, sleeps + 1);
         return;
     }
-    if op < 3 {
+    if op < node::DONE {
         update_statement(h, l, v, c);
         return;
     }
-    if op < 7 {
+    if op < node::AGE {
         return;
     }
     clock_statement(h, l, c);
@@ -120,7 +120,7 @@ fn work_statement(h: &[u8], l: &mut [u64], v: &mut [i16], c: usize)
 
 // Take (10): t moves by the old d, then by the new ready delay; with nothing kept there is no next statement.
 fn take_edge(p: &[u8], l: &mut [u64], c: usize) -> usize
-    requires { ⌜ (256 ≤ length (now l)) × (c < 8) × (opIn (drop (wordIn (now l) c 0) (now p)) ≡ 16) × (wordIn (now l) c 1 ≤ 4000000000000000000) ⌝ }
+    requires { ⌜ (256 ≤ length (now l)) × (c < 8) × (opIn (drop (placeIn (now l) c) (now p)) ≡ 16) × (readyTickIn (now l) c ≤ 4000000000000000000) ⌝ }
     ensures { λ pc. ⌜ ((v : List ℤ) → Finished (now (p .entry)) (now (l .entry)) v c pc (now (l .exit)) v) ⌝ }
 {
     let k = registers::load_kept(l, c);
@@ -131,8 +131,10 @@ fn take_edge(p: &[u8], l: &mut [u64], c: usize) -> usize
     }
     let to = node::block_place(p, node::wide(node::byte_at(p, 2)) + node::wide(k.edge));
     let d = node::candidate::left_of(k.end, node::wide64(k.ready));
-    let before = registers::half(registers::word(l, c, 7));
-    let t = registers::word(l, c, 1) + node::wide64(before) + node::wide64(k.ready);
+    let before = registers::half(registers::word(l, c, registers::WINDOW_LENGTH));
+    let t = registers::word(l, c, registers::READY_TICK)
+        + node::wide64(before)
+        + node::wide64(k.ready);
     registers::put_place(l, c, to);
     registers::put_passage(l, c, k.edge, t, k.ready, d);
     let nothing = Kept {
@@ -147,10 +149,10 @@ fn take_edge(p: &[u8], l: &mut [u64], c: usize) -> usize
 
 // Choose (11) goes to the present location's block.
 fn choose_block(p: &[u8], l: &mut [u64], c: usize) -> usize
-    requires { ⌜ (256 ≤ length (now l)) × (c < 8) × (opIn (drop (wordIn (now l) c 0) (now p)) ≡ 17) ⌝ }
+    requires { ⌜ (256 ≤ length (now l)) × (c < 8) × (opIn (drop (placeIn (now l) c) (now p)) ≡ 17) ⌝ }
     ensures { λ pc. ⌜ ((v : List ℤ) → Finished (now (p .entry)) (now (l .entry)) v c pc (now (l .exit)) v) ⌝ }
 {
-    let location = registers::small(registers::word(l, c, 8));
+    let location = registers::small(registers::word(l, c, registers::LOCATION));
     let to = node::block_place(p, node::wide(location));
     registers::put_place(l, c, to);
     to
@@ -158,21 +160,21 @@ fn choose_block(p: &[u8], l: &mut [u64], c: usize) -> usize
 
 // Node c finishes its statement, whose op that is. The place of the next one.
 pub fn finish(p: &[u8], l: &mut [u64], v: &mut [i16], c: usize, op: u8) -> usize
-    requires { ⌜ (length (now p) ≤ 65535) × Eight (now l) (now v) × (c < 8) × Held (heldIn (now l) c) × Within 4000000000000000000 (nodeIn (now l) (now v) c) × Addable (drop (wordIn (now l) c 0) (now p)) (heldIn (now l) c) (nodeIn (now l) (now v) c) × (op ≡ opIn (drop (wordIn (now l) c 0) (now p))) ⌝ }
+    requires { ⌜ (length (now p) ≤ 65535) × Eight (now l) (now v) × (c < 8) × Held (heldIn (now l) c) × Within 4000000000000000000 (nodeIn (now l) (now v) c) × Addable (drop (placeIn (now l) c) (now p)) (heldIn (now l) c) (nodeIn (now l) (now v) c) × (op ≡ opIn (drop (placeIn (now l) c) (now p))) ⌝ }
     ensures { λ pc. ⌜ Finished (now (p .entry)) (now (l .entry)) (now (v .entry)) c pc (now (l .exit)) (now (v .exit)) ⌝ }
 {
-    let at = registers::word(l, c, 0) as usize;
-    if op == 255 {
+    let at = registers::word(l, c, registers::PLACE) as usize;
+    if op == node::NOWHERE {
         return at;
     }
-    if op == 16 {
+    if op == node::TAKE {
         return take_edge(p, l, c);
     }
-    if op == 17 {
+    if op == node::CHOOSE {
         return choose_block(p, l, c);
     }
     let h = &p[at..];
-    if op < 10 {
+    if op < node::TRIAL {
         let to = at + node::statement_length(h);
         registers::put_place(l, c, to);
         work_statement(h, l, v, c);

@@ -1,6 +1,6 @@
 -- `registers::clock` meets its contract. Assumes nothing.
 use Rattle.registers.specs.Words.{heldIn}
-use Rattle.registers.proofs.Puts.{clock-read, clock-none}
+use Rattle.registers.proofs.PartsRead.{clock-read, clock-none}
 use native.Mathlib.Omega.{arith}
 use mathlib.Core.Path.{_≡_, _∙_}
 use borrow.Author.Needs.{needs}

@@ -1,5 +1,5 @@
 -- `registers::put_clock` meets its contract. Assumes nothing.
-use Rattle.registers.proofs.Puts.{clock-stored}
+use Rattle.registers.proofs.PutParts.{clock-stored}
 use mathlib.Core.Path.{_∙_}
 use borrow.Author.Needs.{needs}
 use Rattle.registers.proofs.put_clock.Statement.{statement}

@@ -1,5 +1,5 @@
 -- `registers::put_kept` meets its contract. Assumes nothing.
-use Rattle.registers.proofs.Puts.{kept-stored}
+use Rattle.registers.proofs.PutParts.{kept-stored}
 use borrow.Author.Needs.{needs}
 use Rattle.registers.proofs.put_kept.Statement.{statement}
 use Rattle.registers.proofs.put_kept.Tie as tie

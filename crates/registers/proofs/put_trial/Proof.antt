@@ -1,5 +1,5 @@
 -- `registers::put_trial` meets its contract. Assumes nothing.
-use Rattle.registers.proofs.Puts.{trial-stored}
+use Rattle.registers.proofs.PutParts.{trial-stored}
 use borrow.Author.Needs.{needs}
 use Rattle.registers.proofs.put_trial.Statement.{statement}
 use Rattle.registers.proofs.put_trial.Tie as tie

@@ -1,7 +1,7 @@
 -- `registers::put_value` meets its contract. Assumes nothing.
 use mir.ValLaws.{toZ-ofZ}
 use mir.Syntax.{w16}
-use Rattle.registers.proofs.Puts.{value-stored}
+use Rattle.registers.proofs.PutParts.{value-stored}
 use borrow.Author.Needs.{needs}
 use Rattle.registers.proofs.put_value.Statement.{statement}
 use Rattle.registers.proofs.put_value.Tie as tie

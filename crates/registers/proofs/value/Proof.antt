@@ -6,7 +6,7 @@ use mir.ValLaws.{toZ-ofZ}
 use mir.Val.{SFits}
 use mir.Syntax.{w16}
 use Rattle.registers.specs.Words.{heldIn}
-use Rattle.registers.proofs.Puts.{value-read, value-none}
+use Rattle.registers.proofs.PartsRead.{value-read, value-none}
 use native.Mathlib.Omega.{arith}
 use mathlib.Core.Path.{_≡_, _∙_}
 use borrow.Author.Needs.{needs}

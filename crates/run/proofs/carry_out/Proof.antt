@@ -6,6 +6,7 @@ use borrow.Author.Needs.{needs}
 use borrow.Author.Tests.{not-true, not-false}
 use lib.ListN.{length, getD}
 use Rattle.run.proofs.Stages.{Stage, first-stage, used-up, standing, tick-forbidden, tick-late, tick-horizon, tick-stage, room, node-forbidden, node-stage}
+use Rattle.run.proofs.Bulk.{ticks-stage}
 use Rattle.run.proofs.carry_out.Statement.{statement}
 use Rattle.run.proofs.carry_out.Tie as tie
 
@@ -26,6 +27,33 @@ loop-holds c =
 shared-slice-read-b : tie.Need-shared-slice-read-b Inv-loop μ-loop
 shared-slice-read-b c = search needs
 
+calm-until-requires : tie.Need-calm-until-requires Inv-loop μ-loop
+calm-until-requires c κs = search needs
+
+sub-ticks-in-a-row : tie.Need-sub-ticks-in-a-row Inv-loop μ-loop
+sub-ticks-in-a-row c = search needs
+
+ticks-in-a-row-requires : tie.Need-ticks-in-a-row-requires Inv-loop μ-loop
+ticks-in-a-row-requires c κs =
+    (c .before .before .before .before .before .loop-test .taken, omega (arith, c .if2 .taken), c .before .before .before .if1 .taken)
+
+add-tick : tie.Need-add-tick Inv-loop μ-loop
+add-tick c = omega (arith, c .ticks-in-a-row .ensures .2, c .before .before .before .before .before .before .before .loop .inv .0 .early, c .before .before .before .before .before .before .before .before .before .before .before .before .before .pre .1)
+
+add-used : tie.Need-add-used Inv-loop μ-loop
+add-used c = omega (arith, c .ticks-in-a-row .ensures .2, c .before .before .before .before .before .before .before .before .before .before .before .before .before .pre .1)
+
+loop-less : tie.Need-loop-less Inv-loop μ-loop
+loop-less c = omega (arith, c .ticks-in-a-row .ensures .0, c .before .before .before .before .before .before .loop-test .taken)
+
+loop-again : tie.Need-loop-again Inv-loop μ-loop
+loop-again c =
+    let e = c .before .before .before .before .before .before .before .before .before .before .before .before .before in
+    let i = c .before .before .before .before .before .before .before .loop in
+    let row = c .ticks-in-a-row in
+    let r = row .ensures in
+    (ticks-stage (i .inv .0) (e .pre .1) (c .before .before .calm-until .ensures) (row .result) (omega (arith, r .1, c .before .if2 .taken)) (r .2) (r .3), r .2, i .inv .2, i .inv .3, i .inv .4)
+
 some-due-requires : tie.Need-some-due-requires Inv-loop μ-loop
 some-due-requires c κs = search needs
 
@@ -43,16 +71,15 @@ same-length-3 c = search needs
 
 returns : tie.Need-returns Inv-loop μ-loop
 returns c =
-    let t = c .before .before .before .before .before .before in
-    let e = t .before .before .before .before .before .before .before in
-    let i = t .before .loop in
-    tick-forbidden (i .inv .0) (t .loop-test .taken) (e .pre .1) (c .before .before .before .before .if1 .taken) (sym (c .before .before .some-due .ensures) ∙ c .before .if2 .taken) (c .end-of .ensures)
+    let e = c .before .before .before .before .before .before .before .before .before .before .before .before .before .before .before .before in
+    let i = c .before .before .before .before .before .before .before .before .before .before .loop in
+    tick-forbidden (i .inv .0) (c .before .before .before .before .before .before .before .before .before .loop-test .taken) (e .pre .1) (c .before .before .before .before .before .before .before .if1 .taken) (sym (c .before .before .some-due .ensures) ∙ c .before .if3 .taken) (c .end-of .ensures)
 
-add-tick : tie.Need-add-tick Inv-loop μ-loop
-add-tick c = search needs
+add-tick-2 : tie.Need-add-tick-2 Inv-loop μ-loop
+add-tick-2 c = search needs
 
-add-used : tie.Need-add-used Inv-loop μ-loop
-add-used c = search needs
+add-used-2 : tie.Need-add-used-2 Inv-loop μ-loop
+add-used-2 c = search needs
 
 first-late-requires : tie.Need-first-late-requires Inv-loop μ-loop
 first-late-requires c κs = search needs
@@ -74,11 +101,10 @@ same-length-6 c = search needs
 
 returns-2 : tie.Need-returns-2 Inv-loop μ-loop
 returns-2 c =
-    let t = c .before .before .before .before .before .before .before .before .before in
-    let e = t .before .before .before .before .before .before .before in
-    let i = t .before .loop in
-    let d = c .before .before .before .before in
-    tick-late (i .inv .0) (t .loop-test .taken) (e .pre .1) (d .before .before .before .if1 .taken) (sym (d .before .some-due .ensures) ∙ d .if2 .left) (c .before .before .first-late .ensures) (c .before .if3 .taken) (c .end-of2 .ensures)
+    let e = c .before .before .before .before .before .before .before .before .before .before .before .before .before .before .before .before .before .before .before in
+    let i = c .before .before .before .before .before .before .before .before .before .before .before .before .before .loop in
+    tick-late (i .inv .0) (c .before .before .before .before .before .before .before .before .before .before .before .before .loop-test .taken) (e .pre .1) (c .before .before .before .before .before .before .before .before .before .before .if1 .taken) (sym (c .before .before .before .before .before .some-due .ensures) ∙ c .before .before .before .before .if3 .left) (c .before .before .first-late .ensures) (c .before .if4 .taken)
+    (c .end-of2 .ensures)
 
 end-of-requires-3 : tie.Need-end-of-requires-3 Inv-loop μ-loop
 end-of-requires-3 c κs = search needs
@@ -94,23 +120,25 @@ same-length-9 c = search needs
 
 returns-3 : tie.Need-returns-3 Inv-loop μ-loop
 returns-3 c =
-    let t = c .before .before .before .before .before .before .before .before .before .before in
-    let e = t .before .before .before .before .before .before .before in
-    let i = t .before .loop in
-    let d = c .before .before .before .before .before in
-    tick-horizon (i .inv .0) (t .loop-test .taken) (e .pre .1) (d .before .before .before .if1 .taken) (sym (d .before .some-due .ensures) ∙ d .if2 .left) (c .before .before .before .first-late .ensures) (c .before .before .if3 .left) (c .before .if4 .taken)
-    (c .end-of3 .ensures)
+    let e = c .before .before .before .before .before .before .before .before .before .before .before .before .before .before .before .before .before .before .before .before in
+    let i = c .before .before .before .before .before .before .before .before .before .before .before .before .before .before .loop in
+    tick-horizon (i .inv .0) (c .before .before .before .before .before .before .before .before .before .before .before .before .before .loop-test .taken) (e .pre .1) (c .before .before .before .before .before .before .before .before .before .before .before .if1 .taken) (sym (c .before .before .before .before .before .before .some-due .ensures) ∙ c .before .before .before .before .before .if3 .left) (c .before .before .before .first-late .ensures) (c .before .before .if4 .left)
+    (c .before .if5 .taken) (c .end-of3 .ensures)
 
-loop-less : tie.Need-loop-less Inv-loop μ-loop
-loop-less c = search needs
+loop-less-2 : tie.Need-loop-less-2 Inv-loop μ-loop
+loop-less-2 c = search needs
 
-loop-again : tie.Need-loop-again Inv-loop μ-loop
-loop-again c =
-    let t = c .before .before .before .before .before .before .before .before .before in
-    let e = t .before .before .before .before .before .before .before in
-    let i = t .before .loop in
-    let d = c .before .before .before .before in
-    (tick-stage (i .inv .0) (t .loop-test .taken) (e .pre .1) (d .before .before .before .if1 .taken) (sym (d .before .some-due .ensures) ∙ d .if2 .left) (c .before .before .first-late .ensures) (c .before .if3 .left) (c .if4 .left), search needs, i .inv .2, i .inv .3, i .inv .4)
+loop-again-2 : tie.Need-loop-again-2 Inv-loop μ-loop
+loop-again-2 c =
+    let e = c .before .before .before .before .before .before .before .before .before .before .before .before .before .before .before .before .before .before .before in
+    let i = c .before .before .before .before .before .before .before .before .before .before .before .before .before .loop in (
+      tick-stage (i .inv .0) (c .before .before .before .before .before .before .before .before .before .before .before .before .loop-test .taken) (e .pre .1) (c .before .before .before .before .before .before .before .before .before .before .if1 .taken) (sym (c .before .before .before .before .before .some-due .ensures) ∙ c .before .before .before .before .if3 .left) (c .before .before .first-late .ensures) (c .before .if4 .left)
+          (c .if5 .left),
+      search needs,
+      i .inv .2,
+      i .inv .3,
+      i .inv .4,
+    )
 
 choose-node-requires : tie.Need-choose-node-requires Inv-loop μ-loop
 choose-node-requires c κs =
@@ -139,21 +167,21 @@ returns-4 c =
     let e = t .before .before .before .before .before .before .before in
     let i = t .before .loop in
     let m = c .before .before .before .before .before .before .before .before .choose-node in
-    node-forbidden (i .inv .0) (t .loop-test .taken) (e .pre .1) (m .ensures (e .args .horizon)) (not-true _ (c .before .if5 .taken)) (c .end-of4 .ensures)
+    node-forbidden (i .inv .0) (t .loop-test .taken) (e .pre .1) (m .ensures (e .args .horizon)) (not-true _ (c .before .if6 .taken)) (c .end-of4 .ensures)
 
-add-used-2 : tie.Need-add-used-2 Inv-loop μ-loop
-add-used-2 c = search needs
+add-used-3 : tie.Need-add-used-3 Inv-loop μ-loop
+add-used-3 c = search needs
 
-loop-less-2 : tie.Need-loop-less-2 Inv-loop μ-loop
-loop-less-2 c = search needs
+loop-less-3 : tie.Need-loop-less-3 Inv-loop μ-loop
+loop-less-3 c = search needs
 
-loop-again-2 : tie.Need-loop-again-2 Inv-loop μ-loop
-loop-again-2 c =
+loop-again-3 : tie.Need-loop-again-3 Inv-loop μ-loop
+loop-again-3 c =
     let t = c .before .before .before .before .before .before .before .before .before .before .before .before .before in
     let e = t .before .before .before .before .before .before .before in
     let i = t .before .loop in
     let m = c .before .before .before .before .before .before .before .choose-node in
-    (node-stage (i .inv .0) (t .loop-test .taken) (e .pre .1) (m .ensures (e .args .horizon)) (not-false _ (c .if5 .left)) (e .pre .2), search needs, search needs, search needs, search needs)
+    (node-stage (i .inv .0) (t .loop-test .taken) (e .pre .1) (m .ensures (e .args .horizon)) (not-false _ (c .if6 .left)) (e .pre .2), search needs, search needs, search needs, search needs)
 
 end-of-requires-5 : tie.Need-end-of-requires-5 Inv-loop μ-loop
 end-of-requires-5 c κs = search needs
@@ -178,14 +206,21 @@ carry-out-spec =
     μ-loop
     loop-holds
     shared-slice-read-b
+    calm-until-requires
+    sub-ticks-in-a-row
+    ticks-in-a-row-requires
+    add-tick
+    add-used
+    loop-less
+    loop-again
     some-due-requires
     end-of-requires
     same-length
     same-length-2
     same-length-3
     returns
-    add-tick
-    add-used
+    add-tick-2
+    add-used-2
     first-late-requires
     cast-end-of
     end-of-requires-2
@@ -198,17 +233,17 @@ carry-out-spec =
     same-length-8
     same-length-9
     returns-3
-    loop-less
-    loop-again
+    loop-less-2
+    loop-again-2
     choose-node-requires
     end-of-requires-4
     same-length-10
     same-length-11
     same-length-12
     returns-4
-    add-used-2
-    loop-less-2
-    loop-again-2
+    add-used-3
+    loop-less-3
+    loop-again-3
     end-of-requires-5
     same-length-13
     same-length-14

@@ -1,45 +1,17 @@
 -- `run::run_table` meets its contract. Assumes nothing.
-use borrow.Author.Needs.{needs}
-use mathlib.Core.Path.{sym, ap, _∙_}
 use native.Mathlib.Omega.{arith}
-use lib.ListN.{length}
-use Rattle.model.specs.Places.{readOf}
-use Rattle.model.specs.Program.{programBytes}
-use Rattle.translator.proofs.Standing.{slice-bytes}
-use Rattle.translator.proofs.Programs.{program-most}
-use Rattle.run.proofs.Handed.{front-is}
+use borrow.Author.Needs.{needs}
 use Rattle.run.proofs.run_table.Statement.{statement}
 use Rattle.run.proofs.run_table.Tie as tie
 
-slice-aggregate-write-program : tie.Need-slice-aggregate-write-program
-slice-aggregate-write-program c = search needs
+program-length-requires : tie.Need-program-length-requires
+program-length-requires c κs = search needs
 
-write-program-requires : tie.Need-write-program-requires
-write-program-requires c κs =
-    let s = c .before .before .before .before .before in
-    let table = s .args .table .now in
-    let bytes = slice-bytes table (c .before .before .before .before .shared-slice-known .given) in
-    (s .pre .0, s .pre .1, omega (arith, program-most table bytes (s .pre .0)))
+slice-aggregate-run-in : tie.Need-slice-aggregate-run-in
+slice-aggregate-run-in c = search needs
 
-array-share-prefix-program : tie.Need-array-share-prefix-program
-array-share-prefix-program c =
-    let s = c .before .before .before .before .before .before .before in
-    let table = s .args .table .now in
-    let bytes = slice-bytes table (c .before .before .before .before .before .before .shared-slice-known .given) in
-    omega (arith, c .before .write-program .ensures .0, program-most table bytes (s .pre .0))
-
-slice-aggregate-run-program : tie.Need-slice-aggregate-run-program
-slice-aggregate-run-program c =
-    let program = programBytes (readOf (c .before .before .before .before .before .before .before .before .args .table .now)) in
-    let written = c .before .before .write-program .ensures in
-    written .0 ∙ sym (ap length (front-is program _ (written .0) (written .1)))
-
-run-program-requires : tie.Need-run-program-requires
-run-program-requires c κs =
-    let s = c .before .before .before .before .before .before .before .before .before in
-    let program = programBytes (readOf (s .args .table .now)) in
-    let written = c .before .before .before .write-program .ensures in
-    (s .pre .0, s .pre .1, front-is program _ (written .0) (written .1), s .pre .2, s .pre .3, s .pre .4)
+run-in-requires : tie.Need-run-in-requires
+run-in-requires c κs = search needs
 
 same-length : tie.Need-same-length
 same-length c = search needs
@@ -47,14 +19,31 @@ same-length c = search needs
 returns : tie.Need-returns
 returns c = search needs
 
+slice-aggregate-run-in-2 : tie.Need-slice-aggregate-run-in-2
+slice-aggregate-run-in-2 c = search needs
+
+run-in-requires-2 : tie.Need-run-in-requires-2
+run-in-requires-2 c κs =
+    let s = c .before .before .before .before .before .before .before .before in
+    let long = c .before .before .before .program-length .ensures in
+    (s .pre .0, s .pre .1, omega (arith, long), s .pre .2, s .pre .3, s .pre .4)
+
+same-length-2 : tie.Need-same-length-2
+same-length-2 c = search needs
+
+returns-2 : tie.Need-returns-2
+returns-2 c = search needs
+
 pub run-table-spec : {M : Type 1} → statement M
 run-table-spec =
     tie.close
     (tie.spec
-    slice-aggregate-write-program
-    write-program-requires
-    array-share-prefix-program
-    slice-aggregate-run-program
-    run-program-requires
+    program-length-requires
+    slice-aggregate-run-in
+    run-in-requires
     same-length
-    returns)
+    returns
+    slice-aggregate-run-in-2
+    run-in-requires-2
+    same-length-2
+    returns-2)
