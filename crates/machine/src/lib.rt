@@ -17,6 +17,7 @@ ghost use Rattle.stand.specs.Stands.{mayFinish};
 ghost use Rattle.registers.specs.Words.{nodeIn, partIn, heldIn, Eight, placeIn, readyTickIn};
 ghost use Rattle.machine.specs.Running.{RowsStand, readyAt, viewIn, NodeStands, Standing};
 ghost use Rattle.machine.specs.Chosen.{opOf, Inside, Noted, NodePut, RowPassed, IsFirst, NodeMoved, observesNow, Chosen};
+use model::op;
 use node::Node;
 
 // Whether a choice was allowed, and how many observations are written now.
@@ -112,7 +113,7 @@ fn finish_node(
 {
     let base = registers::word(l, c, registers::PART_START) as usize;
     let end = base + registers::word(l, c, registers::PART_LENGTH) as usize;
-    if op == node::SLEEP {
+    if op == op::SLEEP {
         pass_row(rows, n, l, c);
     }
     let pc = statement::finish(&program[base..end], l, v, c, op);
@@ -187,7 +188,7 @@ fn send_message(
     if 8 <= i {
         return false;
     }
-    finish_node(program, rows, n, l, v, c, node::SEND);
+    finish_node(program, rows, n, l, v, c, op::SEND);
     hear(program, rows, n, l, v, i, k);
     true
 }
@@ -200,7 +201,7 @@ fn may_finish(program: &[u8], l: &[u64], v: &[i16], c: usize, op: u8, tick: u64)
     let t = registers::word(l, c, registers::READY_TICK);
     let d = registers::half(registers::word(l, c, registers::WINDOW_LENGTH));
     let kept = registers::word(l, c, registers::KEPT) == 1;
-    if op == node::ADD {
+    if op == op::ADD {
         let base = registers::word(l, c, registers::PART_START) as usize;
         let end = base + registers::word(l, c, registers::PART_LENGTH) as usize;
         let at = registers::word(l, c, registers::PLACE) as usize;
@@ -235,11 +236,11 @@ fn go_alone(
             written,
         };
     }
-    if op == node::SLEEP {
+    if op == op::SLEEP {
         let held = registers::counts(l, c);
         let r = registers::load(l, v, c);
         observation::put_observation(r, held, c as u8, tick, out, written * 32);
-        finish_node(program, rows, n, l, v, c, node::SLEEP);
+        finish_node(program, rows, n, l, v, c, op::SLEEP);
         return Moved {
             allowed: true,
             written: written + 1,
@@ -279,7 +280,7 @@ pub fn choose_node(
     let end = base + registers::word(l, c, registers::PART_LENGTH) as usize;
     let pc = registers::word(l, c, registers::PLACE) as usize;
     let op = node::op_at(&program[base..end], pc);
-    if op == node::SEND {
+    if op == op::SEND {
         let allowed = send_message(program, rows, n, l, v, count, c);
         return Moved { allowed, written };
     }

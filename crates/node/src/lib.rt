@@ -15,44 +15,9 @@ ghost use Rattle.node.specs.declared.Counts.{Counts};
 ghost use Rattle.node.specs.declared.Node.{Node};
 ghost use Rattle.node.specs.Views.{Held, Within, opIn, Addable};
 ghost use Rattle.node.specs.After.{trying, clockTried, valueTried, effect, edgeTaken, blockChosen, after};
+use model::op;
 
-// The ops of the statements. Those below `UNUSED` stand before or in a node's work, those above behind it; `NOWHERE` is no statement.
-pub const SLEEP: u8 = 0x00;
-
-pub const SET: u8 = 0x01;
-
-pub const ADD: u8 = 0x02;
-
-pub const DONE: u8 = 0x03;
-
-pub const SEND: u8 = 0x04;
-
-pub const LISTEN: u8 = 0x05;
-
-pub const UNUSED: u8 = 0x06;
-
-pub const AGE: u8 = 0x07;
-
-pub const RESET: u8 = 0x08;
-
-pub const ENTER: u8 = 0x09;
-
-pub const TRIAL: u8 = 0x0A;
-
-pub const LOW: u8 = 0x0B;
-
-pub const HIGH: u8 = 0x0C;
-
-pub const DATA_LOW: u8 = 0x0D;
-
-pub const DATA_HIGH: u8 = 0x0E;
-
-pub const KEEP: u8 = 0x0F;
-
-pub const TAKE: u8 = 0x10;
-
-pub const CHOOSE: u8 = 0x11;
-
+// One past the last op, and what stands for the op where there is no statement to be carried out.
 pub const BEYOND: u8 = 0x12;
 
 pub const NOWHERE: u8 = 0xFF;
@@ -148,7 +113,7 @@ pub fn op_at(p: &[u8], at: usize) -> u8
         return NOWHERE;
     }
     let op = p[at];
-    if op == UNUSED {
+    if op == op::PAIR {
         return NOWHERE;
     }
     if op < BEYOND { op } else { NOWHERE }
@@ -184,7 +149,7 @@ pub fn by_clock(h: &[u8], x: Trial, clock: u64) -> Trial
     ensures { λ y. ⌜ y ≡ clockTried (now (h .entry)) x clock ⌝ }
 {
     let k = parts::word_at(h, 2);
-    if h[0] == LOW {
+    if h[0] == op::LOW {
         return candidate::raised(x, k, clock);
     }
     candidate::lowered(x, k, clock)
@@ -196,7 +161,7 @@ pub fn by_value(h: &[u8], x: Trial, value: i16) -> Trial
     ensures { λ y. ⌜ y ≡ valueTried (now (h .entry)) x value ⌝ }
 {
     let bound = decoder::signed_at(h, 2);
-    if h[0] == DATA_LOW {
+    if h[0] == op::DATA_LOW {
         return candidate::met(x, bound <= value);
     }
     candidate::met(x, value <= bound)
@@ -212,10 +177,10 @@ fn tried(h: &[u8], held: Counts, r: Node) -> Trial
     let x = r.tried;
     let clocks = r.clocks;
     let values = r.values;
-    if op == TRIAL {
+    if op == op::TRIAL {
         return candidate::no_trial();
     }
-    if op < DATA_LOW {
+    if op < op::DATA_LOW {
         return by_clock(h, x, clock_at(clocks, held.clocks, a));
     }
     by_value(h, x, value_at(values, held.variables, a))
@@ -227,7 +192,7 @@ fn try_statement(h: &[u8], held: Counts, r: Node) -> Node
     ensures { λ q. ⌜ q ≡ effect (now (h .entry)) held r ⌝ }
 {
     let mut q = r;
-    if h[0] == KEEP {
+    if h[0] == op::KEEP {
         let k = candidate::keeps(r.tried, h[3], r.kept);
         q.kept = k;
     } else {
@@ -256,7 +221,7 @@ fn update_statement(h: &[u8], held: Counts, r: Node) -> Node
     }
     let z = decoder::signed_at(h, 2);
     let mut values = r.values;
-    if h[0] == SET {
+    if h[0] == op::SET {
         values[wide(a)] = z;
     } else {
         values[wide(a)] = sum(values[wide(a)], z);
@@ -276,7 +241,7 @@ fn clock_statement(h: &[u8], held: Counts, r: Node) -> Node
         return r;
     }
     let mut clocks = r.clocks;
-    if h[0] == RESET {
+    if h[0] == op::ZERO {
         clocks[wide(a)] = 0;
     } else {
         clocks[wide(a)] = clocks[wide(a)] + (wide64(r.n) + wide64(r.d));
@@ -308,18 +273,18 @@ fn work_statement(h: &[u8], held: Counts, r: Node) -> Node
     ensures { λ q. ⌜ q ≡ effect (now (h .entry)) held r ⌝ }
 {
     let op = h[0];
-    if op == SLEEP {
+    if op == op::SLEEP {
         let mut q = r;
         q.sleeps = r.sleeps + 1;
         return q;
     }
-    if op < DONE {
+    if op < op::DONE {
         return update_statement(h, held, r);
     }
-    if op < AGE {
+    if op < op::AGE {
         return r;
     }
-    if op < ENTER {
+    if op < op::ENTER {
         return clock_statement(h, held, r);
     }
     enter_statement(h, held, r)
@@ -330,7 +295,7 @@ pub fn statement_length(h: &[u8]) -> usize
     requires { ⌜ 4 ≤ length (now h) ⌝ }
     ensures { λ r. ⌜ (r ≡ statementLength (now (h .entry))) × (r ≤ 1024) ⌝ }
 {
-    if h[0] == LISTEN {
+    if h[0] == op::LISTEN {
         return 4 + wide(h[1]) * 4;
     }
     4
@@ -380,17 +345,17 @@ pub fn finish(p: &[u8], held: Counts, r: Node) -> Node
     if op == NOWHERE {
         return r;
     }
-    if op == TAKE {
+    if op == op::TAKE {
         return take_edge(p, r);
     }
-    if op == CHOOSE {
+    if op == op::CHOOSE {
         return choose_block(p, r);
     }
     let at = r.pc;
     let h = &p[at..];
     let mut q = r;
     q.pc = at + statement_length(h);
-    if op < TRIAL {
+    if op < op::TRIAL {
         return work_statement(h, held, q);
     }
     try_statement(h, held, q)

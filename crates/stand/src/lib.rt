@@ -17,6 +17,7 @@ ghost use Rattle.node.specs.declared.Node.{Node};
 ghost use Rattle.node.specs.Views.{restAt, nodeOf, Held, Within, opIn};
 ghost use Rattle.node.specs.After.{listened, startOf};
 ghost use Rattle.stand.specs.Stands.{mayFinish, addFits, dueTick, lastTick};
+use model::op;
 use node::Counts;
 use node::Kept;
 use node::Node;
@@ -61,7 +62,7 @@ pub fn names(p: &[u8], at: usize, k: u8) -> bool
     requires { ⌜ length (now p) ≤ 65535 ⌝ }
     ensures { λ r. ⌜ r ≡ Rattle.model.specs.Run.names k (standAt (restAt (now (p .entry)) at)) ⌝ }
 {
-    if node::op_at(p, at) == node::LISTEN {
+    if node::op_at(p, at) == op::LISTEN {
         return lists_channel(p, at + 4, p[at + 1], k);
     }
     false
@@ -96,19 +97,19 @@ pub fn may_by(op: u8, tick: u64, t: u64, d: u16, kept: bool, fits: bool) -> bool
     requires { ⌜ t ≤ 4000000000000000000 ⌝ }
     ensures { λ b. ⌜ ((p : List ℕ) (held : Counts) (r : Node) → op ≡ opIn (drop (r .pc) p) → t ≡ r .t → d ≡ r .d → kept ≡ r .kept .some → (op ≡ 2 → fits ≡ addFits p held r) → b ≡ mayFinish tick (nodeOf p held r) (standOf (nodeOf p held r))) ⌝ }
 {
-    if op == node::SLEEP {
+    if op == op::SLEEP {
         return tick == t;
     }
-    if op == node::LISTEN {
+    if op == op::LISTEN {
         return tick == t + node::wide64(d);
     }
-    if op == node::ADD {
+    if op == op::ADD {
         return fits;
     }
-    if op == node::TAKE {
+    if op == op::TAKE {
         return kept;
     }
-    if op == node::SEND {
+    if op == op::SEND {
         return false;
     }
     op != node::NOWHERE
@@ -119,10 +120,10 @@ pub fn due_by(op: u8, t: u64, d: u16) -> u64
     requires { ⌜ t ≤ 4000000000000000000 ⌝ }
     ensures { λ e. ⌜ ((p : List ℕ) (held : Counts) (r : Node) → op ≡ opIn (drop (r .pc) p) → t ≡ r .t → d ≡ r .d → e ≡ dueTick (nodeOf p held r) (standOf (nodeOf p held r))) ⌝ }
 {
-    if op == node::SLEEP {
+    if op == op::SLEEP {
         return t;
     }
-    if op == node::LISTEN {
+    if op == op::LISTEN {
         return t + node::wide64(d);
     }
     18446744073709551615
@@ -133,10 +134,10 @@ pub fn last_by(op: u8, t: u64, d: u16, next: u64) -> u64
     requires { ⌜ t ≤ 4000000000000000000 ⌝ }
     ensures { λ e. ⌜ ((p : List ℕ) (held : Counts) (r : Node) → op ≡ opIn (drop (r .pc) p) → t ≡ r .t → d ≡ r .d → e ≡ lastTick (nodeOf p held r) next (standOf (nodeOf p held r))) ⌝ }
 {
-    if op == node::SLEEP {
+    if op == op::SLEEP {
         return 18446744073709551615;
     }
-    if op < node::UNUSED {
+    if op < op::PAIR {
         return t + node::wide64(d);
     }
     next
@@ -149,7 +150,7 @@ pub fn may_finish(p: &[u8], held: Counts, r: Node, tick: u64) -> bool
 {
     let op = node::op_at(p, r.pc);
     let k = r.kept;
-    if op == node::ADD {
+    if op == op::ADD {
         let at = r.pc;
         let values = r.values;
         let value = node::value_at(values, held.variables, p[at + 1]);

@@ -10,6 +10,7 @@ ghost use Rattle.model.specs.Reader.{byte};
 ghost use Rattle.node.specs.Views.{Held, Within, opIn, Addable};
 ghost use Rattle.registers.specs.Words.{clocksIn, nodeIn, heldIn, Eight, placeIn, readyTickIn};
 ghost use Rattle.statement.specs.Done.{Carried, Finished};
+use model::op;
 use node::Kept;
 
 // A statement of a trial (0A to 0F).
@@ -18,20 +19,20 @@ fn try_statement(h: &[u8], l: &mut [u64], v: &[i16], c: usize)
     ensures { λ _. ⌜ Carried (now (h .entry)) (now (l .entry)) (now (v .entry)) c (now (l .exit)) (now (v .entry)) ⌝ }
 {
     let op = h[0];
-    if op == node::KEEP {
+    if op == op::KEEP {
         let x = registers::load_trial(l, c);
         let k = registers::load_kept(l, c);
         let kept = node::candidate::keeps(x, h[3], k);
         registers::put_kept(l, c, kept);
         return;
     }
-    if op == node::TRIAL {
+    if op == op::TRIAL {
         let none = node::candidate::no_trial();
         registers::put_trial(l, c, none);
         return;
     }
     let x = registers::load_trial(l, c);
-    if op < node::DATA_LOW {
+    if op < op::DATA_LOW {
         let clock = registers::clock(l, c, h[1]);
         let y = node::by_clock(h, x, clock);
         registers::put_trial(l, c, y);
@@ -52,7 +53,7 @@ fn update_statement(h: &[u8], l: &[u64], v: &mut [i16], c: usize)
         return;
     }
     let z = decoder::signed_at(h, 2);
-    if h[0] == node::SET {
+    if h[0] == op::SET {
         registers::put_value(v, c, a, z);
     } else {
         let x = registers::value(l, v, c, a);
@@ -70,7 +71,7 @@ fn clock_statement(h: &[u8], l: &mut [u64], c: usize)
     if registers::small(registers::word(l, c, registers::CLOCK_COUNT)) <= a {
         return;
     }
-    if h[0] == node::RESET {
+    if h[0] == op::ZERO {
         registers::put_clock(l, c, a, 0);
     } else {
         let n = registers::half(registers::word(l, c, registers::READY_DELAY));
@@ -99,20 +100,20 @@ fn work_statement(h: &[u8], l: &mut [u64], v: &mut [i16], c: usize)
     ensures { λ _. ⌜ Carried (now (h .entry)) (now (l .entry)) (now (v .entry)) c (now (l .exit)) (now (v .exit)) ⌝ }
 {
     let op = h[0];
-    if op == node::ENTER {
+    if op == op::ENTER {
         enter_statement(h, l, c);
         return;
     }
-    if op == node::SLEEP {
+    if op == op::SLEEP {
         let sleeps = registers::word(l, c, registers::SLEEPS);
         registers::put_sleeps(l, c, sleeps + 1);
         return;
     }
-    if op < node::DONE {
+    if op < op::DONE {
         update_statement(h, l, v, c);
         return;
     }
-    if op < node::AGE {
+    if op < op::AGE {
         return;
     }
     clock_statement(h, l, c);
@@ -167,14 +168,14 @@ pub fn finish(p: &[u8], l: &mut [u64], v: &mut [i16], c: usize, op: u8) -> usize
     if op == node::NOWHERE {
         return at;
     }
-    if op == node::TAKE {
+    if op == op::TAKE {
         return take_edge(p, l, c);
     }
-    if op == node::CHOOSE {
+    if op == op::CHOOSE {
         return choose_block(p, l, c);
     }
     let h = &p[at..];
-    if op < node::TRIAL {
+    if op < op::TRIAL {
         let to = at + node::statement_length(h);
         registers::put_place(l, c, to);
         work_statement(h, l, v, c);
