@@ -3,3 +3,4 @@ pub mod Swept
 pub mod Questions
 pub mod Listening
 pub mod Answers
+pub mod Earlier

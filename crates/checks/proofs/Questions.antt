@@ -13,10 +13,9 @@ use Rattle.model.specs.Table.{Table}
 use Rattle.model.specs.Window.{channelOf}
 use Rattle.model.specs.Schedule.{Passage, passageArc, names, others}
 use Rattle.model.specs.Checks.{shareTick, startsEarlier, endsLater, isSend, isReceive, meets, collides, mayHear, heardWell, unheard, two, crowded}
-use Rattle.model.proofs.Basics.Members.{only-none, any-none, any-append}
+use Rattle.model.proofs.Basics.Members.{only-none, any-none}
 use Rattle.model.proofs.Checks.Heard.{two-is}
-use Rattle.rows.specs.Rows.{rowPassage, rowsFrom, rowsOf}
-use Rattle.rows.proofs.Sought.{rows-split}
+use Rattle.rows.specs.Rows.{rowPassage}
 use Rattle.checks.proofs.Swept.{Near}
 
 -- ## Tests
@@ -128,19 +127,6 @@ module _ (T : Table) (H : ℕ) where
 
   asked : (s : Passage) (x b y : Bool) → x ≡ isSend T H s → not x ≡ false → y ≡ b → y ≡ isSend T H s && b
   asked s x b y e t q = let f : isSend T H s ≡ true = sym e ∙ not-false x t in rw f q
-
-  -- with one of the rows before row i
-  pub collides-before : (l : List ℕ) (n i : ℕ) → i ≤ n → (s : Passage) (x : Bool) → x ≡ isSend T H s → not x ≡ false → any (meets T H s) (rowsOf l i) ≡ true
-      → true ≡ collides T H (rowsOf l n) s
-  collides-before l n i h s x e t q =
-      let k : n ≡ i + (n - i) = omega arith in
-      asked s x _ true e t
-      (sym (
-      ap (λ (m : ℕ). any (meets T H s) (rowsOf l m)) k
-      ∙ ap (any (meets T H s)) (rows-split l 0 i (n - i))
-      ∙ any-append (meets T H s) (rowsOf l i) (rowsFrom l (0 + i) (n - i))
-      ∙ rw q
-      ))
 
   module _ (S : List Passage) (s : Passage) (x : Bool) (e : x ≡ isSend T H s) (t : not x ≡ false) where
     pub collides-none : [] ≡ only (meets T H s) S → false ≡ collides T H S s

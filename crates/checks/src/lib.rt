@@ -1,7 +1,7 @@
 // Checks 10 to 12 of document 01, over the rows of a finished schedule.
 ghost use mathlib.Core.Path.{_≡_};
-ghost use mathlib.Core.Bool.{true, _&&_, not};
-ghost use Prim.Native.Nat.{_+_, _*_, _^_, _≤_, _<_};
+ghost use mathlib.Core.Bool.{true, false, _&&_, not};
+ghost use Prim.Native.Nat.{ℕ, _+_, _*_, _^_, _≤_, _<_};
 ghost use lib.Bits.{bitOr};
 ghost use lib.ListN.{length};
 ghost use Rattle.model.specs.declared.Verdict.the-variants.{Refused};
@@ -76,34 +76,13 @@ pub fn is_met(s: &[u8], l: &[u32], i: usize, j: usize, h: u32) -> bool
     is_send(s, l, j, h)
 }
 
-// Whether a row before row i is a send of another component that shares a tick with row i, a send. Rows that ended before its window
-// are passed over by their links.
-fn is_met_before(s: &[u8], l: &[u32], n: usize, i: usize, h: u32) -> bool
-    requires { ⌜ RowsPlaced (now s) (now l) n × (i < n) ⌝ }
-    ensures { λ r. ⌜ r ≡ any (meets (readOf (now (s .entry)) .table) h (rowPassage (now (l .entry)) i)) (rowsOf (now (l .entry)) i) ⌝ }
-{
-    let ready = rows::number(l, i, 4);
-    let mut j = rows::open_before(l, i, ready);
-    while 0 < j {
-        let k = j - 1;
-        if is_met(s, l, i, k, h) {
-            return true;
-        }
-        j = rows::open_before(l, k, ready);
-    }
-    false
-}
-
-// Whether the send window of row i shares a tick with one of another component.
-pub fn collides_with_one(s: &[u8], l: &[u32], n: usize, i: usize, h: u32) -> bool
-    requires { ⌜ RowsPlaced (now s) (now l) n × (i < n) ⌝ }
+// Whether the send window of row i shares a tick with one of another component, where no row before it does so: then it meets none of them.
+fn collides_with_one(s: &[u8], l: &[u32], n: usize, i: usize, h: u32) -> bool
+    requires { ⌜ RowsPlaced (now s) (now l) n × (i < n) × ((k : ℕ) → k < i → collides (readOf (now s) .table) h (rowsOf (now l) n) (rowPassage (now l) k) ≡ false) ⌝ }
     ensures { λ r. ⌜ r ≡ collides (readOf (now (s .entry)) .table) h (rowsOf (now (l .entry)) n) (rowPassage (now (l .entry)) i) ⌝ }
 {
     if !is_send(s, l, i, h) {
         return false;
-    }
-    if is_met_before(s, l, n, i, h) {
-        return true;
     }
     let until = rows::number(l, i, 5);
     let mut j = i;

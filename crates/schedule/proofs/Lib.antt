@@ -8,3 +8,4 @@ pub mod Leads
 pub mod Tables
 pub mod Turns
 pub mod Whole
+pub mod Edges

@@ -13,6 +13,7 @@ use Rattle.model.specs.Calls.{verdictOf}
 use Rattle.model.specs.declared.Verdict.the-variants.{Accepted}
 use Rattle.window.specs.declared.TakenEdge.{TakenEdge}
 use Rattle.window.specs.Views.{entryOf, openingOf, Placed}
+use Rattle.window.specs.Indexed.{Indexed}
 use Rattle.rows.specs.Rows.{num, rowPassage, rowsOf, RowsPlaced}
 use Rattle.schedule.specs.declared.Node.{Node}
 use Rattle.schedule.specs.declared.Turn.{Turn}
@@ -28,6 +29,10 @@ pub record Soonest (ends : List ℕ) (n r : ℕ) : Type 0 where
   pub there : r < n
   pub least : (i : ℕ) → i < n → getD ends r 0 ≤ getD ends i 0
   pub lowest : (i : ℕ) → i < r → getD ends r 0 < getD ends i 0
+
+-- the index has the edges of all components
+abbrev pub EdgesIndexed : List ℕ → List ℕ → Type 0
+EdgesIndexed bs index = (c : ℕ) → c < size (readOf bs .table) → Indexed bs index c (startOf bs c)
 
 -- ## One passage closes, the next opens
 

@@ -1,7 +1,7 @@
 // The schedule of a valid table, as rows in a lent slice: refusals 7 to 9, the messages, then checks 10 to 12.
 ghost use mathlib.Core.Path.{_≡_};
 ghost use mathlib.Core.List.{[], _∷_, _++_};
-ghost use Prim.Native.Nat.{_+_, _*_, _≤_, _<_};
+ghost use Prim.Native.Nat.{ℕ, _+_, _*_, _≤_, _<_};
 ghost use lib.ListN.{length, drop};
 ghost use lib.Seq.{sets};
 ghost use lib.IntN.{pos};
@@ -11,9 +11,10 @@ ghost use Rattle.model.specs.Reader.{byte};
 ghost use Rattle.model.specs.Places.{Valid, startOf};
 ghost use Rattle.model.specs.Schedule.{sevenOf};
 ghost use Rattle.table.specs.Directory.{startsOf};
+ghost use Rattle.window.specs.Indexed.{firstFrom, Indexed};
 ghost use Rattle.rows.specs.Rows.{rowPassage, rowsOf, RowsPlaced};
 ghost use Rattle.schedule.specs.Filled.{Filled, scheduleOf, acceptedScheduleIn};
-ghost use Rattle.schedule.specs.Going.{keptOf, Soonest, Stands, Turned, Started, Begins, Listed, unfinished};
+ghost use Rattle.schedule.specs.Going.{keptOf, Soonest, Stands, Turned, Started, Begins, Listed, unfinished, EdgesIndexed};
 use model::Verdict;
 use window::Entry;
 use window::Opening;
@@ -143,15 +144,16 @@ fn next_turn(
     node: Node,
     end: u32,
     h: u32,
+    index: &[u16],
 ) -> Turn
-    requires { ⌜ RowsPlaced (now s) (now l) n × (start ≡ startOf (now s) c) × Stands (now l) n c node end × (end ≤ 60000) ⌝ }
+    requires { ⌜ RowsPlaced (now s) (now l) n × (start ≡ startOf (now s) c) × Stands (now l) n c node end × (end ≤ 60000) × Indexed (now s) (now index) c start ⌝ }
     ensures { λ r. ⌜ Turned (now (s .entry)) (now (l .entry)) n c h node end r ⌝ }
 {
     let place = node.place;
     let entry = node.entry;
     let m = rows::message(s, l, n, node.row, h);
     let at = window::leave(&s[place..], m, end, entry);
-    let opening = window::open(s, start, c, at);
+    let opening = window::open(s, start, c, at, index);
     Turn { at, opening }
 }
 
@@ -182,9 +184,22 @@ fn no_node() -> Node {
     }
 }
 
+// Notes the edges of all components by the location that they leave.
+fn index_edges(s: &[u8], starts: [u16; 8], index: &mut [u16])
+    requires { ⌜ Valid (now s) × (starts ≡ startsOf (now s) (byte (now s) 3)) × (640 ≤ length (now index)) × ((c q : ℕ) → c < 8 → q < 16 → firstFrom (now index) c q ≡ 32) ⌝ }
+    ensures { λ _. ⌜ EdgesIndexed (now (s .entry)) (now (index .exit)) ⌝ }
+{
+    let count = wide(s[3]);
+    let mut c: usize = 0;
+    while c < count {
+        window::index::put_edges(s, wide16(starts[c]), c, index);
+        c += 1;
+    }
+}
+
 // The openings at tick 0, components 0 upward: rows 0 upward.
-fn begin(s: &[u8], starts: [u16; 8], l: &mut [u32]) -> Opened
-    requires { ⌜ Valid (now s) × (starts ≡ startsOf (now s) (byte (now s) 3)) × (9216 ≤ length (now l)) ⌝ }
+fn begin(s: &[u8], starts: [u16; 8], l: &mut [u32], index: &[u16]) -> Opened
+    requires { ⌜ Valid (now s) × (starts ≡ startsOf (now s) (byte (now s) 3)) × (9216 ≤ length (now l)) × EdgesIndexed (now s) (now index) ⌝ }
     ensures { λ r. ⌜ Begins (now (s .entry)) (now (l .exit)) r ⌝ }
 {
     let count = wide(s[3]);
@@ -195,7 +210,7 @@ fn begin(s: &[u8], starts: [u16; 8], l: &mut [u32]) -> Opened
     while c < count {
         let start = wide16(starts[c]);
         let at = start_entry(s, start);
-        let o = window::open(s, start, c as u8, at);
+        let o = window::open(s, start, c as u8, at, index);
         match o {
             Opening::Fails(k) => {
                 return Opened {
@@ -220,8 +235,15 @@ fn begin(s: &[u8], starts: [u16; 8], l: &mut [u32]) -> Opened
 }
 
 // While the least end of an open passage is below the horizon, that passage closes and its component's next opens.
-fn go_on(s: &[u8], starts: [u16; 8], l: &mut [u32], from: [Node; 8], until: [u32; 8]) -> Scheduled
-    requires { ⌜ Valid (now s) × (starts ≡ startsOf (now s) (byte (now s) 3)) × (9216 ≤ length (now l)) × Started (now s) (now l) from until ⌝ }
+fn go_on(
+    s: &[u8],
+    starts: [u16; 8],
+    l: &mut [u32],
+    from: [Node; 8],
+    until: [u32; 8],
+    index: &[u16],
+) -> Scheduled
+    requires { ⌜ Valid (now s) × (starts ≡ startsOf (now s) (byte (now s) 3)) × (9216 ≤ length (now l)) × Started (now s) (now l) from until × EdgesIndexed (now s) (now index) ⌝ }
     ensures { λ r. ⌜ Listed (now (s .entry)) (unfinished (now (s .entry))) r (now (l .exit)) ⌝ }
 {
     let count = wide(s[3]);
@@ -238,7 +260,7 @@ fn go_on(s: &[u8], starts: [u16; 8], l: &mut [u32], from: [Node; 8], until: [u32
         if 1024 <= n {
             return refused(7, c);
         }
-        let t = next_turn(s, l, n, wide16(starts[c]), c as u8, nodes[c], end, h);
+        let t = next_turn(s, l, n, wide16(starts[c]), c as u8, nodes[c], end, h, index);
         let at = t.at;
         let o = t.opening;
         match o {
@@ -261,7 +283,9 @@ pub fn schedule_rows(s: &[u8], starts: [u16; 8], l: &mut [u32]) -> Scheduled
     requires { ⌜ Valid (now s) × (starts ≡ startsOf (now s) (byte (now s) 3)) × (9216 ≤ length (now l)) ⌝ }
     ensures { λ r. ⌜ Filled (now (s .entry)) (scheduleOf (now (s .entry))) r (now (l .exit)) ⌝ }
 {
-    let b = begin(s, starts, l);
+    let mut index = [32u16; 640];
+    index_edges(s, starts, &mut index);
+    let b = begin(s, starts, l, &index);
     let v = b.verdict;
     match v {
         Verdict::Refused(k, c) => Scheduled {
@@ -271,7 +295,7 @@ pub fn schedule_rows(s: &[u8], starts: [u16; 8], l: &mut [u32]) -> Scheduled
         Verdict::Accepted => {
             let nodes = b.nodes;
             let ends = b.ends;
-            let r = go_on(s, starts, l, nodes, ends);
+            let r = go_on(s, starts, l, nodes, ends, &index);
             rows::put_messages(s, l, r.count, wide32(parts::word_at(s, 5)));
             r
         }

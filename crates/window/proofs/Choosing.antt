@@ -1,9 +1,11 @@
 -- The edge taken, from edge to edge. Assumes nothing.
-use mathlib.Core.Path.{_≡_, sym, ap, subst, _∙_}
+use mathlib.Core.Path.{_≡_, refl, sym, ap, subst, _∙_}
 use mathlib.Core.Bool.{Bool, true, false, cond}
 use mathlib.Core.List.{List, [], _∷_}
 use mathlib.Core.Option.{Option, none, some}
-use Prim.Native.Nat.{ℕ, suc, _+_, _≤_, _<_}
+use Prim.Native.Nat.{ℕ, zero, suc, _+_, _-_, _≤_, _<_}
+use native.Mathlib.Nat.{add-zero}
+use borrow.Author.Tests.{ltb-true, ltb-false}
 use native.Mathlib.Numerals.{add-one}
 use native.Mathlib.Omega.{arith}
 use lib.Dec.{ltb}
@@ -18,7 +20,7 @@ use Rattle.model.specs.Places.{arcPlace, componentIn}
 use Rattle.model.specs.Schedule.{passageOf, opening}
 use Rattle.window.specs.declared.Choice.{Choice}
 use Rattle.window.specs.Views.{pickOf, Kept}
-use Rattle.window.proofs.Considering.{pickFrom, pick-some}
+use Rattle.window.proofs.Considering.{elsewhere, pickFrom, pick-some}
 
 module _ (l : Location) (here : ℕ) (xs : List ℕ) (vs : List ℤ) where
   -- one edge more is considered
@@ -31,6 +33,37 @@ module _ (l : Location) (here : ℕ) (xs : List ℕ) (vs : List ℤ) where
   pub chosen-done : (as′ : List Arc) (e : ℕ) (k x : Option Pick) → length as′ ≤ e → chosen l here xs vs e (drop e as′) k ≡ x → k ≡ x
   unfolding chosen
   chosen-done as′ e k x h i = rw (drop-of-length-le as′ h) at i
+
+  chosen-none : (as′ : List Arc) (e : ℕ) (k x : Option Pick) → length as′ ≤ e → k ≡ x → chosen l here xs vs e (drop e as′) k ≡ x
+  unfolding chosen
+  chosen-none as′ e k x h i = rw (drop-of-length-le as′ h) i
+
+  -- edges that start elsewhere are passed over
+  chosen-over : (as′ : List Arc) (d e : ℕ) (k x : Option Pick)
+      → ((i : ℕ) → e ≤ i → i < e + d → i < length as′ → getD as′ i noArc .edge .source ≡ here → ⊥)
+      → chosen l here xs vs e (drop e as′) k ≡ x → chosen l here xs vs (e + d) (drop (e + d) as′) k ≡ x
+  chosen-over as′ zero e k x n i = rw add-zero i
+  chosen-over as′ (suc d) e k x n i = go (λ j. chosen-over as′ d (e + 1) k x (λ j a b. n j (omega arith) (omega arith)) j) (ltb e (length as′)) refl
+    where
+      shift : (e + 1) + d ≡ e + suc d
+      shift = omega arith
+
+      go : (chosen l here xs vs (e + 1) (drop (e + 1) as′) k ≡ x → chosen l here xs vs ((e + 1) + d) (drop ((e + 1) + d) as′) k ≡ x) → (t : Bool) → ltb e (length as′) ≡ t
+          → chosen l here xs vs (e + suc d) (drop (e + suc d) as′) k ≡ x
+      go rest true q =
+          let h = ltb-true e (length as′) q in
+          let same = elsewhere l here xs vs e (getD as′ e noArc) k (n e (omega arith) (omega arith) h) in
+          subst (λ f. chosen l here xs vs f (drop f as′) k ≡ x) shift (rest (chosen-turn as′ e k k x h same i))
+      go rest false q =
+          let h = ltb-false e (length as′) q in
+          chosen-none as′ (e + suc d) k x (omega arith) (chosen-done as′ e k x h i)
+
+  pub chosen-skip : (as′ : List Arc) (e f : ℕ) (k x : Option Pick) → e ≤ f
+      → ((i : ℕ) → e ≤ i → i < f → i < length as′ → getD as′ i noArc .edge .source ≡ here → ⊥)
+      → chosen l here xs vs e (drop e as′) k ≡ x → chosen l here xs vs f (drop f as′) k ≡ x
+  chosen-skip as′ e f k x h n i =
+      let q : e + (f - e) ≡ f = omega arith in
+      subst (λ g. chosen l here xs vs g (drop g as′) k ≡ x) q (chosen-over as′ (f - e) e k x (λ j a b. n j a (omega arith)) i)
 
   -- ## The edge taken is an edge
 

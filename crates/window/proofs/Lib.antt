@@ -7,3 +7,4 @@ pub mod Updating
 pub mod Leaving
 pub mod Ready
 pub mod Choosing
+pub mod Indexing

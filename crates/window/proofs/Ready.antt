@@ -64,6 +64,9 @@ pub record Entered (bs : List ℕ) (c start : ℕ) : Type 0 where
   pub leastArcs : 1 ≤ length (componentIn bs c .arcs)
   pub ready : (e : ℕ) → e < length (componentIn bs c .arcs) → ArcReady (drop (arcPlace bs start e) bs)
   pub clock : (l : ℕ) → l < length (componentIn bs c .locations) → locationOf (componentIn bs c) l .clock < 4
+  pub mostArcs : length (componentIn bs c .arcs) ≤ 32
+  pub mostLocations : length (componentIn bs c .locations) ≤ 16
+  pub source : (e : ℕ) → e < length (componentIn bs c .arcs) → arcOf (componentIn bs c) e .edge .source < 16
 
 pub entered : (bs : List ℕ) (c start : ℕ) → ((i : ℕ) → getD bs i 0 < 256) → Valid bs → c < size (readOf bs .table) → start ≡ startOf bs c → Entered bs c start
 entered bs c start g v k q =
@@ -74,6 +77,9 @@ entered bs c start g v k q =
       leastArcs = i .leastArcs;
       ready = rw q (valid-ready bs b v c k);
       clock = λ l h. omega (arith, all-at noLocation (i .locations) l h .clock, i .mostClocks);
+      mostArcs = i .mostArcs;
+      mostLocations = i .mostLocations;
+      source = λ e h. omega (arith, all-at noArc (i .arcs) e h .source, i .mostLocations);
     }
 
 module _ (bs : List ℕ) (c start : ℕ) (E : Entered bs c start) where

@@ -12,7 +12,11 @@ ghost use Rattle.model.specs.Reader.{clockGuardAt, dataGuardAt, updateAt, pairA
 ghost use Rattle.model.specs.Places.{listAt, arcAt, arcPlace, startOf, Valid, readOf, componentIn};
 ghost use Rattle.model.specs.Window.{readyOf, pastOf, dataWithin, dataHolds, considered, choice, updated, aged, paired, leadsTo, leaves};
 ghost use Rattle.model.specs.Schedule.{opening};
+ghost use Rattle.window.specs.Indexed.{Indexed};
 ghost use Rattle.window.specs.Views.{entryOf, pickOf, Kept, updatedOf, messageOf, openingOf, ArcReady, Placed, betterOf, newOf};
+
+pub mod index;
+
 use model::Action;
 use model::ClockGuard;
 use model::DataGuard;
@@ -203,29 +207,27 @@ fn considered_edge(h: &[u8], e: u8, place: usize, l: Location, at: Entry, best: 
     better(best, t)
 }
 
-// The edge that component c, which starts there in the table, takes as it enters.
-pub fn choose(s: &[u8], start: usize, c: u8, at: Entry) -> Choice
-    requires { ⌜ Valid (now s) × (c < size (readOf (now s) .table)) × (start ≡ startOf (now s) c) × (at .location < length (componentIn (now s) c .locations)) ⌝ }
+// The edge that component c, which starts there in the table, takes as it enters: of those that leave its location, found by the index.
+pub fn choose(s: &[u8], start: usize, c: u8, at: Entry, index: &[u16]) -> Choice
+    requires { ⌜ Valid (now s) × (c < size (readOf (now s) .table)) × (start ≡ startOf (now s) c) × (at .location < length (componentIn (now s) c .locations)) × Indexed (now s) (now index) c start ⌝ }
     ensures picks { λ r. ⌜ pickOf r ≡ choice (componentIn (now (s .entry)) c) (entryOf at) ⌝ }
     ensures keeps { λ r. ⌜ Kept (arcPlace (now (s .entry)) start) r ⌝ }
 {
-    let n = s[start + 6];
+    let n = wide(s[start + 6]);
     let there = start + 7 + wide(at.location) * 3;
     let l = decoder::location_at(&s[there..]);
-    let mut place = start + 7 + wide(s[start + 2]) * 3;
+    let from = wide(c) * 80;
     let mut best = Choice {
         edge: 0,
         place: 0,
         ready: 65536,
         end: 0,
     };
-    let mut e: u8 = 0;
+    let mut e = index[from + wide(at.location)] as usize;
     while e < n {
-        if s[place + 1] == at.location {
-            best = considered_edge(&s[place..], e, place, l, at, best);
-        }
-        place += decoder::arc_length(&s[place..]);
-        e += 1;
+        let place = index[from + 48 + e] as usize;
+        best = considered_edge(&s[place..], e as u8, place, l, at, best);
+        e = index[from + 16 + e] as usize;
     }
     best
 }
@@ -386,12 +388,12 @@ pub fn leave(h: &[u8], message: u8, end: u32, at: Entry) -> Entry
 }
 
 // Checks 8 and 9: the passage that component c opens as it enters.
-pub fn open(s: &[u8], start: usize, c: u8, at: Entry) -> Opening
-    requires { ⌜ Valid (now s) × (c < size (readOf (now s) .table)) × (start ≡ startOf (now s) c) × (at .location < length (componentIn (now s) c .locations)) ⌝ }
+pub fn open(s: &[u8], start: usize, c: u8, at: Entry, index: &[u16]) -> Opening
+    requires { ⌜ Valid (now s) × (c < size (readOf (now s) .table)) × (start ≡ startOf (now s) c) × (at .location < length (componentIn (now s) c .locations)) × Indexed (now s) (now index) c start ⌝ }
     ensures opens { λ r. ⌜ openingOf c (componentIn (now (s .entry)) c) (entryOf at) r ≡ opening c (componentIn (now (s .entry)) c) (entryOf at) ⌝ }
     ensures placed { λ r. ⌜ Placed (now (s .entry)) start c r ⌝ }
 {
-    let r = choose(s, start, c, at);
+    let r = choose(s, start, c, at, index);
     if 65535 < r.ready {
         return Opening::Fails(8);
     }

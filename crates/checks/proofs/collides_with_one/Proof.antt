@@ -3,13 +3,14 @@ use mathlib.Core.Path.{sym, _∙_}
 use mathlib.Core.List.{[]}
 use Prim.Native.Nat.{_+_, _-_, _≤_}
 use native.Mathlib.Omega.{arith}
+use borrow.Author.Tests.{not-false}
 use Rattle.model.specs.Lists.{only}
 use Rattle.model.specs.Places.{readOf}
 use Rattle.model.specs.Checks.{meets}
-use Rattle.model.proofs.Basics.Members.{only-none, any-none}
 use Rattle.rows.specs.Rows.{rowPassage, rowsOf}
 use Rattle.rows.proofs.Placed.{row-known}
-use Rattle.checks.proofs.Questions.{meets-near, not-asked, collides-none, collides-one, collides-before}
+use Rattle.checks.proofs.Questions.{meets-near, not-asked, collides-none, collides-one}
+use Rattle.checks.proofs.Earlier.{none-earlier}
 use Rattle.checks.proofs.Swept.{rest, Swept, swept-at, swept-in, swept-out, swept-stop, swept-done}
 use Rattle.checks.proofs.collides_with_one.Statement.{statement}
 use Rattle.checks.proofs.collides_with_one.Tie as tie
@@ -22,7 +23,7 @@ abbrev μ-loop : tie.MeasureT-loop
 
 is-send-requires : tie.Need-is-send-requires Inv-loop μ-loop
 is-send-requires c κs =
-    let e = c .before .before in
+    let e = (c .before .before) in
     let a = e .args in
     row-known (a .s .now) (a .l .now) (a .n) (a .i) (e .pre .0) (e .pre .1)
 
@@ -31,74 +32,65 @@ returns c =
     let a = c .before .before .before .before .args in
     not-asked (readOf (a .s .now) .table) (a .h) (rowPassage (a .l .now) (a .i)) (c .before .is-send .result) _ (c .before .is-send .ensures) (c .if1 .taken)
 
-is-met-before-requires : tie.Need-is-met-before-requires Inv-loop μ-loop
-is-met-before-requires c κs = c .before .before .before .before .pre
-
-returns-2 : tie.Need-returns-2 Inv-loop μ-loop
-returns-2 c =
-    let e = c .before .before .before .before .before .before in
-    let a = e .args in
-    collides-before (readOf (a .s .now) .table) (a .h) (a .l .now) (a .n) (a .i) (omega (arith, e .pre .1)) (rowPassage (a .l .now) (a .i)) (c .before .before .before .is-send .result) (c .before .before .before .is-send .ensures) (c .before .before .if1 .left) (sym (c .before .is-met-before .ensures) ∙ c .if2 .taken)
-
 number-requires : tie.Need-number-requires Inv-loop μ-loop
-number-requires c κs = omega (arith, c .before .before .before .before .before .before .pre .0 .fits, c .before .before .before .before .before .before .pre .1)
+number-requires c κs = omega (arith, c .before .before .before .before .pre .0 .fits, c .before .before .before .before .pre .1)
 
 loop-holds : tie.Need-loop-holds Inv-loop μ-loop
 loop-holds c =
-    let e = c .before .before .before .before .before .before .before in
+    let e = (c .before .before .before .before .before) in
     let a = e .args in
     let T = readOf (a .s .now) .table in
     let p = meets T (a .h) (rowPassage (a .l .now) (a .i)) in
-    let none = only-none p (rowsOf (a .l .now) (a .i)) .1 (any-none p (rowsOf (a .l .now) (a .i)) .0 (sym (c .before .before .is-met-before .ensures) ∙ c .before .if2 .left)) in
+    let none = none-earlier T (a .h) (a .l .now) (a .n) (a .i) (e .pre .1) (sym (c .before .before .is-send .ensures) ∙ not-false (c .before .before .is-send .result) (c .before .if1 .left)) (e .pre .2) in
     (omega (arith, e .pre .1), swept-at p (a .s .now) (a .l .now) (a .n) (a .i) (e .pre .0) (e .pre .1) (meets-near T (a .h) (a .l .now) (a .i)) [] none)
 
 number-requires-2 : tie.Need-number-requires-2 Inv-loop μ-loop
-number-requires-2 c κs = omega (arith, c .before .before .before .before .before .before .before .before .before .pre .0 .fits, c .before .before .before .before .before .before .before .before .before .pre .1)
+number-requires-2 c κs = omega (arith, c .before .before .before .before .before .before .before .pre .0 .fits, c .before .before .before .before .before .before .before .pre .1)
 
-returns-3 : tie.Need-returns-3 Inv-loop μ-loop
-returns-3 c =
-    let e = c .before .before .before .before .before .before .before .before .before .before .before in
+returns-2 : tie.Need-returns-2 Inv-loop μ-loop
+returns-2 c =
+    let e = (c .before .before .before .before .before .before .before .before .before) in
     let a = e .args in
     let l = c .before .before .before .loop in
     let T = readOf (a .s .now) .table in
     let v = rowPassage (a .l .now) (a .i) in
-    collides-none T (a .h) (rowsOf (a .l .now) (a .n)) v (c .before .before .before .before .before .before .before .before .is-send .result) (c .before .before .before .before .before .before .before .before .is-send .ensures) (c .before .before .before .before .before .before .before .if1 .left)
+    collides-none T (a .h) (rowsOf (a .l .now) (a .n)) v (c .before .before .before .before .before .before .is-send .result) (c .before .before .before .before .before .before .is-send .ensures) (c .before .before .before .before .before .if1 .left)
     (swept-stop (meets T (a .h) v) (a .s .now) (a .l .now) (a .n) (a .i) (e .pre .0) (e .pre .1) (meets-near T (a .h) (a .l .now) (a .i)) (l .j) [] (c .before .before .loop-test .taken) (omega (arith, c .before .before .before .before .number .ensures, c .before .number2 .ensures)) (l .inv .1))
 
 is-met-requires : tie.Need-is-met-requires Inv-loop μ-loop
 is-met-requires c κs =
-    let e = c .before .before .before .before .before .before .before .before .before .before .before in
+    let e = (c .before .before .before .before .before .before .before .before .before) in
     let a = e .args in
     (row-known (a .s .now) (a .l .now) (a .n) (a .i) (e .pre .0) (e .pre .1), row-known (a .s .now) (a .l .now) (a .n) (c .before .before .before .loop .j) (e .pre .0) (c .before .before .loop-test .taken))
 
-returns-4 : tie.Need-returns-4 Inv-loop μ-loop
-returns-4 c =
-    let a = c .before .before .before .before .before .before .before .before .before .before .before .before .before .args in
+returns-3 : tie.Need-returns-3 Inv-loop μ-loop
+returns-3 c =
+    let a = c .before .before .before .before .before .before .before .before .before .before .before .args in
     let l = c .before .before .before .before .before .loop in
     let T = readOf (a .s .now) .table in
     let v = rowPassage (a .l .now) (a .i) in
-    collides-one T (a .h) (rowsOf (a .l .now) (a .n)) v (c .before .before .before .before .before .before .before .before .before .before .is-send .result) (c .before .before .before .before .before .before .before .before .before .before .is-send .ensures) (c .before .before .before .before .before .before .before .before .before .if1 .left) (rowPassage (a .l .now) (l .j)) (only (meets T (a .h) v) (rest (a .l .now) (a .n) (l .j + 1)))
-    (swept-in (meets T (a .h) v) (a .l .now) (a .n) (l .j) [] (c .before .is-met .result) (c .before .before .before .before .loop-test .taken) (c .before .is-met .ensures) (c .if4 .taken) (l .inv .1))
+    collides-one T (a .h) (rowsOf (a .l .now) (a .n)) v (c .before .before .before .before .before .before .before .before .is-send .result) (c .before .before .before .before .before .before .before .before .is-send .ensures) (c .before .before .before .before .before .before .before .if1 .left) (rowPassage (a .l .now) (l .j)) (only (meets T (a .h) v) (rest (a .l .now) (a .n) (l .j + 1)))
+    (swept-in (meets T (a .h) v) (a .l .now) (a .n) (l .j) [] (c .before .is-met .result) (c .before .before .before .before .loop-test .taken) (c .before .is-met .ensures) (c .if3 .taken) (l .inv .1))
 
 add-j : tie.Need-add-j Inv-loop μ-loop
-add-j c = omega (arith, c .before .before .before .before .before .before .before .before .before .before .before .before .before .pre .0 .few, c .before .before .before .before .before .before .before .before .before .before .before .before .before .pre .1)
+add-j c = omega (arith, c .before .before .before .before .before .before .before .before .before .before .before .pre .0 .few, c .before .before .before .before .before .before .before .before .before .before .before .pre .1)
 
 loop-less : tie.Need-loop-less Inv-loop μ-loop
-loop-less c = omega (arith, c .before .before .before .before .before .before .before .before .before .before .before .before .before .pre .1)
+loop-less c = omega (arith, c .before .before .before .before .before .before .before .before .before .before .before .pre .1)
 
 loop-again : tie.Need-loop-again Inv-loop μ-loop
 loop-again c =
-    let a = c .before .before .before .before .before .before .before .before .before .before .before .before .before .args in
+    let a = c .before .before .before .before .before .before .before .before .before .before .before .args in
     let l = c .before .before .before .before .before .loop in
-    (omega (arith, c .before .before .before .before .before .before .before .before .before .before .before .before .before .pre .1), swept-out (meets (readOf (a .s .now) .table) (a .h) (rowPassage (a .l .now) (a .i))) (a .l .now) (a .n) (l .j) [] (c .before .is-met .result) (c .before .before .before .before .loop-test .taken) (c .before .is-met .ensures) (c .if4 .left) (l .inv .1))
+    (omega (arith, c .before .before .before .before .before .before .before .before .before .before .before .pre .1), swept-out (meets (readOf (a .s .now) .table) (a .h) (rowPassage (a .l .now) (a .i))) (a .l .now) (a .n) (l .j) [] (c .before .is-met .result) (c .before .before .before .before .loop-test .taken) (c .before .is-met .ensures) (c .if3 .left) (l .inv .1))
 
-returns-5 : tie.Need-returns-5 Inv-loop μ-loop
-returns-5 c =
-    let a = c .before .before .before .before .before .before .before .before .before .args in
+returns-4 : tie.Need-returns-4 Inv-loop μ-loop
+returns-4 c =
+    let a = c .before .before .before .before .before .before .before .args in
     let l = c .before .loop in
     let T = readOf (a .s .now) .table in
     let v = rowPassage (a .l .now) (a .i) in
-    collides-none T (a .h) (rowsOf (a .l .now) (a .n)) v (c .before .before .before .before .before .before .is-send .result) (c .before .before .before .before .before .before .is-send .ensures) (c .before .before .before .before .before .if1 .left) (swept-done (meets T (a .h) v) (a .l .now) (a .n) (l .j) [] (omega arith) (l .inv .1))
+    collides-none T (a .h) (rowsOf (a .l .now) (a .n)) v (c .before .before .before .before .is-send .result) (c .before .before .before .before .is-send .ensures) (c .before .before .before .if1 .left) (swept-done (meets T (a .h) v) (a .l .now) (a .n) (l .j) [] (omega arith) (l .inv .1))
 
 pub collides-with-one-spec : {M : Type 1} → statement M
 collides-with-one-spec =
@@ -108,15 +100,13 @@ collides-with-one-spec =
     μ-loop
     is-send-requires
     returns
-    is-met-before-requires
-    returns-2
     number-requires
     loop-holds
     number-requires-2
-    returns-3
+    returns-2
     is-met-requires
-    returns-4
+    returns-3
     add-j
     loop-less
     loop-again
-    returns-5)
+    returns-4)

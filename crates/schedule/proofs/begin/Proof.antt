@@ -8,6 +8,7 @@ use Rattle.model.specs.Table.{size}
 use Rattle.model.specs.Places.{startOf, readOf, componentIn}
 use Rattle.model.specs.Calls.{verdictOf}
 use Rattle.window.specs.Views.{Placed}
+use Rattle.window.specs.Indexed.{Indexed}
 use Rattle.schedule.proofs.Tables.{counted, few-components, header, start-read, start-fits, initial-read, edge-small}
 use Rattle.schedule.proofs.Grown.{until}
 use Rattle.schedule.proofs.Turns.{Beginning, begin-first, begin-all, begin-location, begin-refused, begin-on}
@@ -15,14 +16,14 @@ use Rattle.schedule.proofs.begin.Statement.{statement}
 use Rattle.schedule.proofs.begin.Tie as tie
 
 abbrev Inv-loop : tie.InvT-loop
-Inv-loop s l₀ starts count nodes₀ ends₀ c₀ l nodes ends c =
+Inv-loop s l₀ index starts count nodes₀ ends₀ c₀ l nodes ends c =
     (c ≤ count) × (count ≡ size (readOf s .table)) × (count ≤ 8) × (length nodes ≡ 8) × (length ends ≡ 8) × (length l ≡ length l₀) × Beginning s l c nodes ends
 
 abbrev μ-loop : tie.MeasureT-loop
-μ-loop s l₀ starts count nodes₀ ends₀ c₀ l nodes ends c = count - c
+μ-loop s l₀ index starts count nodes₀ ends₀ c₀ l nodes ends c = count - c
 
 shared-slice-read-wide : tie.Need-shared-slice-read-wide Inv-loop μ-loop
-shared-slice-read-wide c = let e = c .before .before .before in omega (arith, header (e .args .s .now) (c .shared-slice-known2 .given) (e .pre .0))
+shared-slice-read-wide c = let e = c .before .before .before .before in omega (arith, header (e .args .s .now) (c .shared-slice-known3 .given) (e .pre .0))
 
 wide-requires : tie.Need-wide-requires Inv-loop μ-loop
 wide-requires c κs = search needs
@@ -32,9 +33,9 @@ no-node-requires c κs = search needs
 
 loop-holds : tie.Need-loop-holds Inv-loop μ-loop
 loop-holds c =
-    let e = c .before .before .before .before .before in
+    let e = c .before .before .before .before .before .before in
     let s = e .args .s .now in
-    let b = c .before .before .shared-slice-known2 .given in
+    let b = c .before .before .shared-slice-known3 .given in
     let n : c .before .wide .result ≡ size (readOf s .table) = c .before .wide .ensures .0 ∙ counted s b (e .pre .0) in
     (omega arith, n, omega (arith, n, few-components s b (e .pre .0)), refl, refl, refl, begin-first s (e .args .l .now) _ _ (e .pre .0))
 
@@ -48,58 +49,59 @@ wide16-requires : tie.Need-wide16-requires Inv-loop μ-loop
 wide16-requires c κs = search needs
 
 -- the component is there
-there : (c : tie.In-loop Inv-loop μ-loop) → c .before .loop .c < size (readOf (c .before .before .before .before .before .before .before .args .s .now) .table)
+there : (c : tie.In-loop Inv-loop μ-loop) → c .before .loop .c < size (readOf (c .before .before .before .before .before .before .before .before .args .s .now) .table)
 there c = omega (arith, c .loop-test .taken, c .before .loop .inv .1)
 
 -- where it starts
-start-is : (c : tie.After-wide16 Inv-loop μ-loop) → c .wide16 .result ≡ startOf (c .before .before .before .before .before .before .before .before .args .s .now) (c .before .before .loop .c)
+start-is : (c : tie.After-wide16 Inv-loop μ-loop) → c .wide16 .result ≡ startOf (c .before .before .before .before .before .before .before .before .before .args .s .now) (c .before .before .loop .c)
 start-is c =
-    let e = c .before .before .before .before .before .before .before .before in
-    start-read (e .args .s .now) (c .before .before .before .before .before .before .before .shared-slice-known .given) (e .pre .0) (e .args .t2) (c .before .before .loop .c) (c .wide16 .result)
+    let e = c .before .before .before .before .before .before .before .before .before in
+    start-read (e .args .s .now) (c .before .before .before .before .before .before .before .before .shared-slice-known .given) (e .pre .0) (e .args .t2) (c .before .before .loop .c) (c .wide16 .result)
     (e .pre .1) (there (c .before)) (c .wide16 .ensures .0)
 
 start-entry-requires : tie.Need-start-entry-requires Inv-loop μ-loop
 start-entry-requires c κs =
-    let e = c .before .before .before .before .before .before .before .before in
-    omega (arith, start-fits (e .args .s .now) (c .before .before .before .before .before .before .before .shared-slice-known .given) (e .pre .0) (c .before .before .loop .c) (c .wide16 .result) (there (c .before)) (start-is c))
+    let e = c .before .before .before .before .before .before .before .before .before in
+    omega (arith, start-fits (e .args .s .now) (c .before .before .before .before .before .before .before .before .shared-slice-known .given) (e .pre .0) (c .before .before .loop .c) (c .wide16 .result) (there (c .before)) (start-is c))
 
 cast-open : tie.Need-cast-open Inv-loop μ-loop
 cast-open c = search needs
 
 -- its initial location
 location-is : (c : tie.After-start-entry Inv-loop μ-loop)
-    → c .start-entry .result .location ≡ componentIn (c .before .before .before .before .before .before .before .before .before .args .s .now) (c .before .before .before .loop .c) .initial
+    → c .start-entry .result .location ≡ componentIn (c .before .before .before .before .before .before .before .before .before .before .args .s .now) (c .before .before .before .loop .c) .initial
 location-is c =
-    let e = c .before .before .before .before .before .before .before .before .before in
-    initial-read (e .args .s .now) (c .before .before .before .before .before .before .before .before .shared-slice-known .given) (e .pre .0) (c .before .before .before .loop .c) (c .before .wide16 .result)
+    let e = c .before .before .before .before .before .before .before .before .before .before in
+    initial-read (e .args .s .now) (c .before .before .before .before .before .before .before .before .before .shared-slice-known .given) (e .pre .0) (c .before .before .before .loop .c) (c .before .wide16 .result)
     (there (c .before .before)) (start-is (c .before)) (c .start-entry .ensures .0)
 
 open-requires : tie.Need-open-requires Inv-loop μ-loop
 open-requires c κs =
-    let e = c .before .before .before .before .before .before .before .before .before in
+    let e = c .before .before .before .before .before .before .before .before .before .before in
     let l = c .before .before .before .loop in
-    let b = c .before .before .before .before .before .before .before .before .shared-slice-known .given in
+    let b = c .before .before .before .before .before .before .before .before .before .shared-slice-known .given in
     let n = c .start-entry in (
       e .pre .0,
       there (c .before .before),
       start-is (c .before),
       begin-location (e .args .s .now) (l .l) b (l .c) (l .nodes) (l .ends) (l .inv .6) (there (c .before .before)) (n .result) (location-is c) (n .ensures .1) (n .ensures .2) (n .ensures .3),
+      subst (λ k. Indexed (e .args .s .now) (e .args .index .now) (l .c) k) (sym (start-is (c .before))) (e .pre .3 (l .c) (there (c .before .before))),
     )
 
 enum-known-o : tie.Need-enum-known-o Inv-loop μ-loop
 enum-known-o c = search needs
 
-cast-t23 : tie.Need-cast-t23 Inv-loop μ-loop
-cast-t23 c = search needs
+cast-t24 : tie.Need-cast-t24 Inv-loop μ-loop
+cast-t24 c = search needs
 
 same-length : tie.Need-same-length Inv-loop μ-loop
 same-length c = c .before .before .before .before .before .before .before .loop .inv .5
 
 returns : tie.Need-returns Inv-loop μ-loop
 returns c =
-    let e = c .before .before .before .before .before .before .before .before .before .before .before .before .before in
+    let e = c .before .before .before .before .before .before .before .before .before .before .before .before .before .before in
     let l = c .before .before .before .before .before .before .before .loop in
-    let b = c .before .before .before .before .before .before .before .before .before .before .before .before .shared-slice-known .given in
+    let b = c .before .before .before .before .before .before .before .before .before .before .before .before .before .shared-slice-known .given in
     let p = c .before .before .before .before in
     let n = p .start-entry in
     let o = c .before .before .before .«open» in
@@ -115,9 +117,9 @@ cast-put-opened c = search needs
 
 put-opened-requires : tie.Need-put-opened-requires Inv-loop μ-loop
 put-opened-requires c κs =
-    let e = c .before .before .before .before .before .before .before .before .before .before .before .before .before .before in
+    let e = c .before .before .before .before .before .before .before .before .before .before .before .before .before .before .before in
     let l = c .before .before .before .before .before .before .before .before .loop in
-    let b = c .before .before .before .before .before .before .before .before .before .before .before .before .before .shared-slice-known .given in
+    let b = c .before .before .before .before .before .before .before .before .before .before .before .before .before .before .shared-slice-known .given in
     let p = c .before .before .before .before .before in
     let o = c .before .before .before .before .«open» in
     let z = edge-small (e .args .s .now) b (e .pre .0) (l .c) (p .before .wide16 .result) (c .before .before .o2 .given .1) (there (p .before .before)) (start-is (p .before)) (o .ensures .1) in
@@ -149,9 +151,9 @@ loop-less c = search needs
 
 loop-again : tie.Need-loop-again Inv-loop μ-loop
 loop-again c =
-    let e = c .before .before .before .before .before .before .before .before .before .before .before .before .before .before .before .before .before .before .before .before in
+    let e = c .before .before .before .before .before .before .before .before .before .before .before .before .before .before .before .before .before .before .before .before .before in
     let l = c .before .before .before .before .before .before .before .before .before .before .before .before .before .before .loop in
-    let b = c .before .before .before .before .before .before .before .before .before .before .before .before .before .before .before .before .before .before .before .shared-slice-known .given in
+    let b = c .before .before .before .before .before .before .before .before .before .before .before .before .before .before .before .before .before .before .before .before .shared-slice-known .given in
     let p = c .before .before .before .before .before .before .before .before .before .before .before in
     let n = p .start-entry in
     let o = c .before .before .before .before .before .before .before .before .before .before .«open» in
@@ -174,9 +176,9 @@ same-length-2 c = c .before .loop .inv .5
 
 returns-2 : tie.Need-returns-2 Inv-loop μ-loop
 returns-2 c =
-    let e = c .before .before .before .before .before .before .before in
+    let e = c .before .before .before .before .before .before .before .before in
     let l = c .before .loop in
-    let s = begin-all (e .args .s .now) (l .l) (c .before .before .before .before .before .before .shared-slice-known .given) (l .c) (l .nodes) (l .ends) (l .inv .6) (omega arith) (omega arith) in
+    let s = begin-all (e .args .s .now) (l .l) (c .before .before .before .before .before .before .before .shared-slice-known .given) (l .c) (l .nodes) (l .ends) (l .inv .6) (omega arith) (omega arith) in
     record { verdict = sym (ap verdictOf (s .begins)); started = λ q. s }
 
 pub begin-spec : {M : Type 1} → statement M
@@ -196,7 +198,7 @@ begin-spec =
     cast-open
     open-requires
     enum-known-o
-    cast-t23
+    cast-t24
     same-length
     returns
     enum-known-o-2

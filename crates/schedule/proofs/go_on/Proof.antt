@@ -14,36 +14,37 @@ use Rattle.schedule.specs.Going.{Soonest, Turned, blank, Listed, unfinis
 use Rattle.schedule.proofs.Grown.{until}
 use Rattle.schedule.proofs.Tables.{unmapped, counted, some-components, few-components, horizon-is, horizon-small, header, start-read, edge-small}
 use Rattle.schedule.proofs.Turns.{Progress, progress-first, listed-is, turned-tick, node-stands, loop-stops, loop-full, loop-fails, loop-on}
+use Rattle.window.specs.Indexed.{Indexed}
 use Rattle.schedule.proofs.go_on.Statement.{statement}
 use Rattle.schedule.proofs.go_on.Tie as tie
 
 abbrev Inv-loop : tie.InvT-loop
-Inv-loop s l₀ starts count h nodes₀ ends₀ n₀ l nodes ends n =
+Inv-loop s l₀ index starts count h nodes₀ ends₀ n₀ l nodes ends n =
     (n ≤ 1024) × (1 ≤ count) × (count ≤ 8) × (count ≡ size (readOf s .table)) × (h ≡ readOf s .horizon) × (h ≤ 60000) × (length nodes ≡ 8) × (length ends ≡ 8)
     × (9216 ≤ length l)
     × (length l ≡ length l₀)
     × Progress s l n nodes ends
 
 abbrev μ-loop : tie.MeasureT-loop
-μ-loop s l₀ starts count h nodes₀ ends₀ n₀ l nodes ends n = 1024 - n
+μ-loop s l₀ index starts count h nodes₀ ends₀ n₀ l nodes ends n = 1024 - n
 
 shared-slice-read-wide : tie.Need-shared-slice-read-wide Inv-loop μ-loop
-shared-slice-read-wide c = let e = c .before .before .before in omega (arith, header (e .args .s .now) (c .shared-slice-known2 .given) (e .pre .0))
+shared-slice-read-wide c = let e = c .before .before .before .before in omega (arith, header (e .args .s .now) (c .shared-slice-known3 .given) (e .pre .0))
 
 wide-requires : tie.Need-wide-requires Inv-loop μ-loop
 wide-requires c κs = search needs
 
 word-at-requires : tie.Need-word-at-requires Inv-loop μ-loop
-word-at-requires c κs = let e = c .before .before .before .before in omega (arith, header (e .args .s .now) (c .before .shared-slice-known2 .given) (e .pre .0))
+word-at-requires c κs = let e = c .before .before .before .before .before in omega (arith, header (e .args .s .now) (c .before .shared-slice-known3 .given) (e .pre .0))
 
 wide32-requires : tie.Need-wide32-requires Inv-loop μ-loop
 wide32-requires c κs = search needs
 
 loop-holds : tie.Need-loop-holds Inv-loop μ-loop
 loop-holds c =
-    let e = c .before .before .before .before .before .before in
+    let e = c .before .before .before .before .before .before .before in
     let s = e .args .s .now in
-    let b = c .before .before .before .before .before .shared-slice-known .given in
+    let b = c .before .before .before .before .before .before .shared-slice-known .given in
     let n : c .before .before .wide .result ≡ size (readOf s .table) = c .before .before .wide .ensures .0 ∙ counted s b (e .pre .0) in
     let h : c .wide32 .result ≡ readOf s .horizon = c .wide32 .ensures .0 ∙ c .before .word-at .ensures ∙ horizon-is s b (e .pre .0) in
     let few : c .before .before .wide .result ≤ 8 = omega (arith, n, few-components s b (e .pre .0)) in (
@@ -76,7 +77,7 @@ listed-requires : tie.Need-listed-requires Inv-loop μ-loop
 listed-requires c κs = search needs
 
 -- the passage that closes
-closes : (c : tie.After-soonest Inv-loop μ-loop) → Soonest (c .before .before .loop .ends) (size (readOf (c .before .before .before .before .before .before .before .before .before .args .s .now) .table)) (c .soonest .result)
+closes : (c : tie.After-soonest Inv-loop μ-loop) → Soonest (c .before .before .loop .ends) (size (readOf (c .before .before .before .before .before .before .before .before .before .before .args .s .now) .table)) (c .soonest .result)
 closes c = subst (λ k. Soonest (c .before .before .loop .ends) k (c .soonest .result)) (c .before .before .loop .inv .3) (c .soonest .ensures)
 
 -- its component's number is small
@@ -85,21 +86,21 @@ small c = omega (arith, c .soonest .ensures .there, c .before .before .loop .inv
 
 -- what opens next
 turned : (c : tie.After-next-turn Inv-loop μ-loop)
-    → Turned (c .before .before .before .before .before .before .before .before .before .before .before .before .before .before .before .args .s .now) (c .before .before .before .before .before .before .before .before .loop .l) (c .before .before .before .before .before .before .before .before .loop .n) (c .before .before .before .before .before .before .soonest .result) (readOf (c .before .before .before .before .before .before .before .before .before .before .before .before .before .before .before .args .s .now) .horizon) (getD (c .before .before .before .before .before .before .before .before .loop .nodes) (c .before .before .before .before .before .before .soonest .result) blank)
+    → Turned (c .before .before .before .before .before .before .before .before .before .before .before .before .before .before .before .before .args .s .now) (c .before .before .before .before .before .before .before .before .loop .l) (c .before .before .before .before .before .before .before .before .loop .n) (c .before .before .before .before .before .before .soonest .result) (readOf (c .before .before .before .before .before .before .before .before .before .before .before .before .before .before .before .before .args .s .now) .horizon) (getD (c .before .before .before .before .before .before .before .before .loop .nodes) (c .before .before .before .before .before .before .soonest .result) blank)
     (getD (c .before .before .before .before .before .before .before .before .loop .ends) (c .before .before .before .before .before .before .soonest .result) 0) (c .next-turn .result)
 turned c =
     let l = c .before .before .before .before .before .before .before .before .loop in
     let k = c .before .before .before .before .before .before .soonest .result in
-    subst (λ h. Turned (c .before .before .before .before .before .before .before .before .before .before .before .before .before .before .before .args .s .now) (l .l) (l .n) k h (getD (l .nodes) k blank) (getD (l .ends) k 0) (c .next-turn .result)) (l .inv .4) (c .next-turn .ensures)
+    subst (λ h. Turned (c .before .before .before .before .before .before .before .before .before .before .before .before .before .before .before .before .args .s .now) (l .l) (l .n) k h (getD (l .nodes) k blank) (getD (l .ends) k 0) (c .next-turn .result)) (l .inv .4) (c .next-turn .ensures)
 
 edge-is : (c : tie.After-next-turn Inv-loop μ-loop) {t : TakenEdge} → c .next-turn .result .opening ≡ Opens t
     → (c .next-turn .result .at .tick ≤ 60000) × (t .place < 65536) × (t .ready ≤ 65535) × (t .end ≤ 65535)
 edge-is c q =
     let l = c .before .before .before .before .before .before .before .before .loop in
-    let s = c .before .before .before .before .before .before .before .before .before .before .before .before .before .before .before .args .s .now in
-    let b = c .before .before .before .before .before .before .before .before .before .before .before .before .before .before .shared-slice-known .given in
+    let s = c .before .before .before .before .before .before .before .before .before .before .before .before .before .before .before .before .args .s .now in
+    let b = c .before .before .before .before .before .before .before .before .before .before .before .before .before .before .before .shared-slice-known .given in
     let k = c .before .before .before .before .before .before .soonest .result in
-    let z = edge-small s b (c .before .before .before .before .before .before .before .before .before .before .before .before .before .before .before .pre .0) k (startOf s k) q (closes (c .before .before .before .before .before .before) .there) refl (turned c .placed) in
+    let z = edge-small s b (c .before .before .before .before .before .before .before .before .before .before .before .before .before .before .before .before .pre .0) k (startOf s k) q (closes (c .before .before .before .before .before .before) .there) refl (turned c .placed) in
     let m = turned-tick s (l .l) (l .n) k (readOf s .horizon) (getD (l .nodes) k blank) (getD (l .ends) k 0) (c .next-turn .result) (turned c) in
     (omega (arith, m, c .before .before .before .before .before .if1 .left, l .inv .5), z .0, z .1, z .2)
 
@@ -109,8 +110,8 @@ same-length c = c .before .before .before .before .loop .inv .9
 returns : tie.Need-returns Inv-loop μ-loop
 returns c =
     let l = c .before .before .before .before .loop in
-    let s = c .before .before .before .before .before .before .before .before .before .before .before .args .s .now in
-    let f = loop-stops s (l .l) (c .before .before .before .before .before .before .before .before .before .before .shared-slice-known .given) (l .n) (l .nodes) (l .ends) (l .inv .10) (c .before .before .soonest .result) (closes (c .before .before)) (omega (arith, c .before .if1 .taken, l .inv .4)) in
+    let s = c .before .before .before .before .before .before .before .before .before .before .before .before .args .s .now in
+    let f = loop-stops s (l .l) (c .before .before .before .before .before .before .before .before .before .before .before .shared-slice-known .given) (l .n) (l .nodes) (l .ends) (l .inv .10) (c .before .before .soonest .result) (closes (c .before .before)) (omega (arith, c .before .if1 .taken, l .inv .4)) in
     subst (λ (r : Scheduled). Listed s (unfinished s) r (l .l)) (listed-is _ _ (c .listed .ensures .0) (c .listed .ensures .1)) f
 
 refused-requires : tie.Need-refused-requires Inv-loop μ-loop
@@ -122,9 +123,9 @@ same-length-2 c = c .before .before .before .before .before .loop .inv .9
 returns-2 : tie.Need-returns-2 Inv-loop μ-loop
 returns-2 c =
     let l = c .before .before .before .before .before .loop in
-    let s = c .before .before .before .before .before .before .before .before .before .before .before .before .args .s .now in
+    let s = c .before .before .before .before .before .before .before .before .before .before .before .before .before .args .s .now in
     let r = c .refused in
-    loop-full s (l .l) (c .before .before .before .before .before .before .before .before .before .before .before .shared-slice-known .given) (l .n) (l .nodes) (l .ends) (l .inv .10) (c .before .before .before .soonest .result) (closes (c .before .before .before)) (omega (arith, c .before .before .if1 .left, l .inv .4)) (c .before .if2 .taken)
+    loop-full s (l .l) (c .before .before .before .before .before .before .before .before .before .before .before .before .shared-slice-known .given) (l .n) (l .nodes) (l .ends) (l .inv .10) (c .before .before .before .soonest .result) (closes (c .before .before .before)) (omega (arith, c .before .before .if1 .left, l .inv .4)) (c .before .if2 .taken)
     (r .result) (r .ensures .0) (r .ensures .1)
 
 mul-wide16 : tie.Need-mul-wide16 Inv-loop μ-loop
@@ -147,15 +148,17 @@ array-copy-out-next-turn c = search needs
 
 next-turn-requires : tie.Need-next-turn-requires Inv-loop μ-loop
 next-turn-requires c κs =
-    let e = c .before .before .before .before .before .before .before .before .before .before .before .before .before .before in
+    let e = c .before .before .before .before .before .before .before .before .before .before .before .before .before .before .before in
     let l = c .before .before .before .before .before .before .before .loop in
     let g = l .inv .10 in
     let s = e .args .s .now in
-    let k = c .before .before .before .before .before .soonest .result in (
+    let k = c .before .before .before .before .before .soonest .result in
+    let start = start-read s (c .before .before .before .before .before .before .before .before .before .before .before .before .before .before .shared-slice-known .given) (e .pre .0) (e .args .t2) k (c .before .wide16 .result) (e .pre .1) (closes (c .before .before .before .before .before) .there) (c .before .wide16 .ensures .0) in (
       g .going .placed,
-      start-read s (c .before .before .before .before .before .before .before .before .before .before .before .before .before .shared-slice-known .given) (e .pre .0) (e .args .t2) k (c .before .wide16 .result) (e .pre .1) (closes (c .before .before .before .before .before) .there) (c .before .wide16 .ensures .0),
-      node-stands s (l .l) (c .before .before .before .before .before .before .before .before .before .before .before .before .before .shared-slice-known .given) (l .n) (l .nodes) (l .ends) g k (closes (c .before .before .before .before .before)),
+      start,
+      node-stands s (l .l) (c .before .before .before .before .before .before .before .before .before .before .before .before .before .before .shared-slice-known .given) (l .n) (l .nodes) (l .ends) g k (closes (c .before .before .before .before .before)),
       omega (arith, c .before .before .before .before .if1 .left, l .inv .5),
+      subst (λ z. Indexed s (e .args .index .now) k z) (sym start) (e .pre .4 k (closes (c .before .before .before .before .before) .there)),
     )
 
 enum-known-o : tie.Need-enum-known-o Inv-loop μ-loop
@@ -170,9 +173,9 @@ same-length-3 c = c .before .before .before .before .before .before .before .bef
 returns-3 : tie.Need-returns-3 Inv-loop μ-loop
 returns-3 c =
     let l = c .before .before .before .before .before .before .before .before .before .before .before .before .before .loop in
-    let s = c .before .before .before .before .before .before .before .before .before .before .before .before .before .before .before .before .before .before .before .before .args .s .now in
+    let s = c .before .before .before .before .before .before .before .before .before .before .before .before .before .before .before .before .before .before .before .before .before .args .s .now in
     let r = c .refused2 in
-    loop-fails s (l .l) (c .before .before .before .before .before .before .before .before .before .before .before .before .before .before .before .before .before .before .before .shared-slice-known .given) (l .n) (l .nodes) (l .ends) (l .inv .10) (c .before .before .before .before .before .before .before .before .before .before .before .soonest .result) (closes (c .before .before .before .before .before .before .before .before .before .before .before)) (omega (arith, c .before .before .before .before .before .before .before .before .before .before .if1 .left, l .inv .4))
+    loop-fails s (l .l) (c .before .before .before .before .before .before .before .before .before .before .before .before .before .before .before .before .before .before .before .before .shared-slice-known .given) (l .n) (l .nodes) (l .ends) (l .inv .10) (c .before .before .before .before .before .before .before .before .before .before .before .soonest .result) (closes (c .before .before .before .before .before .before .before .before .before .before .before)) (omega (arith, c .before .before .before .before .before .before .before .before .before .before .if1 .left, l .inv .4))
     (omega (arith, c .before .before .before .before .before .before .before .before .before .if2 .left)) (c .before .before .before .before .before .next-turn .result) (turned (c .before .before .before .before .before)) (c .before .before .o .given .1) (r .result) (r .ensures .0) (r .ensures .1)
 
 enum-known-o-2 : tie.Need-enum-known-o-2 Inv-loop μ-loop
@@ -192,7 +195,7 @@ cast-put-opened c = omega (arith, small (c .before .before .before .before .befo
 
 put-opened-requires : tie.Need-put-opened-requires Inv-loop μ-loop
 put-opened-requires c κs =
-    let e = c .before .before .before .before .before .before .before .before .before .before .before .before .before .before .before .before .before .before .before .before .before .before .before .before in
+    let e = c .before .before .before .before .before .before .before .before .before .before .before .before .before .before .before .before .before .before .before .before .before .before .before .before .before in
     let l = c .before .before .before .before .before .before .before .before .before .before .before .before .before .before .before .before .before .loop in
     let z = edge-is (c .before .before .before .before .before .before .before .before .before) (c .before .before .before .before .before .before .o2 .given .1) in
     (omega (arith, l .inv .8, c .before .before .before .before .before .before .before .before .before .before .before .before .before .if2 .left), omega (arith, c .before .before .before .before .before .before .before .before .before .before .before .before .before .if2 .left), z .1, omega (arith, c .before .open-before .ensures .0, l .inv .0), z .0, z .2, z .3)
@@ -223,7 +226,7 @@ loop-less c = omega (arith, c .before .before .before .before .before .before .b
 
 loop-again : tie.Need-loop-again Inv-loop μ-loop
 loop-again c =
-    let e = c .before .before .before .before .before .before .before .before .before .before .before .before .before .before .before .before .before .before .before .before .before .before .before .before .before .before .before .before .before .before in
+    let e = c .before .before .before .before .before .before .before .before .before .before .before .before .before .before .before .before .before .before .before .before .before .before .before .before .before .before .before .before .before .before .before in
     let l = c .before .before .before .before .before .before .before .before .before .before .before .before .before .before .before .before .before .before .before .before .before .before .before .loop in
     let q = c .before .before .before .before .before .put-opened in
     let s = e .args .s .now in
@@ -241,7 +244,7 @@ loop-again c =
       omega (arith, q .kept .0, l .inv .8),
       q .kept .0 ∙ l .inv .9,
       subst (λ m. Progress s (q .last .0) (l .n + 1) (set (l .nodes) k m) (until (l .ends) k (t .at) (c .before .before .before .before .before .before .before .before .before .before .before .before .o2 .given .0 .0))) (sym (c .before .before .kept .ensures))
-          (loop-on s (l .l) (c .before .before .before .before .before .before .before .before .before .before .before .before .before .before .before .before .before .before .before .before .before .before .before .before .before .before .before .before .before .shared-slice-known .given) (l .n) (l .nodes) (l .ends) (l .inv .10) k (closes (c .before .before .before .before .before .before .before .before .before .before .before .before .before .before .before .before .before .before .before .before .before)) (omega (arith, c .before .before .before .before .before .before .before .before .before .before .before .before .before .before .before .before .before .before .before .before .if1 .left, l .inv .4)) n t (turned (c .before .before .before .before .before .before .before .before .before .before .before .before .before .before .before))
+          (loop-on s (l .l) (c .before .before .before .before .before .before .before .before .before .before .before .before .before .before .before .before .before .before .before .before .before .before .before .before .before .before .before .before .before .before .shared-slice-known .given) (l .n) (l .nodes) (l .ends) (l .inv .10) k (closes (c .before .before .before .before .before .before .before .before .before .before .before .before .before .before .before .before .before .before .before .before .before)) (omega (arith, c .before .before .before .before .before .before .before .before .before .before .before .before .before .before .before .before .before .before .before .before .if1 .left, l .inv .4)) n t (turned (c .before .before .before .before .before .before .before .before .before .before .before .before .before .before .before))
           (c .before .before .before .before .before .before .before .before .before .before .before .before .o2 .given .1) (omega (arith, l .inv .8)) (c .before .before .before .before .before .before .before .open-before .result) (c .before .before .before .before .before .before .before .open-before .ensures .0) (λ i x y. omega (arith, c .before .before .before .before .before .before .before .open-before .ensures .1 i x y)) (q .last .0) (q .ensures)
           (omega (arith, small (c .before .before .before .before .before .before .before .before .before .before .before .before .before .before .before .before .before .before .before .before .before), l .inv .6)) (omega (arith, small (c .before .before .before .before .before .before .before .before .before .before .before .before .before .before .before .before .before .before .before .before .before), l .inv .7))),
     )

@@ -8,28 +8,28 @@ use Rattle.schedule.proofs.next_turn.Statement.{statement}
 use Rattle.schedule.proofs.next_turn.Tie as tie
 
 message-requires : tie.Need-message-requires
-message-requires c κs = let e = c .before .before .before in (e .pre .0, e .pre .2 .row)
+message-requires c κs = let e = c .before .before .before .before in (e .pre .0, e .pre .2 .row)
 
 sub-leave : tie.Need-sub-leave
 sub-leave c =
-    let e = c .before .before .before .before in
+    let e = c .before .before .before .before .before in
     let a = e .args in
-    omega (arith, place-within (a .s .now) (a .l .now) (a .n) (a .c) (a .node) (a .end) (c .before .before .before .shared-slice-known .given) (e .pre .0) (e .pre .2))
+    omega (arith, place-within (a .s .now) (a .l .now) (a .n) (a .c) (a .node) (a .end) (c .before .before .before .before .shared-slice-known .given) (e .pre .0) (e .pre .2))
 
 part-leave-start : tie.Need-part-leave-start
 part-leave-start c =
-    let e = c .before .before .before .before in
+    let e = c .before .before .before .before .before in
     let a = e .args in
-    omega (arith, place-within (a .s .now) (a .l .now) (a .n) (a .c) (a .node) (a .end) (c .before .before .before .shared-slice-known .given) (e .pre .0) (e .pre .2))
+    omega (arith, place-within (a .s .now) (a .l .now) (a .n) (a .c) (a .node) (a .end) (c .before .before .before .before .shared-slice-known .given) (e .pre .0) (e .pre .2))
 
 part-leave-end : tie.Need-part-leave-end
 part-leave-end c = search needs
 
 leave-requires : tie.Need-leave-requires
 leave-requires c κs =
-    let e = c .before .before .before .before .before in
+    let e = c .before .before .before .before .before .before in
     let a = e .args in
-    let b = c .before .before .before .before .shared-slice-known .given in (
+    let b = c .before .before .before .before .before .shared-slice-known .given in (
       place-ready (a .s .now) (a .l .now) (a .n) (a .c) (a .node) (a .end) b (e .pre .0) (e .pre .2),
       its-tick (a .s .now) (a .l .now) (a .n) (a .c) (a .node) (a .end) b (e .pre .0) (e .pre .2),
       omega (arith, e .pre .3),
@@ -38,21 +38,22 @@ leave-requires c κs =
 
 open-requires : tie.Need-open-requires
 open-requires c κs =
-    let e = c .before .before .before .before .before .before in
+    let e = c .before .before .before .before .before .before .before in
     let a = e .args in
-    let b = c .before .before .before .before .before .shared-slice-known .given in
+    let b = c .before .before .before .before .before .before .shared-slice-known .given in
     let m = c .before .before .message .result in (
       e .pre .0 .valid,
       its-present (a .s .now) (a .l .now) (a .n) (a .c) (a .node) (a .end) b (e .pre .0) (e .pre .2),
       e .pre .1,
       location-there (a .s .now) (a .l .now) (a .n) (a .c) (a .node) (a .end) b (e .pre .0) (e .pre .2) (a .h) m (c .leave .result) (c .leave .ensures .0),
+      e .pre .4,
     )
 
 returns : tie.Need-returns
 returns c =
-    let e = c .before .before .before .before .before .before .before in
+    let e = c .before .before .before .before .before .before .before .before in
     let a = e .args in
-    let b = c .before .before .before .before .before .before .shared-slice-known .given in
+    let b = c .before .before .before .before .before .before .before .shared-slice-known .given in
     let m = c .before .before .before .message in
     record {
       leads = leaves-row (a .s .now) (a .l .now) (a .n) (a .c) (a .node) (a .end) b (e .pre .0) (e .pre .2) (a .h) (m .result) (c .before .leave .result) (c .before .leave .ensures .0) (m .ensures);

@@ -1,11 +1,22 @@
 -- `schedule::schedule_rows` meets its contract. Assumes nothing.
 use mathlib.Core.Path.{_∙_}
+use Prim.Native.Nat.{_+_, _*_}
 use native.Mathlib.Omega.{arith}
+use lib.ListN.{getD-replicate}
 use Rattle.schedule.proofs.Tables.{header, horizon-is}
 use Rattle.schedule.proofs.Whole.{begun-refused, filled-put}
 use borrow.Author.Needs.{needs}
 use Rattle.schedule.proofs.schedule_rows.Statement.{statement}
 use Rattle.schedule.proofs.schedule_rows.Tie as tie
+
+slice-aggregate-index-edges : tie.Need-slice-aggregate-index-edges
+slice-aggregate-index-edges c = search needs
+
+index-edges-requires : tie.Need-index-edges-requires
+index-edges-requires c κs = (c .before .before .before .pre .0, c .before .before .before .pre .1, omega arith, λ d q h l. getD-replicate 640 (d * 80 + q) 32 0 (omega arith))
+
+slice-aggregate-begin : tie.Need-slice-aggregate-begin
+slice-aggregate-begin c = search needs
 
 begin-requires : tie.Need-begin-requires
 begin-requires c κs = search needs
@@ -16,49 +27,51 @@ enum-known-v c = search needs
 enum-told : tie.Need-enum-told
 enum-told c = search needs
 
+slice-aggregate-go-on : tie.Need-slice-aggregate-go-on
+slice-aggregate-go-on c = search needs
+
 go-on-requires : tie.Need-go-on-requires
 go-on-requires c κs =
-    let e = c .before .before .before .before .before .before .before .before .before .before .before in
-    let b = c .before .before .before .before .before .before .before .begin in
-    (e .pre .0, e .pre .1, omega (arith, b .kept .1 .1 .0, e .pre .2), b .ensures .started (c .before .before .before .enum-told .given .1))
+    let b = c .before .before .before .before .before .before .before .before .begin in
+    (c .before .before .before .before .before .before .before .before .before .before .before .before .before .before .before .before .pre .0, c .before .before .before .before .before .before .before .before .before .before .before .before .before .before .before .before .pre .1, omega (arith, b .kept .1 .1 .0, c .before .before .before .before .before .before .before .before .before .before .before .before .before .before .before .before .pre .2), b .ensures .started (c .before .before .before .before .enum-told .given .1), c .before .before .before .before .before .before .before .before .before .before .before .before .index-edges .ensures)
 
 word-at-requires : tie.Need-word-at-requires
-word-at-requires c κs = let e = c .before .before .before .before .before .before .before .before .before .before .before .before .before .before .before in omega (arith, header (e .args .s .now) (c .before .before .before .before .before .before .before .before .before .before .before .before .before .before .shared-slice-known .given) (e .pre .0))
+word-at-requires c κs = omega (arith, header (c .before .before .before .before .before .before .before .before .before .before .before .before .before .before .before .before .before .before .before .before .args .s .now) (c .before .before .before .before .before .before .before .before .before .before .before .before .before .before .before .before .before .before .before .shared-slice-known .given) (c .before .before .before .before .before .before .before .before .before .before .before .before .before .before .before .before .before .before .before .before .pre .0))
 
 wide32-requires : tie.Need-wide32-requires
 wide32-requires c κs = search needs
 
 put-messages-requires : tie.Need-put-messages-requires
-put-messages-requires c κs = search needs
+put-messages-requires c κs = c .before .before .before .before .before .go-on .ensures .placed
 
 same-length : tie.Need-same-length
 same-length c = search needs
 
 returns : tie.Need-returns
-returns c =
-    let e = c .before .before .before .before .before .before .before .before .before in
-    let b = c .before .before .before .before .before .begin in
-    begun-refused (e .args .s .now) (b .last .1 .1 .0) (b .ensures .verdict) (c .before .v .given .1)
+returns c = let b = c .before .before .before .before .before .begin in begun-refused (c .before .before .before .before .before .before .before .before .before .before .before .before .before .args .s .now) (b .last .1 .1 .0) (b .ensures .verdict) (c .before .v .given .1)
 
 same-length-2 : tie.Need-same-length-2
 same-length-2 c = search needs
 
 returns-2 : tie.Need-returns-2
 returns-2 c =
-    let e = c .before .before .before .before .before .before .before .before .before .before .before .before .before .before .before .before .before .before .before .before in
-    let s = e .args .s .now in
+    let s = c .before .before .before .before .before .before .before .before .before .before .before .before .before .before .before .before .before .before .before .before .before .before .before .before .before .args .s .now in
     let g = c .before .before .before .before .before .before .before .before .go-on in
     let p = c .before .before .put-messages in
     filled-put s (g .result) (g .last .1 .1 .0) (p .last .1 .0) (c .before .before .before .wide32 .result)
-    (c .before .before .before .wide32 .ensures .0 ∙ c .before .before .before .before .word-at .ensures ∙ horizon-is s (c .before .before .before .before .before .before .before .before .before .before .before .before .before .before .before .before .before .before .before .shared-slice-known .given) (e .pre .0)) (g .ensures) (p .ensures)
+    (c .before .before .before .wide32 .ensures .0 ∙ c .before .before .before .before .word-at .ensures ∙ horizon-is s (c .before .before .before .before .before .before .before .before .before .before .before .before .before .before .before .before .before .before .before .before .before .before .before .before .shared-slice-known .given) (c .before .before .before .before .before .before .before .before .before .before .before .before .before .before .before .before .before .before .before .before .before .before .before .before .before .pre .0)) (g .ensures) (p .ensures)
 
 pub schedule-rows-spec : {M : Type 1} → statement M
 schedule-rows-spec =
     tie.close
     (tie.spec
+    slice-aggregate-index-edges
+    index-edges-requires
+    slice-aggregate-begin
     begin-requires
     enum-known-v
     enum-told
+    slice-aggregate-go-on
     go-on-requires
     word-at-requires
     wide32-requires

@@ -1,0 +1,67 @@
+-- Check 10 looks at later rows only: a row that an earlier one meets is met by it, so the earlier one is at fault. Assumes nothing.
+use mathlib.Core.Path.{_≡_, refl, sym, ap, _∙_}
+use mathlib.Core.Bool.{Bool, true, false, _&&_, _||_}
+use mathlib.Core.List.{List, []}
+use Prim.Native.Nat.{ℕ, zero, suc, _+_, _≤_, _<_}
+use native.Mathlib.Omega.{arith}
+use native.Mathlib.Decide.{ℕ-discrete}
+use lib.Dec.{leb}
+use Rattle.model.specs.Lists.{any, only}
+use Rattle.model.specs.Table.{Table}
+use Rattle.model.specs.Schedule.{Passage, others}
+use Rattle.model.specs.Checks.{isSend, meets, collides}
+use Rattle.model.proofs.Basics.Bools.{clash}
+use Rattle.model.proofs.Checks.Heard.{others-is}
+use Rattle.rows.specs.Rows.{rowPassage, rowsFrom, rowsOf}
+
+module _ (p : Passage → Bool) (l : List ℕ) where
+  rows-none : (m i : ℕ) → ((k : ℕ) → i ≤ k → k < i + m → p (rowPassage l k) ≡ false) → only p (rowsFrom l i m) ≡ []
+  unfolding rowsFrom
+  rows-none zero i f = refl
+  rows-none (suc m) i f = rw (f i (omega arith) (omega arith)) (rows-none m (suc i) (λ k a b. f k (omega arith) (omega arith)))
+
+  or-true : (t : Bool) → t || true ≡ true
+  or-true true = refl
+  or-true false = refl
+
+  rows-some : (m i k : ℕ) → i ≤ k → k < i + m → p (rowPassage l k) ≡ true → any p (rowsFrom l i m) ≡ true
+  unfolding rowsFrom
+  rows-some zero i k a b e = absurd (omega arith)
+  rows-some (suc m) i k a b e = go (λ n. rows-some m (suc i) k (omega (arith, n)) (omega arith) e) (ℕ-discrete k i)
+    where
+      go : ((k ≡ i → ⊥) → any p (rowsFrom l (suc i) m) ≡ true) → Dec (k ≡ i) → (p (rowPassage l i) || any p (rowsFrom l (suc i) m)) ≡ true
+      go ih (yes q) = let h : p (rowPassage l i) ≡ true = ap (λ j. p (rowPassage l j)) (sym q) ∙ e in rw h
+      go ih (no q) = rw (ih q) (or-true (p (rowPassage l i)))
+
+  -- none of the rows so far, and not row i
+  pub below-turn : (i : ℕ) → ((k : ℕ) → k < i → p (rowPassage l k) ≡ false) → p (rowPassage l i) ≡ false → (k : ℕ) → k < i + 1 → p (rowPassage l k) ≡ false
+  below-turn i f e k h = go (ℕ-discrete k i)
+    where
+      go : Dec (k ≡ i) → p (rowPassage l k) ≡ false
+      go (yes q) = rw q e
+      go (no q) = f k (omega (arith, h, q))
+
+module _ (T : Table) (H : ℕ) where
+  swapped : (a b c t d e : Bool) → a ≡ true → (c ≡ true → t ≡ true) → b && c && true && (d && e) ≡ true → (b ≡ true) × (a && t && true && (e && d) ≡ true)
+  swapped a true true t true true h f q = (refl, rw (h, f refl))
+  swapped a true true t true false h f q = clash q
+  swapped a true true t false e h f q = clash q
+  swapped a true false t d e h f q = clash q
+  swapped a false c t d e h f q = clash q
+
+  -- two sends meet each other
+  turned : (v w : Passage) → isSend T H v ≡ true → meets T H v w ≡ true → (isSend T H w ≡ true) × (meets T H w v ≡ true)
+  turned v w s q =
+      swapped (isSend T H v) (isSend T H w) (others w v) (others v w) (leb (v .ready) (w .end)) (leb (w .ready) (v .end)) s (λ h. others-is v w .1 (λ e. others-is w v .0 h (sym e))) q
+
+  -- row i, a send, meets none of the rows before it, where none of them collides
+  pub none-earlier : (l : List ℕ) (n i : ℕ) → i < n → isSend T H (rowPassage l i) ≡ true → ((k : ℕ) → k < i → collides T H (rowsOf l n) (rowPassage l k) ≡ false)
+      → only (meets T H (rowPassage l i)) (rowsOf l i) ≡ []
+  none-earlier l n i h s f = rows-none (meets T H (rowPassage l i)) l i 0 (λ k a b. go k (omega (arith, b)) (meets T H (rowPassage l i) (rowPassage l k)) refl)
+    where
+      go : (k : ℕ) → k < i → (t : Bool) → meets T H (rowPassage l i) (rowPassage l k) ≡ t → t ≡ false
+      go k b true q =
+          let w = turned (rowPassage l i) (rowPassage l k) s q in
+          let c : collides T H (rowsOf l n) (rowPassage l k) ≡ true = rw (w .0, rows-some (meets T H (rowPassage l k)) l n 0 i (omega arith) (omega arith) (w .1)) in
+          clash (sym (f k b) ∙ c)
+      go k b false q = refl
