@@ -35,7 +35,7 @@ fn row_sends(s: &[u8], l: &[u32], i: usize) -> bool
     requires { ⌜ RowKnown (now s) (now l) i ⌝ }
     ensures { λ r. ⌜ r ≡ not (isNone (channelOf (passageArc (readOf (now (s .entry)) .table) (rowPassage (now (l .entry)) i)))) ⌝ }
 {
-    let at = rows::index(l, i, 7);
+    let at = rows::index(l, i, rows::PLACE);
     let action = decoder::action_at(&s[at..]);
     match action {
         Action::Internal => false,
@@ -49,7 +49,7 @@ pub fn is_send(s: &[u8], l: &[u32], i: usize, h: u32) -> bool
     requires { ⌜ RowKnown (now s) (now l) i ⌝ }
     ensures { λ r. ⌜ r ≡ isSend (readOf (now (s .entry)) .table) h (rowPassage (now (l .entry)) i) ⌝ }
 {
-    if h <= rows::number(l, i, 4) {
+    if h <= rows::number(l, i, rows::READY) {
         return false;
     }
     row_sends(s, l, i)
@@ -60,9 +60,15 @@ fn overlap(l: &[u32], i: usize, j: usize) -> bool
     requires { ⌜ (i * 9 + 9 ≤ length (now l)) × (j * 9 + 9 ≤ length (now l)) ⌝ }
     ensures { λ r. ⌜ r ≡ others (rowPassage (now (l .entry)) i) (rowPassage (now (l .entry)) j) && shareTick (rowPassage (now (l .entry)) i) (rowPassage (now (l .entry)) j) ⌝ }
 {
-    let started = rows::number(l, i, 4) <= rows::number(l, j, 5);
-    let shared = parts::both(started, rows::number(l, j, 4) <= rows::number(l, i, 5));
-    parts::both(rows::number(l, i, 0) != rows::number(l, j, 0), shared)
+    let started = rows::number(l, i, rows::READY) <= rows::number(l, j, rows::END);
+    let shared = parts::both(
+        started,
+        rows::number(l, j, rows::READY) <= rows::number(l, i, rows::END),
+    );
+    parts::both(
+        rows::number(l, i, rows::COMPONENT) != rows::number(l, j, rows::COMPONENT),
+        shared,
+    )
 }
 
 // Whether row j is a send of another component that shares a tick with row i, a send.
@@ -84,10 +90,10 @@ fn collides_with_one(s: &[u8], l: &[u32], n: usize, i: usize, h: u32) -> bool
     if !is_send(s, l, i, h) {
         return false;
     }
-    let until = rows::number(l, i, 5);
+    let until = rows::number(l, i, rows::END);
     let mut j = i;
     while j < n {
-        if until < rows::number(l, j, 3) {
+        if until < rows::number(l, j, rows::ENTRY) {
             return false;
         }
         if is_met(s, l, i, j, h) {
@@ -125,8 +131,11 @@ fn surrounds(l: &[u32], k: usize, i: usize) -> bool
     requires { ⌜ (k * 9 + 9 ≤ length (now l)) × (i * 9 + 9 ≤ length (now l)) ⌝ }
     ensures { λ r. ⌜ r ≡ startsEarlier (rowPassage (now (l .entry)) k) (rowPassage (now (l .entry)) i) && endsLater (rowPassage (now (l .entry)) k) (rowPassage (now (l .entry)) i) ⌝ }
 {
-    let earlier = rows::number(l, k, 4) < rows::number(l, i, 4);
-    parts::both(earlier, rows::number(l, i, 5) < rows::number(l, k, 5))
+    let earlier = rows::number(l, k, rows::READY) < rows::number(l, i, rows::READY);
+    parts::both(
+        earlier,
+        rows::number(l, i, rows::END) < rows::number(l, k, rows::END),
+    )
 }
 
 // The components that listen by more than one window, with one more window of component c: setting a bit that is set changes nothing.
@@ -148,12 +157,12 @@ fn listeners_before(s: &[u8], l: &[u32], n: usize, i: usize, channel: u8) -> Lis
     let mut listening: u8 = 0;
     let mut repeated: u8 = 0;
     let mut row: [usize; 8] = [0; 8];
-    let ready = rows::number(l, i, 4);
+    let ready = rows::number(l, i, rows::READY);
     let mut j = rows::open_before(l, i, ready);
     while 0 < j {
         let k = j - 1;
         if may_hear(s, l, k, i, channel) {
-            let c = rows::index(l, k, 0);
+            let c = rows::index(l, k, rows::COMPONENT);
             repeated = with_repeated(listening, repeated, c);
             listening = with_bit(listening, c);
             row[c] = k;
@@ -179,17 +188,17 @@ fn listeners_from(
     requires { ⌜ RowsPlaced (now s) (now l) n × (i < n) × (messageOf channel ≡ channelOf (passageArc (readOf (now s) .table) (rowPassage (now l) i))) × Noted (now l) n (only (λ v. mayHear (readOf (now s) .table) v (rowPassage (now l) i)) (rowsOf (now l) i)) (before .listening) (before .repeated) (before .row) ⌝ }
     ensures { λ r. ⌜ Noted (now (l .entry)) n (only (λ v. mayHear (readOf (now (s .entry)) .table) v (rowPassage (now (l .entry)) i)) (rowsOf (now (l .entry)) n)) (r .listening) (r .repeated) (r .row) ⌝ }
 {
-    let until = rows::number(l, i, 5);
+    let until = rows::number(l, i, rows::END);
     let mut listening = before.listening;
     let mut repeated = before.repeated;
     let mut row = before.row;
     let mut j = i;
     while j < n {
-        if until < rows::number(l, j, 3) {
+        if until < rows::number(l, j, rows::ENTRY) {
             break;
         }
         if may_hear(s, l, j, i, channel) {
-            let c = rows::index(l, j, 0);
+            let c = rows::index(l, j, rows::COMPONENT);
             repeated = with_repeated(listening, repeated, c);
             listening = with_bit(listening, c);
             row[c] = j;
@@ -253,7 +262,7 @@ fn sends_before(s: &[u8], l: &[u32], n: usize, i: usize, h: u32) -> usize
     requires { ⌜ RowsPlaced (now s) (now l) n × (i < n) × (isReceive (readOf (now s) .table) (rowPassage (now l) i) ≡ true) ⌝ }
     ensures { λ r. ⌜ r ≡ length (only (λ o. isSend (readOf (now (s .entry)) .table) h o && mayHear (readOf (now (s .entry)) .table) (rowPassage (now (l .entry)) i) o) (rowsOf (now (l .entry)) i)) ⌝ }
 {
-    let ready = rows::number(l, i, 4);
+    let ready = rows::number(l, i, rows::READY);
     let mut sends: usize = 0;
     let mut j = rows::open_before(l, i, ready);
     while 0 < j {
@@ -274,14 +283,14 @@ pub fn is_crowded(s: &[u8], l: &[u32], n: usize, i: usize, h: u32) -> bool
     if !rows::row_receives(s, l, i) {
         return false;
     }
-    let until = rows::number(l, i, 5);
+    let until = rows::number(l, i, rows::END);
     let mut sends = sends_before(s, l, n, i, h);
     if 2 <= sends {
         return true;
     }
     let mut j = i;
     while j < n {
-        if until < rows::number(l, j, 3) {
+        if until < rows::number(l, j, rows::ENTRY) {
             return false;
         }
         if hears_send(s, l, i, j, h) {
@@ -345,7 +354,7 @@ pub fn refused(l: &[u32], number: u8, i: usize) -> Verdict
     requires { ⌜ RowStands (now l) i ⌝ }
     ensures { λ r. ⌜ r ≡ Refused number (num (now (l .entry)) i 0) ⌝ }
 {
-    Verdict::Refused(number, rows::number(l, i, 0) as u8)
+    Verdict::Refused(number, rows::number(l, i, rows::COMPONENT) as u8)
 }
 
 // Check 12.

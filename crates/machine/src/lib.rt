@@ -33,7 +33,7 @@ pub fn next_row(rows: &[u32], n: usize, c: usize, from: usize) -> usize
 {
     let mut i = from;
     while i < n {
-        if rows::index(rows, i, 0) == c {
+        if rows::index(rows, i, rows::COMPONENT) == c {
             return i;
         }
         i += 1;
@@ -47,7 +47,7 @@ fn next_ready(rows: &[u32], n: usize, row: usize) -> u64
     ensures { λ r. ⌜ r ≡ readyAt (rowsOf (now (rows .entry)) n) row ⌝ }
 {
     if row < n {
-        return rows::number(rows, row, 4) as u64;
+        return rows::number(rows, row, rows::READY) as u64;
     }
     18446744073709551615
 }

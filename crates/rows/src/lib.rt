@@ -11,6 +11,28 @@ ghost use Rattle.model.specs.Schedule.{passageArc, names, heardBy, endsSooner, 
 ghost use Rattle.rows.specs.Rows.{num, messageOf, rowPassage, rowsOf, RowsPlaced, MessagesPut, EdgeStands, RowKnown, Linked, inTime, bestOf, heardRow, soonerFirst, heardFirst};
 use model::Action;
 
+// The numbers of a row: a passage's seven fields, the place of its edge in the table, and the row that a walk backward goes on with.
+pub const COMPONENT: usize = 0;
+
+pub const EDGE: usize = 1;
+
+pub const LOCATION: usize = 2;
+
+pub const ENTRY: usize = 3;
+
+pub const READY: usize = 4;
+
+pub const END: usize = 5;
+
+pub const MESSAGE: usize = 6;
+
+pub const PLACE: usize = 7;
+
+pub const LINK: usize = 8;
+
+// How many numbers a row has.
+pub const WIDTH: usize = 9;
+
 fn wide(x: u8) -> u32
     ensures { λ r. ⌜ (r ≡ x) × (r < 256) ⌝ }
 {
@@ -22,7 +44,7 @@ pub fn number(l: &[u32], i: usize, k: usize) -> u32
     requires { ⌜ i * 9 + k < length (now l) ⌝ }
     ensures { λ r. ⌜ r ≡ num (now (l .entry)) i k ⌝ }
 {
-    l[i * 9 + k]
+    l[i * WIDTH + k]
 }
 
 // The same, where the number is a place or a row.
@@ -30,7 +52,7 @@ pub fn index(l: &[u32], i: usize, k: usize) -> usize
     requires { ⌜ i * 9 + k < length (now l) ⌝ }
     ensures { λ r. ⌜ r ≡ num (now (l .entry)) i k ⌝ }
 {
-    l[i * 9 + k] as usize
+    l[i * WIDTH + k] as usize
 }
 
 // Writes row i; message none (255).
@@ -49,16 +71,16 @@ pub fn put_row(
     requires { ⌜ (i * 9 + 9 ≤ length (now l)) × (place < 65536) × (back < 65536) × (i ≤ 1024) ⌝ }
     ensures { λ _. ⌜ now (l .exit) ≡ sets (now (l .entry)) (i * 9) (component ∷ edge ∷ location ∷ entry ∷ ready ∷ end ∷ 255 ∷ place ∷ back ∷ []) ⌝ }
 {
-    let at = i * 9;
+    let at = i * WIDTH;
     l[at] = component as u32;
-    l[at + 1] = edge as u32;
-    l[at + 2] = location as u32;
-    l[at + 3] = entry;
-    l[at + 4] = ready;
-    l[at + 5] = end;
-    l[at + 6] = 255;
-    l[at + 7] = place as u32;
-    l[at + 8] = back as u32;
+    l[at + EDGE] = edge as u32;
+    l[at + LOCATION] = location as u32;
+    l[at + ENTRY] = entry;
+    l[at + READY] = ready;
+    l[at + END] = end;
+    l[at + MESSAGE] = 255;
+    l[at + PLACE] = place as u32;
+    l[at + LINK] = back as u32;
 }
 
 // The rows before row j, walked backward: one past the last that ends at the tick or later (0 where there is none). A row that ended
@@ -69,10 +91,10 @@ pub fn open_before(l: &[u32], j: usize, tick: u32) -> usize
 {
     let mut k = j;
     while 0 < k {
-        if tick <= number(l, k - 1, 5) {
+        if tick <= number(l, k - 1, END) {
             return k;
         }
-        k = index(l, k - 1, 8);
+        k = index(l, k - 1, LINK);
     }
     k
 }
@@ -125,7 +147,7 @@ pub fn row_receives(s: &[u8], l: &[u32], i: usize) -> bool
     requires { ⌜ RowKnown (now s) (now l) i ⌝ }
     ensures { λ r. ⌜ r ≡ listens (passageArc (readOf (now (s .entry)) .table) (rowPassage (now (l .entry)) i)) ⌝ }
 {
-    let at = index(l, i, 7);
+    let at = index(l, i, PLACE);
     let action = decoder::action_at(&s[at..]);
     match action {
         Action::Internal => false,
@@ -139,7 +161,7 @@ pub fn row_sent(s: &[u8], l: &[u32], i: usize) -> u8
     requires { ⌜ RowKnown (now s) (now l) i ⌝ }
     ensures { λ r. ⌜ messageOf r ≡ channelOf (passageArc (readOf (now (s .entry)) .table) (rowPassage (now (l .entry)) i)) ⌝ }
 {
-    let at = index(l, i, 7);
+    let at = index(l, i, PLACE);
     sent(&s[at..])
 }
 
@@ -148,7 +170,7 @@ pub fn row_lists(s: &[u8], l: &[u32], i: usize, channel: u8) -> bool
     requires { ⌜ RowKnown (now s) (now l) i ⌝ }
     ensures { λ r. ⌜ r ≡ names (passageArc (readOf (now (s .entry)) .table) (rowPassage (now (l .entry)) i)) (messageOf channel) ⌝ }
 {
-    let at = index(l, i, 7);
+    let at = index(l, i, PLACE);
     lists(&s[at..], channel)
 }
 
@@ -157,10 +179,10 @@ fn in_time(l: &[u32], i: usize, j: usize, h: u32) -> bool
     requires { ⌜ (i * 9 + 9 ≤ length (now l)) × (j * 9 + 9 ≤ length (now l)) ⌝ }
     ensures { λ r. ⌜ r ≡ inTime h (rowPassage (now (l .entry)) i) (rowPassage (now (l .entry)) j) ⌝ }
 {
-    let ready = number(l, j, 4);
-    let after = parts::both(number(l, i, 4) < ready, ready < h);
-    let inside = parts::both(after, number(l, j, 5) < number(l, i, 5));
-    parts::both(number(l, i, 0) != number(l, j, 0), inside)
+    let ready = number(l, j, READY);
+    let after = parts::both(number(l, i, READY) < ready, ready < h);
+    let inside = parts::both(after, number(l, j, END) < number(l, i, END));
+    parts::both(number(l, i, COMPONENT) != number(l, j, COMPONENT), inside)
 }
 
 // Whether row i hears row j.
@@ -178,9 +200,9 @@ fn ends_sooner(l: &[u32], j: usize, b: usize) -> bool
     requires { ⌜ (j * 9 + 9 ≤ length (now l)) × (b * 9 + 9 ≤ length (now l)) ⌝ }
     ensures { λ r. ⌜ r ≡ endsSooner (rowPassage (now (l .entry)) j) (rowPassage (now (l .entry)) b) ⌝ }
 {
-    let end = number(l, j, 5);
-    let other = number(l, b, 5);
-    let lower = number(l, j, 0) < number(l, b, 0);
+    let end = number(l, j, END);
+    let other = number(l, b, END);
+    let lower = number(l, j, COMPONENT) < number(l, b, COMPONENT);
     parts::either(end < other, parts::both(end == other, lower))
 }
 
@@ -235,7 +257,7 @@ fn seek_before(s: &[u8], l: &[u32], n: usize, i: usize, h: u32) -> usize
     requires { ⌜ RowsPlaced (now s) (now l) n × (i < n) ⌝ }
     ensures { λ r. ⌜ bestOf (now (l .entry)) n r ≡ earliest (heardBy (readOf (now (s .entry)) .table) h (rowPassage (now (l .entry)) i)) (rowsOf (now (l .entry)) i) none ⌝ }
 {
-    let entry = number(l, i, 3);
+    let entry = number(l, i, ENTRY);
     let mut best = n;
     let mut j = open_before(l, i, entry);
     while 0 < j {
@@ -251,11 +273,11 @@ fn seek(s: &[u8], l: &[u32], n: usize, i: usize, h: u32) -> usize
     requires { ⌜ RowsPlaced (now s) (now l) n × (i < n) ⌝ }
     ensures { λ r. ⌜ bestOf (now (l .entry)) n r ≡ earliest (heardBy (readOf (now (s .entry)) .table) h (rowPassage (now (l .entry)) i)) (rowsOf (now (l .entry)) n) none ⌝ }
 {
-    let until = number(l, i, 5);
+    let until = number(l, i, END);
     let mut best = seek_before(s, l, n, i, h);
     let mut j = i;
     while j < n {
-        if until <= number(l, j, 3) {
+        if until <= number(l, j, ENTRY) {
             return best;
         }
         best = heard(s, l, best, i, j, n, h);
@@ -287,7 +309,7 @@ pub fn put_messages(s: &[u8], l: &mut [u32], n: usize, h: u32)
     let mut i: usize = 0;
     while i < n {
         let m = message(s, l, n, i, h);
-        l[i * 9 + 6] = wide(m);
+        l[i * WIDTH + MESSAGE] = wide(m);
         i += 1;
     }
 }

@@ -330,13 +330,13 @@ pub fn put_seven(l: &[u32], i: usize, out: &mut [u32], k: usize)
     ensures { λ _. ⌜ now (out .exit) ≡ sets (now (out .entry)) (k * 7) (sevenOf (rowPassage (now (l .entry)) i)) ⌝ }
 {
     let at = k * 7;
-    out[at] = rows::number(l, i, 0);
-    out[at + 1] = rows::number(l, i, 1);
-    out[at + 2] = rows::number(l, i, 2);
-    out[at + 3] = rows::number(l, i, 3);
-    out[at + 4] = rows::number(l, i, 4);
-    out[at + 5] = rows::number(l, i, 5);
-    out[at + 6] = rows::number(l, i, 6);
+    out[at] = rows::number(l, i, rows::COMPONENT);
+    out[at + 1] = rows::number(l, i, rows::EDGE);
+    out[at + 2] = rows::number(l, i, rows::LOCATION);
+    out[at + 3] = rows::number(l, i, rows::ENTRY);
+    out[at + 4] = rows::number(l, i, rows::READY);
+    out[at + 5] = rows::number(l, i, rows::END);
+    out[at + 6] = rows::number(l, i, rows::MESSAGE);
 }
 
 // Copies the seven fields of n rows; what lies past them stays.
