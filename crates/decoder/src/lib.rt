@@ -84,7 +84,7 @@ pub fn pair_at(bytes: &[u8]) -> Pair
     }
 }
 
-// How many bytes that many items of an edge have.
+// How many bytes `count` items of an edge have.
 pub fn items_length(kind: u8, count: u8) -> usize
     ensures { λ r. ⌜ r ≡ itemsLength kind count ⌝ }
 {

@@ -110,7 +110,7 @@ fn narrowed(delays: Delays, guard: ClockGuard, clock: u32) -> Delays
     Delays { ready, past }
 }
 
-// The window that an invariant and that many clock bounds leave; `guards` begins at the first bound.
+// The window that an invariant and `count` clock bounds leave; `guards` begins at the first bound.
 pub fn window(guards: &[u8], count: u8, location: Location, clocks: [u32; 4]) -> Delays
     requires { ⌜ (count * 5 ≤ length (now guards)) × (location .clock < 4) × All (λ g. g .clock < 4) (listAt clockGuardAt 5 count (now guards)) ⌝ }
     ensures { λ r. ⌜ (r .ready ≡ readyOf (listAt clockGuardAt 5 count (now (guards .entry))) clocks) × (r .past ≡ pastOf location (listAt clockGuardAt 5 count (now (guards .entry))) clocks) × (r .ready ≤ 65535) × (r .past ≤ 65536) ⌝ }
@@ -147,7 +147,7 @@ fn data_within(guard: DataGuard, values: [i16; 4]) -> bool
     within(values[i], guard.low, guard.high)
 }
 
-// Whether that many data bounds hold; `guards` begins at the first bound.
+// Whether `count` data bounds hold; `guards` begins at the first bound.
 pub fn data_hold(guards: &[u8], count: u8, values: [i16; 4]) -> bool
     requires { ⌜ (count * 5 ≤ length (now guards)) × All (λ g. g .variable < 4) (listAt dataGuardAt 5 count (now guards)) ⌝ }
     ensures { λ r. ⌜ r ≡ dataHolds (listAt dataGuardAt 5 count (now (guards .entry))) values ⌝ }
@@ -265,7 +265,7 @@ pub fn age(mask: u8, grown: u32, clocks: [u32; 4]) -> [u32; 4]
     ]
 }
 
-// The location that so many pairs have for a channel, else another; `pairs` begins at the first pair.
+// The location that `count` pairs have for a channel, else another; `pairs` begins at the first pair.
 pub fn paired_location(pairs: &[u8], count: u8, channel: u8, other: u8) -> u8
     requires { ⌜ count * 2 ≤ length (now pairs) ⌝ }
     ensures { λ r. ⌜ r ≡ paired (listAt pairAt 2 count (now (pairs .entry))) channel other ⌝ }

@@ -38,7 +38,7 @@ fn new_value(update: Update, value: i16) -> NewValue
     }
 }
 
-// That many updates in order, sums tested in 32 bits before they are stored; `updates` begins at the first update.
+// `count` updates in order, sums tested in 32 bits before they are stored; `updates` begins at the first update.
 pub fn update(updates: &[u8], count: u8, values: [i16; 4]) -> Updated
     requires { ⌜ (count * 4 ≤ length (now updates)) × All (λ u. u .variable < 4) (listAt updateAt 4 count (now updates)) ⌝ }
     ensures { λ r. ⌜ updatedOf r ≡ updated (listAt updateAt 4 count (now (updates .entry))) values ⌝ }
