@@ -1,5 +1,4 @@
 pub mod ByKind
 pub mod ByAction
 pub mod Found
-pub mod Walk
 pub mod Callers

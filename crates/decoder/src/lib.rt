@@ -3,8 +3,7 @@ ghost use mathlib.Core.Path.{_≡_};
 ghost use Prim.Native.Nat.{ℕ, _+_, _*_, _≤_, _<_};
 ghost use lib.ListN.{length};
 ghost use Rattle.model.specs.Reader.{word, complement, locationAt, clockGuardAt, dataGuardAt, updateAt, pairAt};
-ghost use Rattle.model.specs.Places.{itemsLength, itemsPlace, arcLength, arcAt, arcPlace};
-ghost use Rattle.decoder.specs.Decoded.{Walkable};
+ghost use Rattle.model.specs.Places.{itemsLength, itemsPlace, arcLength, arcAt};
 use model::Action;
 use model::ClockGuard;
 use model::DataGuard;
@@ -12,152 +11,136 @@ use model::Edge;
 use model::Location;
 use model::Pair;
 use model::Update;
+use model::layout;
 
-fn wide(x: u8) -> usize
-    ensures { λ r. ⌜ (r ≡ x) × (r < 256) ⌝ }
-{
-    x as usize
-}
-
-pub fn location_at(h: &[u8]) -> Location
-    requires { ⌜ 3 ≤ length (now h) ⌝ }
-    ensures { λ r. ⌜ r ≡ locationAt (now (h .entry)) ⌝ }
+pub fn location_at(bytes: &[u8]) -> Location
+    requires { ⌜ 3 ≤ length (now bytes) ⌝ }
+    ensures { λ r. ⌜ r ≡ locationAt (now (bytes .entry)) ⌝ }
 {
     Location {
-        clock: h[0],
-        bound: parts::word_at(h, 1),
+        clock: bytes[layout::LOCATION_CLOCK],
+        bound: parts::word_at(bytes, layout::LOCATION_BOUND),
     }
 }
 
-pub fn clock_guard_at(h: &[u8]) -> ClockGuard
-    requires { ⌜ 5 ≤ length (now h) ⌝ }
-    ensures { λ r. ⌜ r ≡ clockGuardAt (now (h .entry)) ⌝ }
+pub fn clock_guard_at(bytes: &[u8]) -> ClockGuard
+    requires { ⌜ 5 ≤ length (now bytes) ⌝ }
+    ensures { λ r. ⌜ r ≡ clockGuardAt (now (bytes .entry)) ⌝ }
 {
     ClockGuard {
-        clock: h[0],
-        low: parts::word_at(h, 1),
-        high: parts::word_at(h, 3),
+        clock: bytes[layout::GUARD_SUBJECT],
+        low: parts::word_at(bytes, layout::GUARD_LOW),
+        high: parts::word_at(bytes, layout::GUARD_HIGH),
     }
 }
 
 // Two's complement.
-fn signed(x: u16) -> i16
-    ensures { λ r. ⌜ r ≡ complement x ⌝ }
+fn signed(number: u16) -> i16
+    ensures { λ r. ⌜ r ≡ complement number ⌝ }
 {
-    if x < 32768 {
-        x as i16
+    if number < 32768 {
+        number as i16
     } else {
-        ((x as i32) - 65536) as i16
+        ((number as i32) - 65536) as i16
     }
 }
 
-pub fn signed_at(h: &[u8], i: usize) -> i16
-    requires { ⌜ i + 1 < length (now h) ⌝ }
-    ensures { λ r. ⌜ r ≡ complement (word (now (h .entry)) i) ⌝ }
+pub fn signed_at(bytes: &[u8], at: usize) -> i16
+    requires { ⌜ at + 1 < length (now bytes) ⌝ }
+    ensures { λ r. ⌜ r ≡ complement (word (now (bytes .entry)) at) ⌝ }
 {
-    signed(parts::word_at(h, i))
+    signed(parts::word_at(bytes, at))
 }
 
-pub fn data_guard_at(h: &[u8]) -> DataGuard
-    requires { ⌜ 5 ≤ length (now h) ⌝ }
-    ensures { λ r. ⌜ r ≡ dataGuardAt (now (h .entry)) ⌝ }
+pub fn data_guard_at(bytes: &[u8]) -> DataGuard
+    requires { ⌜ 5 ≤ length (now bytes) ⌝ }
+    ensures { λ r. ⌜ r ≡ dataGuardAt (now (bytes .entry)) ⌝ }
 {
     DataGuard {
-        variable: h[0],
-        low: signed_at(h, 1),
-        high: signed_at(h, 3),
+        variable: bytes[layout::GUARD_SUBJECT],
+        low: signed_at(bytes, layout::GUARD_LOW),
+        high: signed_at(bytes, layout::GUARD_HIGH),
     }
 }
 
-pub fn update_at(h: &[u8]) -> Update
-    requires { ⌜ 4 ≤ length (now h) ⌝ }
-    ensures { λ r. ⌜ r ≡ updateAt (now (h .entry)) ⌝ }
+pub fn update_at(bytes: &[u8]) -> Update
+    requires { ⌜ 4 ≤ length (now bytes) ⌝ }
+    ensures { λ r. ⌜ r ≡ updateAt (now (bytes .entry)) ⌝ }
 {
     Update {
-        variable: h[0],
-        adds: h[1] == 1,
-        number: signed_at(h, 2),
+        variable: bytes[layout::UPDATE_VARIABLE],
+        adds: bytes[layout::UPDATE_ADDS] == 1,
+        number: signed_at(bytes, layout::UPDATE_NUMBER),
     }
 }
 
-pub fn pair_at(h: &[u8]) -> Pair
-    requires { ⌜ 2 ≤ length (now h) ⌝ }
-    ensures { λ r. ⌜ r ≡ pairAt (now (h .entry)) ⌝ }
+pub fn pair_at(bytes: &[u8]) -> Pair
+    requires { ⌜ 2 ≤ length (now bytes) ⌝ }
+    ensures { λ r. ⌜ r ≡ pairAt (now (bytes .entry)) ⌝ }
 {
     Pair {
-        channel: h[0],
-        location: h[1],
+        channel: bytes[layout::PAIR_CHANNEL],
+        location: bytes[layout::PAIR_LOCATION],
     }
 }
 
-// How many bytes n items of an edge have.
-pub fn items_length(kind: u8, n: u8) -> usize
-    ensures { λ r. ⌜ r ≡ itemsLength kind n ⌝ }
+// How many bytes `count` items of an edge have.
+pub fn items_length(kind: u8, count: u8) -> usize
+    ensures { λ r. ⌜ r ≡ itemsLength kind count ⌝ }
 {
     if kind == 0 {
-        return wide(n) * 4;
+        return parts::wide(count) * layout::UPDATE_WIDTH;
     }
     if kind == 1 {
         return 1;
     }
-    wide(n) * 2
+    parts::wide(count) * layout::PAIR_WIDTH
 }
 
 // Where an edge's items start.
-pub fn items_place(h: &[u8]) -> usize
-    requires { ⌜ 7 ≤ length (now h) ⌝ }
-    ensures { λ r. ⌜ r ≡ itemsPlace (now (h .entry)) ⌝ }
+pub fn items_place(bytes: &[u8]) -> usize
+    requires { ⌜ 7 ≤ length (now bytes) ⌝ }
+    ensures { λ r. ⌜ r ≡ itemsPlace (now (bytes .entry)) ⌝ }
 {
-    7 + (wide(h[4]) + wide(h[5])) * 5
+    layout::EDGE_HEADER
+        + (parts::wide(bytes[layout::EDGE_CLOCK_GUARDS])
+            + parts::wide(bytes[layout::EDGE_DATA_GUARDS]))
+            * layout::GUARD_WIDTH
 }
 
-pub fn arc_length(h: &[u8]) -> usize
-    requires { ⌜ 7 ≤ length (now h) ⌝ }
-    ensures { λ r. ⌜ r ≡ arcLength (now (h .entry)) ⌝ }
+pub fn arc_length(bytes: &[u8]) -> usize
+    requires { ⌜ 7 ≤ length (now bytes) ⌝ }
+    ensures { λ r. ⌜ r ≡ arcLength (now (bytes .entry)) ⌝ }
 {
-    items_place(h) + items_length(h[0], h[6])
+    items_place(bytes) + items_length(bytes[layout::EDGE_KIND], bytes[layout::EDGE_ITEMS])
 }
 
 // What the edge at the front does; a send's channel is its one item. (The items of the two others stand behind the bounds, from
 // `items_place` on, and are decoded one at a time.)
-pub fn action_at(h: &[u8]) -> Action
-    requires { ⌜ (7 ≤ length (now h)) × (arcLength (now h) ≤ length (now h)) ⌝ }
-    ensures { λ r. ⌜ r ≡ arcAt (now (h .entry)) .edge .action ⌝ }
+pub fn action_at(bytes: &[u8]) -> Action
+    requires { ⌜ (7 ≤ length (now bytes)) × (arcLength (now bytes) ≤ length (now bytes)) ⌝ }
+    ensures { λ r. ⌜ r ≡ arcAt (now (bytes .entry)) .edge .action ⌝ }
 {
-    let kind = h[0];
+    let kind = bytes[layout::EDGE_KIND];
     if kind == 0 {
         return Action::Internal;
     }
     if kind == 1 {
-        let at = items_place(h);
-        return Action::Send(h[at]);
+        let at = items_place(bytes);
+        return Action::Send(bytes[at]);
     }
     Action::Receive
 }
 
 // The edge at the front, without its bounds and items.
-pub fn edge_at(h: &[u8]) -> Edge
-    requires { ⌜ (7 ≤ length (now h)) × (arcLength (now h) ≤ length (now h)) ⌝ }
-    ensures { λ r. ⌜ r ≡ arcAt (now (h .entry)) .edge ⌝ }
+pub fn edge_at(bytes: &[u8]) -> Edge
+    requires { ⌜ (7 ≤ length (now bytes)) × (arcLength (now bytes) ≤ length (now bytes)) ⌝ }
+    ensures { λ r. ⌜ r ≡ arcAt (now (bytes .entry)) .edge ⌝ }
 {
     Edge {
-        source: h[1],
-        destination: h[2],
-        mask: h[3],
-        action: action_at(h),
+        source: bytes[layout::EDGE_SOURCE],
+        destination: bytes[layout::EDGE_DESTINATION],
+        mask: bytes[layout::EDGE_MASK],
+        action: action_at(bytes),
     }
-}
-
-// The place of edge e of the component that starts at a place.
-pub fn arc_place(s: &[u8], start: usize, e: u8) -> usize
-    requires { ⌜ Walkable (now s) start e ⌝ }
-    ensures { λ r. ⌜ r ≡ arcPlace (now (s .entry)) start e ⌝ }
-{
-    let mut at = start + 7 + wide(s[start + 2]) * 3;
-    let mut i: u8 = 0;
-    while i < e {
-        at += arc_length(&s[at..]);
-        i += 1;
-    }
-    at
 }

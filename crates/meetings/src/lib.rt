@@ -18,6 +18,7 @@ ghost use Rattle.checks.specs.Faults.{from12, from11};
 ghost use Rattle.meetings.specs.Asked.{numberAsked, metBy, foundBy, concerned12, concerned11, listing, Says};
 use checks::Fault;
 use model::Verdict;
+use model::layout;
 
 // Which of the questions 10 to 12 a passage fails.
 pub enum Question {
@@ -44,10 +45,10 @@ fn nothing(table: Verdict) -> Listed
     }
 }
 
-fn number_of(q: Question) -> u8
-    ensures { λ r. ⌜ r ≡ numberAsked q ⌝ }
+fn number_of(question: Question) -> u8
+    ensures { λ r. ⌜ r ≡ numberAsked question ⌝ }
 {
-    match q {
+    match question {
         Question::Collision => 10,
         Question::Unheard => 11,
         Question::Crowded => 12,
@@ -55,55 +56,70 @@ fn number_of(q: Question) -> u8
 }
 
 // The horizon of a valid table.
-fn horizon(s: &[u8]) -> u32
-    requires { ⌜ Valid (now s) ⌝ }
-    ensures { λ r. ⌜ r ≡ readOf (now (s .entry)) .horizon ⌝ }
+fn horizon(table: &[u8]) -> u32
+    requires { ⌜ Valid (now table) ⌝ }
+    ensures { λ r. ⌜ r ≡ readOf (now (table .entry)) .horizon ⌝ }
 {
-    parts::word_at(s, 5) as u32
+    parts::word_at(table, layout::TABLE_HORIZON) as u32
 }
 
 // Whether row j is one that row i, at fault by that question, meets.
-fn is_met(s: &[u8], l: &[u32], i: usize, j: usize, h: u32, q: Question) -> bool
-    requires { ⌜ RowKnown (now s) (now l) i × RowKnown (now s) (now l) j ⌝ }
-    ensures { λ r. ⌜ r ≡ metBy q (readOf (now (s .entry)) .table) h (rowPassage (now (l .entry)) i) (rowPassage (now (l .entry)) j) ⌝ }
+fn is_met(table: &[u8], rows: &[u32], i: usize, j: usize, horizon: u32, question: Question) -> bool
+    requires { ⌜ RowKnown (now table) (now rows) i × RowKnown (now table) (now rows) j ⌝ }
+    ensures { λ r. ⌜ r ≡ metBy question (readOf (now (table .entry)) .table) horizon (rowPassage (now (rows .entry)) i) (rowPassage (now (rows .entry)) j) ⌝ }
 {
-    match q {
-        Question::Collision => checks::is_met(s, l, i, j, h),
-        Question::Unheard => checks::may_hear(s, l, j, i, rows::row_sent(s, l, i)),
+    match question {
+        Question::Collision => checks::is_met(table, rows, i, j, horizon),
+        Question::Unheard => checks::may_hear(table, rows, j, i, rows::row_sent(table, rows, i)),
         Question::Crowded => {
-            let heard = checks::may_hear(s, l, i, j, rows::row_sent(s, l, j));
-            parts::both(checks::is_send(s, l, j, h), heard)
+            let heard = checks::may_hear(table, rows, i, j, rows::row_sent(table, rows, j));
+            parts::both(checks::is_send(table, rows, j, horizon), heard)
         }
     }
 }
 
-// How many of n rows row i meets.
-fn count_met(s: &[u8], l: &[u32], n: usize, i: usize, h: u32, q: Question) -> usize
-    requires { ⌜ RowsPlaced (now s) (now l) n × (i < n) ⌝ }
-    ensures { λ r. ⌜ (r ≡ length (only (metBy q (readOf (now (s .entry)) .table) h (rowPassage (now (l .entry)) i)) (rowsOf (now (l .entry)) n))) × (r ≤ n) ⌝ }
+// How many of the first `count` rows row i meets.
+fn count_met(
+    table: &[u8],
+    rows: &[u32],
+    count: usize,
+    i: usize,
+    horizon: u32,
+    question: Question,
+) -> usize
+    requires { ⌜ RowsPlaced (now table) (now rows) count × (i < count) ⌝ }
+    ensures { λ r. ⌜ (r ≡ length (only (metBy question (readOf (now (table .entry)) .table) horizon (rowPassage (now (rows .entry)) i)) (rowsOf (now (rows .entry)) count))) × (r ≤ count) ⌝ }
 {
-    let mut count: usize = 0;
+    let mut met: usize = 0;
     let mut j: usize = 0;
-    while j < n {
-        if is_met(s, l, i, j, h, q) {
-            count += 1;
+    while j < count {
+        if is_met(table, rows, i, j, horizon, question) {
+            met += 1;
         }
         j += 1;
     }
-    count
+    met
 }
 
-// Writes row i and those of n rows that it meets; what lies past them stays.
-fn put_met(s: &[u8], l: &[u32], n: usize, i: usize, h: u32, q: Question, list: &mut [u32])
-    requires { ⌜ RowsPlaced (now s) (now l) n × (i < n) × (length (foundBy q (readOf (now s) .table) h (rowsOf (now l) n) (rowPassage (now l) i)) * 7 ≤ length (now list)) ⌝ }
-    ensures { λ _. ⌜ now (list .exit) ≡ each sevenOf (foundBy q (readOf (now (s .entry)) .table) h (rowsOf (now (l .entry)) n) (rowPassage (now (l .entry)) i)) ++ drop (length (foundBy q (readOf (now (s .entry)) .table) h (rowsOf (now (l .entry)) n) (rowPassage (now (l .entry)) i)) * 7) (now (list .entry)) ⌝ }
+// Writes row i and those of the first `count` rows that it meets; what lies past them stays.
+fn put_met(
+    table: &[u8],
+    rows: &[u32],
+    count: usize,
+    i: usize,
+    horizon: u32,
+    question: Question,
+    list: &mut [u32],
+)
+    requires { ⌜ RowsPlaced (now table) (now rows) count × (i < count) × (length (foundBy question (readOf (now table) .table) horizon (rowsOf (now rows) count) (rowPassage (now rows) i)) * 7 ≤ length (now list)) ⌝ }
+    ensures { λ _. ⌜ now (list .exit) ≡ each sevenOf (foundBy question (readOf (now (table .entry)) .table) horizon (rowsOf (now (rows .entry)) count) (rowPassage (now (rows .entry)) i)) ++ drop (length (foundBy question (readOf (now (table .entry)) .table) horizon (rowsOf (now (rows .entry)) count) (rowPassage (now (rows .entry)) i)) * 7) (now (list .entry)) ⌝ }
 {
-    schedule::put_seven(l, i, list, 0);
+    schedule::put_seven(rows, i, list, 0);
     let mut k: usize = 1;
     let mut j: usize = 0;
-    while j < n {
-        if is_met(s, l, i, j, h, q) {
-            schedule::put_seven(l, j, list, k);
+    while j < count {
+        if is_met(table, rows, i, j, horizon, question) {
+            schedule::put_seven(rows, j, list, k);
             k += 1;
         }
         j += 1;
@@ -112,67 +128,73 @@ fn put_met(s: &[u8], l: &[u32], n: usize, i: usize, h: u32, q: Question, list: &
 
 // Row i is at fault by that question.
 fn list_fault(
-    s: &[u8],
-    l: &[u32],
-    n: usize,
+    table: &[u8],
+    rows: &[u32],
+    count: usize,
     i: usize,
-    h: u32,
-    q: Question,
+    horizon: u32,
+    question: Question,
     list: &mut [u32],
 ) -> Listed
-    requires { ⌜ RowsPlaced (now s) (now l) n × (i < n) ⌝ }
-    ensures { λ r. ⌜ Says (listing (Refused (numberAsked q) (num (now (l .entry)) i 0)) (foundBy q (readOf (now (s .entry)) .table) h (rowsOf (now (l .entry)) n) (rowPassage (now (l .entry)) i)) (now (list .entry))) r (now (list .exit)) ⌝ }
+    requires { ⌜ RowsPlaced (now table) (now rows) count × (i < count) ⌝ }
+    ensures { λ r. ⌜ Says (listing (Refused (numberAsked question) (num (now (rows .entry)) i 0)) (foundBy question (readOf (now (table .entry)) .table) horizon (rowsOf (now (rows .entry)) count) (rowPassage (now (rows .entry)) i)) (now (list .entry))) r (now (list .exit)) ⌝ }
 {
-    let size = count_met(s, l, n, i, h, q) + 1;
-    let table = checks::refused(l, number_of(q), i);
-    if list.len() < size * 7 {
+    let size = count_met(table, rows, count, i, horizon, question) + 1;
+    let refusal = checks::refused(rows, number_of(question), i);
+    if list.len() < size * layout::PASSAGE_WIDTH {
         return Listed {
-            table,
+            table: refusal,
             verdict: Verdict::Refused(13, 255),
             size: 0,
         };
     }
-    put_met(s, l, n, i, h, q, list);
+    put_met(table, rows, count, i, horizon, question, list);
     Listed {
-        table,
+        table: refusal,
         verdict: Verdict::Accepted,
         size,
     }
 }
 
 // Question 12.
-fn list_crowded(s: &[u8], l: &[u32], n: usize, h: u32, list: &mut [u32]) -> Listed
-    requires { ⌜ RowsPlaced (now s) (now l) n ⌝ }
-    ensures { λ r. ⌜ Says (listing (verdictOf (from12 (readOf (now (s .entry)) .table) h (rowsOf (now (l .entry)) n))) (concerned12 (readOf (now (s .entry)) .table) h (rowsOf (now (l .entry)) n)) (now (list .entry))) r (now (list .exit)) ⌝ }
+fn list_crowded(table: &[u8], rows: &[u32], count: usize, horizon: u32, list: &mut [u32]) -> Listed
+    requires { ⌜ RowsPlaced (now table) (now rows) count ⌝ }
+    ensures { λ r. ⌜ Says (listing (verdictOf (from12 (readOf (now (table .entry)) .table) horizon (rowsOf (now (rows .entry)) count))) (concerned12 (readOf (now (table .entry)) .table) horizon (rowsOf (now (rows .entry)) count)) (now (list .entry))) r (now (list .exit)) ⌝ }
 {
-    let fault = checks::first_crowded(s, l, n, h);
+    let fault = checks::first_crowded(table, rows, count, horizon);
     match fault {
         Fault::Nothing => nothing(Verdict::Accepted),
-        Fault::At(i) => list_fault(s, l, n, i, h, Question::Crowded, list),
+        Fault::At(i) => list_fault(table, rows, count, i, horizon, Question::Crowded, list),
     }
 }
 
 // Questions 11 and 12.
-fn list_unheard(s: &[u8], l: &[u32], n: usize, h: u32, list: &mut [u32]) -> Listed
-    requires { ⌜ RowsPlaced (now s) (now l) n ⌝ }
-    ensures { λ r. ⌜ Says (listing (verdictOf (from11 (readOf (now (s .entry)) .table) h (rowsOf (now (l .entry)) n))) (concerned11 (readOf (now (s .entry)) .table) h (rowsOf (now (l .entry)) n)) (now (list .entry))) r (now (list .exit)) ⌝ }
+fn list_unheard(table: &[u8], rows: &[u32], count: usize, horizon: u32, list: &mut [u32]) -> Listed
+    requires { ⌜ RowsPlaced (now table) (now rows) count ⌝ }
+    ensures { λ r. ⌜ Says (listing (verdictOf (from11 (readOf (now (table .entry)) .table) horizon (rowsOf (now (rows .entry)) count))) (concerned11 (readOf (now (table .entry)) .table) horizon (rowsOf (now (rows .entry)) count)) (now (list .entry))) r (now (list .exit)) ⌝ }
 {
-    let fault = checks::first_unheard(s, l, n, h);
+    let fault = checks::first_unheard(table, rows, count, horizon);
     match fault {
-        Fault::Nothing => list_crowded(s, l, n, h, list),
-        Fault::At(i) => list_fault(s, l, n, i, h, Question::Unheard, list),
+        Fault::Nothing => list_crowded(table, rows, count, horizon, list),
+        Fault::At(i) => list_fault(table, rows, count, i, horizon, Question::Unheard, list),
     }
 }
 
 // Questions 10, 11, 12, each over the whole schedule before the next.
-fn list_concerned(s: &[u8], l: &[u32], n: usize, h: u32, list: &mut [u32]) -> Listed
-    requires { ⌜ RowsPlaced (now s) (now l) n ⌝ }
-    ensures { λ r. ⌜ Says (listing (verdictOf (checked (readOf (now (s .entry)) .table) h (rowsOf (now (l .entry)) n))) (concerned (readOf (now (s .entry)) .table) h (rowsOf (now (l .entry)) n)) (now (list .entry))) r (now (list .exit)) ⌝ }
+fn list_concerned(
+    table: &[u8],
+    rows: &[u32],
+    count: usize,
+    horizon: u32,
+    list: &mut [u32],
+) -> Listed
+    requires { ⌜ RowsPlaced (now table) (now rows) count ⌝ }
+    ensures { λ r. ⌜ Says (listing (verdictOf (checked (readOf (now (table .entry)) .table) horizon (rowsOf (now (rows .entry)) count))) (concerned (readOf (now (table .entry)) .table) horizon (rowsOf (now (rows .entry)) count)) (now (list .entry))) r (now (list .exit)) ⌝ }
 {
-    let fault = checks::first_collision(s, l, n, h);
+    let fault = checks::first_collision(table, rows, count, horizon);
     match fault {
-        Fault::Nothing => list_unheard(s, l, n, h, list),
-        Fault::At(i) => list_fault(s, l, n, i, h, Question::Collision, list),
+        Fault::Nothing => list_unheard(table, rows, count, horizon, list),
+        Fault::At(i) => list_fault(table, rows, count, i, horizon, Question::Collision, list),
     }
 }
 
@@ -182,13 +204,13 @@ fn list_meetings(table: &[u8], starts: [u16; 8], list: &mut [u32]) -> Listed
     ensures { λ r. ⌜ Says (meetingsCall (now (table .entry)) (now (list .entry))) r (now (list .exit)) ⌝ }
 {
     let mut rows = [0u32; 9216];
-    let r = schedule::schedule_rows(table, starts, &mut rows);
-    let v = r.verdict;
-    match v {
+    let scheduled = schedule::schedule_rows(table, starts, &mut rows);
+    let verdict = scheduled.verdict;
+    match verdict {
         Verdict::Refused(number, component) => nothing(Verdict::Refused(number, component)),
         Verdict::Accepted => {
-            let h = horizon(table);
-            list_concerned(table, &rows, r.count, h, list)
+            let horizon = horizon(table);
+            list_concerned(table, &rows, scheduled.count, horizon, list)
         }
     }
 }
@@ -198,12 +220,12 @@ fn list_meetings(table: &[u8], starts: [u16; 8], list: &mut [u32]) -> Listed
 pub fn meetings(table: &[u8], list: &mut [u32]) -> Listed
     ensures { λ r. ⌜ (r .table ≡ meetingsCall (now (table .entry)) (now (list .entry)) .table) × (r .verdict ≡ meetingsCall (now (table .entry)) (now (list .entry)) .verdict) × (r .size ≡ meetingsCall (now (table .entry)) (now (list .entry)) .size) × (now (list .exit) ≡ meetingsCall (now (table .entry)) (now (list .entry)) .lent) ⌝ }
 {
-    let r = table::read(table);
-    let v = r.verdict;
-    match v {
+    let read = table::read(table);
+    let verdict = read.verdict;
+    match verdict {
         Verdict::Refused(number, component) => nothing(Verdict::Refused(number, component)),
         Verdict::Accepted => {
-            let starts = r.starts;
+            let starts = read.starts;
             list_meetings(table, starts, list)
         }
     }

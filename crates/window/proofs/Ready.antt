@@ -82,6 +82,11 @@ entered bs c start g v k q =
       source = λ e h. omega (arith, all-at noArc (i .arcs) e h .source, i .mostLocations);
     }
 
+-- the first edge's place, from the count of locations
+pub first-place : (bs : List ℕ) (start count : ℕ) → count ≡ byte bs (start + 2) → start + 7 + count * 3 ≡ arcPlace bs start 0
+unfolding arcPlace
+first-place bs start count e = rw e
+
 module _ (bs : List ℕ) (c start : ℕ) (E : Entered bs c start) where
   -- the first edge's place lies in the table
   pub first-within : start + 7 + byte bs (start + 2) * 3 ≤ length bs

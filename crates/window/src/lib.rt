@@ -3,25 +3,25 @@ ghost use mathlib.Core.Path.{_≡_};
 ghost use mathlib.Core.Bool.{cond, _&&_};
 ghost use Prim.Native.Nat.{ℕ, suc, _+_, _-_, _*_, min, max, _≤_, _<_};
 ghost use lib.Dec.{eqb};
-ghost use lib.IntN.{_+ℤ_};
 ghost use lib.Signed.{leZ};
 ghost use lib.ListN.{length};
 ghost use Rattle.model.specs.Lists.{All};
 ghost use Rattle.model.specs.Table.{size};
-ghost use Rattle.model.specs.Reader.{clockGuardAt, dataGuardAt, updateAt, pairAt};
+ghost use Rattle.model.specs.Reader.{clockGuardAt, dataGuardAt, pairAt};
 ghost use Rattle.model.specs.Places.{listAt, arcAt, arcPlace, startOf, Valid, readOf, componentIn};
-ghost use Rattle.model.specs.Window.{readyOf, pastOf, dataWithin, dataHolds, considered, choice, updated, aged, paired, leadsTo, leaves};
+ghost use Rattle.model.specs.Window.{readyOf, pastOf, dataWithin, dataHolds, considered, choice, aged, paired, leadsTo, leaves};
 ghost use Rattle.model.specs.Schedule.{opening};
 ghost use Rattle.window.specs.Indexed.{Indexed};
-ghost use Rattle.window.specs.Views.{entryOf, pickOf, Kept, updatedOf, messageOf, openingOf, ArcReady, Placed, betterOf, newOf};
+ghost use Rattle.window.specs.Views.{entryOf, pickOf, Kept, messageOf, openingOf, ArcReady, Placed, betterOf};
 
 pub mod index;
+pub mod updates;
 
 use model::Action;
 use model::ClockGuard;
 use model::DataGuard;
 use model::Location;
-use model::Update;
+use model::layout;
 
 // A component as it enters a location. The clocks and variables that it lacks stand among the four and are never read.
 pub struct Entry {
@@ -69,16 +69,10 @@ pub enum Opening {
     Fails(u8),
 }
 
-fn wide(x: u8) -> usize
-    ensures { λ r. ⌜ (r ≡ x) × (r < 256) ⌝ }
+fn wide32(number: u16) -> u32
+    ensures { λ r. ⌜ (r ≡ number) × (r < 65536) ⌝ }
 {
-    x as usize
-}
-
-fn wide16(x: u16) -> u32
-    ensures { λ r. ⌜ (r ≡ x) × (r < 65536) ⌝ }
-{
-    x as u32
+    number as u32
 }
 
 // What is left of a after b, or 0.
@@ -101,213 +95,161 @@ fn lesser(a: u32, b: u32) -> u32
 }
 
 // One clock bound narrows a window.
-fn narrowed(w: Delays, g: ClockGuard, x: u32) -> Delays
-    requires { ⌜ (w .ready ≤ 65535) × (w .past ≤ 65536) ⌝ }
-    ensures { λ r. ⌜ (r .ready ≡ max (g .low - x) (w .ready)) × (r .past ≡ cond (eqb (g .high) 65535) (w .past) (min (suc (g .high) - x) (w .past))) × (r .ready ≤ 65535) × (r .past ≤ 65536) ⌝ }
+fn narrowed(delays: Delays, guard: ClockGuard, clock: u32) -> Delays
+    requires { ⌜ (delays .ready ≤ 65535) × (delays .past ≤ 65536) ⌝ }
+    ensures { λ r. ⌜ (r .ready ≡ max (guard .low - clock) (delays .ready)) × (r .past ≡ cond (eqb (guard .high) 65535) (delays .past) (min (suc (guard .high) - clock) (delays .past))) × (r .ready ≤ 65535) × (r .past ≤ 65536) ⌝ }
 {
-    let ready = greater(left_of(wide16(g.low), x), w.ready);
-    if g.high == 65535 {
+    let ready = greater(left_of(wide32(guard.low), clock), delays.ready);
+    if guard.high == 65535 {
         return Delays {
             ready,
-            past: w.past,
+            past: delays.past,
         };
     }
-    let past = lesser(left_of(wide16(g.high) + 1, x), w.past);
+    let past = lesser(left_of(wide32(guard.high) + 1, clock), delays.past);
     Delays { ready, past }
 }
 
-// The window that an invariant and n clock bounds leave; h begins at the first bound.
-pub fn window(h: &[u8], n: u8, l: Location, clocks: [u32; 4]) -> Delays
-    requires { ⌜ (n * 5 ≤ length (now h)) × (l .clock < 4) × All (λ g. g .clock < 4) (listAt clockGuardAt 5 n (now h)) ⌝ }
-    ensures { λ r. ⌜ (r .ready ≡ readyOf (listAt clockGuardAt 5 n (now (h .entry))) clocks) × (r .past ≡ pastOf l (listAt clockGuardAt 5 n (now (h .entry))) clocks) × (r .ready ≤ 65535) × (r .past ≤ 65536) ⌝ }
+// The window that an invariant and `count` clock bounds leave; `guards` begins at the first bound.
+pub fn window(guards: &[u8], count: u8, location: Location, clocks: [u32; 4]) -> Delays
+    requires { ⌜ (count * 5 ≤ length (now guards)) × (location .clock < 4) × All (λ g. g .clock < 4) (listAt clockGuardAt 5 count (now guards)) ⌝ }
+    ensures { λ r. ⌜ (r .ready ≡ readyOf (listAt clockGuardAt 5 count (now (guards .entry))) clocks) × (r .past ≡ pastOf location (listAt clockGuardAt 5 count (now (guards .entry))) clocks) × (r .ready ≤ 65535) × (r .past ≤ 65536) ⌝ }
 {
-    let i = wide(l.clock);
-    let mut w = Delays {
+    let i = parts::wide(location.clock);
+    let mut delays = Delays {
         ready: 0,
-        past: left_of(wide16(l.bound) + 1, clocks[i]),
+        past: left_of(wide32(location.bound) + 1, clocks[i]),
     };
     let mut at: usize = 0;
-    let mut k = n;
+    let mut k = count;
     while 0 < k {
-        let g = decoder::clock_guard_at(&h[at..]);
-        let j = wide(g.clock);
-        w = narrowed(w, g, clocks[j]);
-        at += 5;
+        let guard = decoder::clock_guard_at(&guards[at..]);
+        let j = parts::wide(guard.clock);
+        delays = narrowed(delays, guard, clocks[j]);
+        at += layout::GUARD_WIDTH;
         k -= 1;
     }
-    w
+    delays
 }
 
-fn within(x: i16, low: i16, high: i16) -> bool
-    ensures { λ r. ⌜ r ≡ leZ low x && leZ x high ⌝ }
+fn within(value: i16, low: i16, high: i16) -> bool
+    ensures { λ r. ⌜ r ≡ leZ low value && leZ value high ⌝ }
 {
-    parts::both(low <= x, x <= high)
+    parts::both(low <= value, value <= high)
 }
 
 // Whether a data bound holds.
-fn data_within(g: DataGuard, values: [i16; 4]) -> bool
-    requires { ⌜ g .variable < 4 ⌝ }
-    ensures { λ r. ⌜ r ≡ dataWithin g values ⌝ }
+fn data_within(guard: DataGuard, values: [i16; 4]) -> bool
+    requires { ⌜ guard .variable < 4 ⌝ }
+    ensures { λ r. ⌜ r ≡ dataWithin guard values ⌝ }
 {
-    let i = wide(g.variable);
-    within(values[i], g.low, g.high)
+    let i = parts::wide(guard.variable);
+    within(values[i], guard.low, guard.high)
 }
 
-// Whether n data bounds hold; h begins at the first bound.
-pub fn data_hold(h: &[u8], n: u8, values: [i16; 4]) -> bool
-    requires { ⌜ (n * 5 ≤ length (now h)) × All (λ g. g .variable < 4) (listAt dataGuardAt 5 n (now h)) ⌝ }
-    ensures { λ r. ⌜ r ≡ dataHolds (listAt dataGuardAt 5 n (now (h .entry))) values ⌝ }
+// Whether `count` data bounds hold; `guards` begins at the first bound.
+pub fn data_hold(guards: &[u8], count: u8, values: [i16; 4]) -> bool
+    requires { ⌜ (count * 5 ≤ length (now guards)) × All (λ g. g .variable < 4) (listAt dataGuardAt 5 count (now guards)) ⌝ }
+    ensures { λ r. ⌜ r ≡ dataHolds (listAt dataGuardAt 5 count (now (guards .entry))) values ⌝ }
 {
     let mut at: usize = 0;
-    let mut k = n;
+    let mut k = count;
     while 0 < k {
-        let g = decoder::data_guard_at(&h[at..]);
-        if !data_within(g, values) {
+        let guard = decoder::data_guard_at(&guards[at..]);
+        if !data_within(guard, values) {
             return false;
         }
-        at += 5;
+        at += layout::GUARD_WIDTH;
         k -= 1;
     }
     true
 }
 
 // The earlier of two, on a tie the first.
-fn better(best: Choice, t: Choice) -> Choice
-    ensures { λ r. ⌜ r ≡ betterOf best t ⌝ }
+fn better(best: Choice, candidate: Choice) -> Choice
+    ensures { λ r. ⌜ r ≡ betterOf best candidate ⌝ }
 {
-    if t.ready < best.ready { t } else { best }
+    if candidate.ready < best.ready {
+        candidate
+    } else {
+        best
+    }
 }
 
-// The edge at the front of h, number e, at that place in the table: it replaces the best so far, or it does not.
-fn considered_edge(h: &[u8], e: u8, place: usize, l: Location, at: Entry, best: Choice) -> Choice
-    requires { ⌜ ArcReady (now h) × (l .clock < 4) ⌝ }
-    ensures picks { λ r. ⌜ pickOf r ≡ considered l (at .location) (at .clocks) (at .values) e (arcAt (now (h .entry))) (pickOf best) ⌝ }
+// The edge at the front of the bytes, number e, at that place in the table: it replaces the best so far, or it does not.
+fn considered_edge(
+    bytes: &[u8],
+    e: u8,
+    place: usize,
+    location: Location,
+    at: Entry,
+    best: Choice,
+) -> Choice
+    requires { ⌜ ArcReady (now bytes) × (location .clock < 4) ⌝ }
+    ensures picks { λ r. ⌜ pickOf r ≡ considered location (at .location) (at .clocks) (at .values) e (arcAt (now (bytes .entry))) (pickOf best) ⌝ }
     ensures keeps { λ r. ⌜ ((f : ℕ → ℕ) → f e ≡ place → Kept f best → Kept f r) ⌝ }
 {
-    let edge = decoder::edge_at(h);
+    let edge = decoder::edge_at(bytes);
     if edge.source != at.location {
         return best;
     }
-    let first = 7 + wide(h[4]) * 5;
+    let first = layout::EDGE_HEADER
+        + parts::wide(bytes[layout::EDGE_CLOCK_GUARDS]) * layout::GUARD_WIDTH;
     let values = at.values;
-    if !data_hold(&h[first..], h[5], values) {
+    if !data_hold(&bytes[first..], bytes[layout::EDGE_DATA_GUARDS], values) {
         return best;
     }
     let clocks = at.clocks;
-    let w = window(&h[7..], h[4], l, clocks);
-    if w.past <= w.ready + 1 {
+    let delays = window(
+        &bytes[layout::EDGE_HEADER..],
+        bytes[layout::EDGE_CLOCK_GUARDS],
+        location,
+        clocks,
+    );
+    if delays.past <= delays.ready + 1 {
         return best;
     }
-    let t = Choice {
-        edge: wide(e),
+    let candidate = Choice {
+        edge: parts::wide(e),
         place,
-        ready: w.ready,
-        end: w.past - 1,
+        ready: delays.ready,
+        end: delays.past - 1,
     };
-    better(best, t)
+    better(best, candidate)
 }
 
 // The edge that component c, which starts there in the table, takes as it enters: of those that leave its location, found by the index.
-pub fn choose(s: &[u8], start: usize, c: u8, at: Entry, index: &[u16]) -> Choice
-    requires { ⌜ Valid (now s) × (c < size (readOf (now s) .table)) × (start ≡ startOf (now s) c) × (at .location < length (componentIn (now s) c .locations)) × Indexed (now s) (now index) c start ⌝ }
-    ensures picks { λ r. ⌜ pickOf r ≡ choice (componentIn (now (s .entry)) c) (entryOf at) ⌝ }
-    ensures keeps { λ r. ⌜ Kept (arcPlace (now (s .entry)) start) r ⌝ }
+pub fn choose(table: &[u8], start: usize, c: u8, at: Entry, index: &[u16]) -> Choice
+    requires { ⌜ Valid (now table) × (c < size (readOf (now table) .table)) × (start ≡ startOf (now table) c) × (at .location < length (componentIn (now table) c .locations)) × Indexed (now table) (now index) c start ⌝ }
+    ensures picks { λ r. ⌜ pickOf r ≡ choice (componentIn (now (table .entry)) c) (entryOf at) ⌝ }
+    ensures keeps { λ r. ⌜ Kept (arcPlace (now (table .entry)) start) r ⌝ }
 {
-    let n = wide(s[start + 6]);
-    let there = start + 7 + wide(at.location) * 3;
-    let l = decoder::location_at(&s[there..]);
-    let from = wide(c) * 80;
+    let count = parts::wide(table[start + layout::COMPONENT_EDGES]);
+    let there = start
+        + layout::COMPONENT_HEADER
+        + parts::wide(at.location) * layout::LOCATION_WIDTH;
+    let location = decoder::location_at(&table[there..]);
+    let from = parts::wide(c) * index::COMPONENT_WIDTH;
     let mut best = Choice {
         edge: 0,
         place: 0,
         ready: 65536,
         end: 0,
     };
-    let mut e = index[from + wide(at.location)] as usize;
-    while e < n {
-        let place = index[from + 48 + e] as usize;
-        best = considered_edge(&s[place..], e as u8, place, l, at, best);
-        e = index[from + 16 + e] as usize;
+    let mut e = index[from + parts::wide(at.location)] as usize;
+    while e < count {
+        let place = index[from + index::PLACE + e] as usize;
+        best = considered_edge(&table[place..], e as u8, place, location, at, best);
+        e = index[from + index::NEXT + e] as usize;
     }
     best
 }
 
-// A sum, tested in 32 bits.
-fn add(x: i16, k: i16) -> NewValue
-    ensures { λ r. ⌜ r ≡ newOf (x +ℤ k) ⌝ }
+fn aged_clock(bit: u8, grown: u32, clock: u32) -> u32
+    requires { ⌜ (grown ≤ 1000000) × (clock ≤ 1000000) ⌝ }
+    ensures { λ r. ⌜ r ≡ cond (eqb bit 1) 0 (clock + grown) ⌝ }
 {
-    let z = (x as i32) + (k as i32);
-    if parts::both(-32768 <= z, z <= 32767) {
-        NewValue::Fits(z as i16)
-    } else {
-        NewValue::Out
-    }
-}
-
-// The value that an update gives a variable of value x.
-fn new_value(u: Update, x: i16) -> NewValue
-    ensures { λ r. ⌜ r ≡ newOf (cond (u .adds) (x +ℤ u .number) (u .number)) ⌝ }
-{
-    if u.adds {
-        add(x, u.number)
-    } else {
-        NewValue::Fits(u.number)
-    }
-}
-
-// n updates in order, sums tested in 32 bits before they are stored; h begins at the first update.
-pub fn update(h: &[u8], n: u8, values: [i16; 4]) -> Updated
-    requires { ⌜ (n * 4 ≤ length (now h)) × All (λ u. u .variable < 4) (listAt updateAt 4 n (now h)) ⌝ }
-    ensures { λ r. ⌜ updatedOf r ≡ updated (listAt updateAt 4 n (now (h .entry))) values ⌝ }
-{
-    let mut v = values;
-    let mut at: usize = 0;
-    let mut k = n;
-    while 0 < k {
-        let u = decoder::update_at(&h[at..]);
-        let i = wide(u.variable);
-        let x = new_value(u, v[i]);
-        match x {
-            NewValue::Out => {
-                return Updated {
-                    fits: false,
-                    values: v,
-                };
-            }
-            NewValue::Fits(z) => {
-                v[i] = z;
-            }
-        }
-        at += 4;
-        k -= 1;
-    }
-    Updated {
-        fits: true,
-        values: v,
-    }
-}
-
-// The updates of the edge at the front of h (only an internal edge has some).
-pub fn edge_update(h: &[u8], values: [i16; 4]) -> Updated
-    requires { ⌜ ArcReady (now h) ⌝ }
-    ensures { λ r. ⌜ updatedOf r ≡ updated (arcAt (now (h .entry)) .updates) values ⌝ }
-{
-    let action = decoder::action_at(h);
-    match action {
-        Action::Internal => {
-            let items = decoder::items_place(h);
-            update(&h[items..], h[6], values)
-        }
-        Action::Send(_) => Updated { fits: true, values },
-        Action::Receive => Updated { fits: true, values },
-    }
-}
-
-fn aged_clock(bit: u8, grown: u32, x: u32) -> u32
-    requires { ⌜ (grown ≤ 1000000) × (x ≤ 1000000) ⌝ }
-    ensures { λ r. ⌜ r ≡ cond (eqb bit 1) 0 (x + grown) ⌝ }
-{
-    if bit == 1 { 0 } else { x + grown }
+    if bit == 1 { 0 } else { clock + grown }
 }
 
 // Masked clocks become 0, the others grow.
@@ -323,30 +265,30 @@ pub fn age(mask: u8, grown: u32, clocks: [u32; 4]) -> [u32; 4]
     ]
 }
 
-// The location that n pairs have for a channel, else another; h begins at the first pair.
-pub fn paired_location(h: &[u8], n: u8, channel: u8, other: u8) -> u8
-    requires { ⌜ n * 2 ≤ length (now h) ⌝ }
-    ensures { λ r. ⌜ r ≡ paired (listAt pairAt 2 n (now (h .entry))) channel other ⌝ }
+// The location that `count` pairs have for a channel, else another; `pairs` begins at the first pair.
+pub fn paired_location(pairs: &[u8], count: u8, channel: u8, other: u8) -> u8
+    requires { ⌜ count * 2 ≤ length (now pairs) ⌝ }
+    ensures { λ r. ⌜ r ≡ paired (listAt pairAt 2 count (now (pairs .entry))) channel other ⌝ }
 {
     let mut at: usize = 0;
-    let mut k = n;
+    let mut k = count;
     while 0 < k {
-        let pair = decoder::pair_at(&h[at..]);
+        let pair = decoder::pair_at(&pairs[at..]);
         if pair.channel == channel {
             return pair.location;
         }
-        at += 2;
+        at += layout::PAIR_WIDTH;
         k -= 1;
     }
     other
 }
 
-// Where the edge at the front of h leads with a message (255: none).
-pub fn leads_to(h: &[u8], message: u8) -> u8
-    requires { ⌜ ArcReady (now h) ⌝ }
-    ensures { λ r. ⌜ r ≡ leadsTo (arcAt (now (h .entry))) (messageOf message) ⌝ }
+// Where the edge at the front of the bytes leads with a message (255: none).
+pub fn leads_to(bytes: &[u8], message: u8) -> u8
+    requires { ⌜ ArcReady (now bytes) ⌝ }
+    ensures { λ r. ⌜ r ≡ leadsTo (arcAt (now (bytes .entry))) (messageOf message) ⌝ }
 {
-    let edge = decoder::edge_at(h);
+    let edge = decoder::edge_at(bytes);
     if message == 255 {
         return edge.destination;
     }
@@ -355,32 +297,37 @@ pub fn leads_to(h: &[u8], message: u8) -> u8
         Action::Internal => edge.destination,
         Action::Send(_) => edge.destination,
         Action::Receive => {
-            let items = decoder::items_place(h);
-            paired_location(&h[items..], h[6], message, edge.destination)
+            let items = decoder::items_place(bytes);
+            paired_location(
+                &bytes[items..],
+                bytes[layout::EDGE_ITEMS],
+                message,
+                edge.destination,
+            )
         }
     }
 }
 
 // The variables after updates that fit, else those before.
-fn kept_values(u: Updated, values: [i16; 4]) -> [i16; 4]
-    ensures { λ r. ⌜ r ≡ cond (u .fits) (u .values) values ⌝ }
+fn kept_values(after: Updated, values: [i16; 4]) -> [i16; 4]
+    ensures { λ r. ⌜ r ≡ cond (after .fits) (after .values) values ⌝ }
 {
-    if u.fits { u.values } else { values }
+    if after.fits { after.values } else { values }
 }
 
-// The entry that a passage over the edge at the front of h leads to, at the tick `end`.
-pub fn leave(h: &[u8], message: u8, end: u32, at: Entry) -> Entry
-    requires { ⌜ ArcReady (now h) × (at .tick ≤ end) × (end ≤ 1000000) × All (λ x. x ≤ at .tick) (at .clocks) ⌝ }
-    ensures leads { λ r. ⌜ entryOf r ≡ leaves (arcAt (now (h .entry))) (messageOf message) end (entryOf at) ⌝ }
+// The entry that a passage over the edge at the front of the bytes leads to, at the tick `end`.
+pub fn leave(bytes: &[u8], message: u8, end: u32, at: Entry) -> Entry
+    requires { ⌜ ArcReady (now bytes) × (at .tick ≤ end) × (end ≤ 1000000) × All (λ x. x ≤ at .tick) (at .clocks) ⌝ }
+    ensures leads { λ r. ⌜ entryOf r ≡ leaves (arcAt (now (bytes .entry))) (messageOf message) end (entryOf at) ⌝ }
     ensures young { λ r. ⌜ All (λ x. x ≤ end) (r .clocks) ⌝ }
 {
     let before = at.values;
-    let values = kept_values(edge_update(h, before), before);
+    let values = kept_values(updates::edge_update(bytes, before), before);
     let young = at.clocks;
-    let edge = decoder::edge_at(h);
+    let edge = decoder::edge_at(bytes);
     let clocks = age(edge.mask, end - at.tick, young);
     Entry {
-        location: leads_to(h, message),
+        location: leads_to(bytes, message),
         tick: end,
         clocks,
         values,
@@ -388,25 +335,25 @@ pub fn leave(h: &[u8], message: u8, end: u32, at: Entry) -> Entry
 }
 
 // Checks 8 and 9: the passage that component c opens as it enters.
-pub fn open(s: &[u8], start: usize, c: u8, at: Entry, index: &[u16]) -> Opening
-    requires { ⌜ Valid (now s) × (c < size (readOf (now s) .table)) × (start ≡ startOf (now s) c) × (at .location < length (componentIn (now s) c .locations)) × Indexed (now s) (now index) c start ⌝ }
-    ensures opens { λ r. ⌜ openingOf c (componentIn (now (s .entry)) c) (entryOf at) r ≡ opening c (componentIn (now (s .entry)) c) (entryOf at) ⌝ }
-    ensures placed { λ r. ⌜ Placed (now (s .entry)) start c r ⌝ }
+pub fn open(table: &[u8], start: usize, c: u8, at: Entry, index: &[u16]) -> Opening
+    requires { ⌜ Valid (now table) × (c < size (readOf (now table) .table)) × (start ≡ startOf (now table) c) × (at .location < length (componentIn (now table) c .locations)) × Indexed (now table) (now index) c start ⌝ }
+    ensures opens { λ r. ⌜ openingOf c (componentIn (now (table .entry)) c) (entryOf at) r ≡ opening c (componentIn (now (table .entry)) c) (entryOf at) ⌝ }
+    ensures placed { λ r. ⌜ Placed (now (table .entry)) start c r ⌝ }
 {
-    let r = choose(s, start, c, at, index);
-    if 65535 < r.ready {
+    let chosen = choose(table, start, c, at, index);
+    if 65535 < chosen.ready {
         return Opening::Fails(8);
     }
-    let place = r.place;
+    let place = chosen.place;
     let values = at.values;
-    let u = edge_update(&s[place..], values);
-    if !u.fits {
+    let after = updates::edge_update(&table[place..], values);
+    if !after.fits {
         return Opening::Fails(9);
     }
     Opening::Opens(TakenEdge {
-        edge: r.edge as u8,
+        edge: chosen.edge as u8,
         place,
-        ready: r.ready,
-        end: r.end,
+        ready: chosen.ready,
+        end: chosen.end,
     })
 }

@@ -22,15 +22,15 @@ items-place-requires c κs = search needs
 
 shared-slice-read-t8 : tie.Need-shared-slice-read-t8
 shared-slice-read-t8 c =
-    let h = c .before .before .before .before .before .before .args .h .now in omega (arith, c .before .items-place .ensures, send-length (getD h 0 0) (getD h 6 0) (c .before .before .if2 .taken))
+    let h = c .before .before .before .before .before .before .args .bytes .now in omega (arith, c .before .items-place .ensures, send-length (getD h 0 0) (getD h 6 0) (c .before .before .if2 .taken))
 
 returns-2 : tie.Need-returns-2
 unfolding arcAt
-returns-2 c = let h = c .before .before .before .before .before .before .args .h .now in rw (c .before .before .if2 .taken) (ap (λ (i : ℕ). Send (getD h i 0)) (c .before .items-place .ensures))
+returns-2 c = let h = c .before .before .before .before .before .before .args .bytes .now in rw (c .before .before .if2 .taken) (ap (λ (i : ℕ). Send (getD h i 0)) (c .before .items-place .ensures))
 
 returns-3 : tie.Need-returns-3
 unfolding arcAt
-returns-3 c = let h = c .before .before .before .before .args .h .now in sym (receive-action (getD h 0 0) (getD h (itemsPlace h) 0) (c .before .if1 .left) (c .if2 .left))
+returns-3 c = let h = c .before .before .before .before .args .bytes .now in sym (receive-action (getD h 0 0) (getD h (itemsPlace h) 0) (c .before .if1 .left) (c .if2 .left))
 
 pub action-at-spec : {M : Type 1} → statement M
 action-at-spec =

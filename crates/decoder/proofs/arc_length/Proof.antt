@@ -20,7 +20,7 @@ items-length-requires c κs = search needs
 
 add-result : tie.Need-add-result
 add-result c =
-    let h = c .before .before .before .before .before .args .h .now in
+    let h = c .before .before .before .before .before .args .bytes .now in
     let g = c .before .before .before .before .shared-slice-known .given in
     omega (arith, c .before .before .before .items-place .ensures, c .items-length .ensures, g 4, g 5, few (getD h 0 0) (getD h 6 0) (omega (arith, g 6)))
 

@@ -12,7 +12,7 @@ mul-result : tie.Need-mul-result
 mul-result c = search needs
 
 returns : tie.Need-returns
-returns c = rw (c .wide .ensures .0) (sym (internal-length (c .before .before .args .kind) (c .before .before .args .n) (c .before .if1 .taken)))
+returns c = rw (c .wide .ensures .0) (sym (internal-length (c .before .before .args .kind) (c .before .before .args .count) (c .before .if1 .taken)))
 
 returns-2 : tie.Need-returns-2
 returns-2 c = search needs
@@ -24,7 +24,7 @@ mul-result-2 : tie.Need-mul-result-2
 mul-result-2 c = search needs
 
 returns-3 : tie.Need-returns-3
-returns-3 c = rw (c .wide2 .ensures .0) (sym (receive-length (c .before .before .before .args .kind) (c .before .before .before .args .n) (c .before .before .if1 .left) (c .before .if2 .left)))
+returns-3 c = rw (c .wide2 .ensures .0) (sym (receive-length (c .before .before .before .args .kind) (c .before .before .before .args .count) (c .before .before .if1 .left) (c .before .if2 .left)))
 
 pub items-length-spec : {M : Type 1} → statement M
 items-length-spec =

@@ -54,17 +54,17 @@ cast-result-2 : tie.Need-cast-result-2
 cast-result-2 c = search needs
 
 sub-result : tie.Need-sub-result
-sub-result c = let h : c .before .args .x < 65536 = omega arith in search (needs, fits32)
+sub-result c = let h : c .before .args .number < 65536 = omega arith in search (needs, fits32)
 
 cast-result-3 : tie.Need-cast-result-3
-cast-result-3 c = let h : c .before .args .x < 65536 = omega arith in search (needs, fits16)
+cast-result-3 c = let h : c .before .args .number < 65536 = omega arith in search (needs, fits16)
 
 returns : tie.Need-returns
-returns c = rw (toZ-pos w16 (c .before .args .x) (c .if1 .taken), lt-ltb (c .before .args .x) 32768 (c .if1 .taken))
+returns c = rw (toZ-pos w16 (c .before .args .number) (c .if1 .taken), lt-ltb (c .before .args .number) 32768 (c .if1 .taken))
 
 returns-2 : tie.Need-returns-2
 returns-2 c =
-    let x = c .before .args .x in
+    let x = c .before .args .number in
     same 65536 x (omega arith) (c .if1 .left) (omega arith) (omega arith) ∙ rw (le-ltb x 32768 (c .if1 .left)) (down x (omega arith))
 
 pub signed-spec : {M : Type 1} → statement M

@@ -28,7 +28,7 @@ list-fault-requires : tie.Need-list-fault-requires
 list-fault-requires c κs =
     let e = c .before .before .before .before .before .before .before .before in
     let a = e .args in
-    let below : c .before .before .fault .given .0 .0 < a .n = subst (FaultBelow (a .n)) (c .before .before .fault .given .1) (c .before .before .before .before .first-collision .ensures .1) in
+    let below : c .before .before .fault .given .0 .0 < a .count = subst (FaultBelow (a .count)) (c .before .before .fault .given .1) (c .before .before .before .before .first-collision .ensures .1) in
     (e .pre, below)
 
 same-length : tie.Need-same-length
@@ -38,9 +38,9 @@ returns : tie.Need-returns
 unfolding checked concerned
 returns c =
     let a = c .before .before .before .before .before .before .before .before .before .before .args in
-    let T = readOf (a .s .now) .table in
-    let S = rowsOf (a .l .now) (a .n) in
-    passed (collides T (a .h) S) S (a .l .now) (c .before .before .before .before .before .before .first-collision .result) (c .before .before .before .before .before .before .first-collision .ensures .0) 10 (sendsMet T (a .h) S) (from11 T (a .h) S) (concerned11 T (a .h) S) (a .list .now) (c .before .before .list-unheard .result) _ (c .before .before .before .before .enum-told .given .1) (c .before .before .list-unheard .ensures)
+    let T = readOf (a .table .now) .table in
+    let S = rowsOf (a .rows .now) (a .count) in
+    passed (collides T (a .horizon) S) S (a .rows .now) (c .before .before .before .before .before .before .first-collision .result) (c .before .before .before .before .before .before .first-collision .ensures .0) 10 (sendsMet T (a .horizon) S) (from11 T (a .horizon) S) (concerned11 T (a .horizon) S) (a .list .now) (c .before .before .list-unheard .result) _ (c .before .before .before .before .enum-told .given .1) (c .before .before .list-unheard .ensures)
 
 same-length-2 : tie.Need-same-length-2
 same-length-2 c = search needs
@@ -49,9 +49,9 @@ returns-2 : tie.Need-returns-2
 unfolding checked concerned
 returns-2 c =
     let a = c .before .before .before .before .before .before .before .before .before .before .before .args in
-    let T = readOf (a .s .now) .table in
-    let S = rowsOf (a .l .now) (a .n) in
-    failed (collides T (a .h) S) S (a .l .now) (c .before .before .before .before .before .before .before .first-collision .result) (c .before .before .before .before .before .before .before .first-collision .ensures .0) 10 (sendsMet T (a .h) S) (from11 T (a .h) S) (concerned11 T (a .h) S) (a .list .now) (c .before .before .list-fault .result) _ (c .before .before .before .before .before .fault .given .0 .0) (c .before .before .before .before .before .fault .given .1) (c .before .before .list-fault .ensures)
+    let T = readOf (a .table .now) .table in
+    let S = rowsOf (a .rows .now) (a .count) in
+    failed (collides T (a .horizon) S) S (a .rows .now) (c .before .before .before .before .before .before .before .first-collision .result) (c .before .before .before .before .before .before .before .first-collision .ensures .0) 10 (sendsMet T (a .horizon) S) (from11 T (a .horizon) S) (concerned11 T (a .horizon) S) (a .list .now) (c .before .before .list-fault .result) _ (c .before .before .before .before .before .fault .given .0 .0) (c .before .before .before .before .before .fault .given .1) (c .before .before .list-fault .ensures)
 
 pub list-concerned-spec : {M : Type 1} → statement M
 list-concerned-spec =

@@ -30,15 +30,15 @@ list-fault-requires : tie.Need-list-fault-requires
 list-fault-requires c κs =
     let e = c .before .before .before .before .before .before .before .before in
     let a = e .args in
-    let below : c .before .before .fault .given .0 .0 < a .n = subst (FaultBelow (a .n)) (c .before .before .fault .given .1) (c .before .before .before .before .first-crowded .ensures .1) in
+    let below : c .before .before .fault .given .0 .0 < a .count = subst (FaultBelow (a .count)) (c .before .before .fault .given .1) (c .before .before .before .before .first-crowded .ensures .1) in
     (e .pre, below)
 
 returns : tie.Need-returns
 returns c =
     let a = c .before .before .before .before .before .before .before .args in
-    let T = readOf (a .s .now) .table in
-    let S = rowsOf (a .l .now) (a .n) in
-    passed (crowded T (a .h) S) S (a .l .now) (c .before .before .before .first-crowded .result) (c .before .before .before .first-crowded .ensures .0) 12 (sendsHeard T (a .h) S) (accepted S) [] (a .list .now) (c .nothing .result) _ (c .before .enum-told .given .1) (says-none Accepted (a .list .now) (c .nothing .result) (c .nothing .ensures .0) (c .nothing .ensures .1) (c .nothing .ensures .2))
+    let T = readOf (a .table .now) .table in
+    let S = rowsOf (a .rows .now) (a .count) in
+    passed (crowded T (a .horizon) S) S (a .rows .now) (c .before .before .before .first-crowded .result) (c .before .before .before .first-crowded .ensures .0) 12 (sendsHeard T (a .horizon) S) (accepted S) [] (a .list .now) (c .nothing .result) _ (c .before .enum-told .given .1) (says-none Accepted (a .list .now) (c .nothing .result) (c .nothing .ensures .0) (c .nothing .ensures .1) (c .nothing .ensures .2))
 
 same-length : tie.Need-same-length
 same-length c = search needs
@@ -46,9 +46,9 @@ same-length c = search needs
 returns-2 : tie.Need-returns-2
 returns-2 c =
     let a = c .before .before .before .before .before .before .before .before .before .before .before .args in
-    let T = readOf (a .s .now) .table in
-    let S = rowsOf (a .l .now) (a .n) in
-    failed (crowded T (a .h) S) S (a .l .now) (c .before .before .before .before .before .before .before .first-crowded .result) (c .before .before .before .before .before .before .before .first-crowded .ensures .0) 12 (sendsHeard T (a .h) S) (accepted S) ([]) (a .list .now) (c .before .before .list-fault .result) _ (c .before .before .before .before .before .fault .given .0 .0) (c .before .before .before .before .before .fault .given .1) (c .before .before .list-fault .ensures)
+    let T = readOf (a .table .now) .table in
+    let S = rowsOf (a .rows .now) (a .count) in
+    failed (crowded T (a .horizon) S) S (a .rows .now) (c .before .before .before .before .before .before .before .first-crowded .result) (c .before .before .before .before .before .before .before .first-crowded .ensures .0) 12 (sendsHeard T (a .horizon) S) (accepted S) ([]) (a .list .now) (c .before .before .list-fault .result) _ (c .before .before .before .before .before .fault .given .0 .0) (c .before .before .before .before .before .fault .given .1) (c .before .before .list-fault .ensures)
 
 pub list-crowded-spec : {M : Type 1} → statement M
 list-crowded-spec =

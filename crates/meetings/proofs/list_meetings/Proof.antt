@@ -14,8 +14,8 @@ slice-aggregate-schedule-rows c = search needs
 schedule-rows-requires : tie.Need-schedule-rows-requires
 schedule-rows-requires c κs = search needs
 
-enum-known-v : tie.Need-enum-known-v
-enum-known-v c = search needs
+enum-known-verdict : tie.Need-enum-known-verdict
+enum-known-verdict c = search needs
 
 nothing-requires : tie.Need-nothing-requires
 nothing-requires c κs = search needs
@@ -39,7 +39,7 @@ returns c =
     let e = c .before .before .before .before .before .before .before .before .before in
     let a = e .args in
     let r = c .before .before .before .before .before .schedule-rows in
-    subst (λ (k : MeetingsCall). Says k (c .nothing .result) (a .list .now)) (sym (scheduled-not (a .table .now) (a .list .now) (e .pre .0) (r .result) (r .last .1 .1 .0) (r .ensures) (c .before .before .v .given .1)))
+    subst (λ (k : MeetingsCall). Says k (c .nothing .result) (a .list .now)) (sym (scheduled-not (a .table .now) (a .list .now) (e .pre .0) (r .result) (r .last .1 .1 .0) (r .ensures) (c .before .before .verdict .given .1)))
     (says-none _ (a .list .now) (c .nothing .result) (c .nothing .ensures .0) (c .nothing .ensures .1) (c .nothing .ensures .2))
 
 same-length : tie.Need-same-length
@@ -59,7 +59,7 @@ list-meetings-spec =
     (tie.spec
     slice-aggregate-schedule-rows
     schedule-rows-requires
-    enum-known-v
+    enum-known-verdict
     nothing-requires
     enum-told
     horizon-requires

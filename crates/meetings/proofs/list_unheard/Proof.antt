@@ -28,7 +28,7 @@ list-fault-requires : tie.Need-list-fault-requires
 list-fault-requires c κs =
     let e = c .before .before .before .before .before .before .before .before in
     let a = e .args in
-    let below : c .before .before .fault .given .0 .0 < a .n = subst (FaultBelow (a .n)) (c .before .before .fault .given .1) (c .before .before .before .before .first-unheard .ensures .1) in
+    let below : c .before .before .fault .given .0 .0 < a .count = subst (FaultBelow (a .count)) (c .before .before .fault .given .1) (c .before .before .before .before .first-unheard .ensures .1) in
     (e .pre, below)
 
 same-length : tie.Need-same-length
@@ -37,9 +37,9 @@ same-length c = search needs
 returns : tie.Need-returns
 returns c =
     let a = c .before .before .before .before .before .before .before .before .before .before .args in
-    let T = readOf (a .s .now) .table in
-    let S = rowsOf (a .l .now) (a .n) in
-    passed (unheard T (a .h) S) S (a .l .now) (c .before .before .before .before .before .before .first-unheard .result) (c .before .before .before .before .before .before .first-unheard .ensures .0) 11 (listenersMet T S) (from12 T (a .h) S) (concerned12 T (a .h) S) (a .list .now) (c .before .before .list-crowded .result) _ (c .before .before .before .before .enum-told .given .1) (c .before .before .list-crowded .ensures)
+    let T = readOf (a .table .now) .table in
+    let S = rowsOf (a .rows .now) (a .count) in
+    passed (unheard T (a .horizon) S) S (a .rows .now) (c .before .before .before .before .before .before .first-unheard .result) (c .before .before .before .before .before .before .first-unheard .ensures .0) 11 (listenersMet T S) (from12 T (a .horizon) S) (concerned12 T (a .horizon) S) (a .list .now) (c .before .before .list-crowded .result) _ (c .before .before .before .before .enum-told .given .1) (c .before .before .list-crowded .ensures)
 
 same-length-2 : tie.Need-same-length-2
 same-length-2 c = search needs
@@ -47,9 +47,9 @@ same-length-2 c = search needs
 returns-2 : tie.Need-returns-2
 returns-2 c =
     let a = c .before .before .before .before .before .before .before .before .before .before .before .args in
-    let T = readOf (a .s .now) .table in
-    let S = rowsOf (a .l .now) (a .n) in
-    failed (unheard T (a .h) S) S (a .l .now) (c .before .before .before .before .before .before .before .first-unheard .result) (c .before .before .before .before .before .before .before .first-unheard .ensures .0) 11 (listenersMet T S) (from12 T (a .h) S) (concerned12 T (a .h) S) (a .list .now) (c .before .before .list-fault .result) _ (c .before .before .before .before .before .fault .given .0 .0) (c .before .before .before .before .before .fault .given .1) (c .before .before .list-fault .ensures)
+    let T = readOf (a .table .now) .table in
+    let S = rowsOf (a .rows .now) (a .count) in
+    failed (unheard T (a .horizon) S) S (a .rows .now) (c .before .before .before .before .before .before .before .first-unheard .result) (c .before .before .before .before .before .before .before .first-unheard .ensures .0) 11 (listenersMet T S) (from12 T (a .horizon) S) (concerned12 T (a .horizon) S) (a .list .now) (c .before .before .list-fault .result) _ (c .before .before .before .before .before .fault .given .0 .0) (c .before .before .before .before .before .fault .given .1) (c .before .before .list-fault .ensures)
 
 pub list-unheard-spec : {M : Type 1} → statement M
 list-unheard-spec =

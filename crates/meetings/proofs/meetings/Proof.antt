@@ -11,8 +11,8 @@ use Rattle.meetings.proofs.meetings.Tie as tie
 read-requires : tie.Need-read-requires
 read-requires c κs = search needs
 
-enum-known-v : tie.Need-enum-known-v
-enum-known-v c = search needs
+enum-known-verdict : tie.Need-enum-known-verdict
+enum-known-verdict c = search needs
 
 nothing-requires : tie.Need-nothing-requires
 nothing-requires c κs = search needs
@@ -30,7 +30,7 @@ returns : tie.Need-returns
 returns c =
     let a = c .before .before .before .before .before .before .before .args in
     let r = c .before .before .before .before .read in
-    let k = subst (λ (k : MeetingsCall). Says k (c .nothing .result) (a .list .now)) (sym (read-not (a .table .now) (a .list .now) (read-refused (a .table .now) (r .result) (r .ensures) (c .before .before .v .given .1))))
+    let k = subst (λ (k : MeetingsCall). Says k (c .nothing .result) (a .list .now)) (sym (read-not (a .table .now) (a .list .now) (read-refused (a .table .now) (r .result) (r .ensures) (c .before .before .verdict .given .1))))
     (says-none _ (a .list .now) (c .nothing .result) (c .nothing .ensures .0) (c .nothing .ensures .1) (c .nothing .ensures .2)) in
     (k .table, k .verdict, k .size, k .lent)
 
@@ -45,7 +45,7 @@ meetings-spec =
     tie.close
     (tie.spec
     read-requires
-    enum-known-v
+    enum-known-verdict
     nothing-requires
     enum-told
     list-meetings-requires

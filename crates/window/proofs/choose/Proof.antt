@@ -19,16 +19,16 @@ use Rattle.window.proofs.choose.Statement.{statement}
 use Rattle.window.proofs.choose.Tie as tie
 
 abbrev Inv-loop : tie.InvT-loop
-Inv-loop s start c at index n there l from best₀ e₀ best e =
-    Kept (arcPlace s start) best × (e < length (componentIn s c .arcs) → sourceOf (componentIn s c) e ≡ at .location)
-    × (chosen l (at .location) (at .clocks) (at .values) e (drop e (componentIn s c .arcs)) (pickOf best) ≡ choice (componentIn s c) (entryOf at))
+Inv-loop table start c at index count there location from best₀ e₀ best e =
+    Kept (arcPlace table start) best × (e < length (componentIn table c .arcs) → sourceOf (componentIn table c) e ≡ at .location)
+    × (chosen location (at .location) (at .clocks) (at .values) e (drop e (componentIn table c .arcs)) (pickOf best) ≡ choice (componentIn table c) (entryOf at))
 
 abbrev μ-loop : tie.MeasureT-loop
-μ-loop s start c at index n there l from best₀ e₀ best e = n - e
+μ-loop table start c at index count there location from best₀ e₀ best e = count - e
 
 -- what is known of the component
-known : (c : tie.After-shared-slice-known Inv-loop μ-loop) → Entered (c .before .args .s .now) (c .before .args .c) (c .before .args .start)
-known c = let s = c .before in entered (s .args .s .now) (s .args .c) (s .args .start) (λ i. c .shared-slice-known .given i .fits) (s .pre .0) (s .pre .1) (s .pre .2)
+known : (c : tie.After-shared-slice-known Inv-loop μ-loop) → Entered (c .before .args .table .now) (c .before .args .c) (c .before .args .start)
+known c = let s = c .before in entered (s .args .table .now) (s .args .c) (s .args .start) (λ i. c .shared-slice-known .given i .fits) (s .pre .0) (s .pre .1) (s .pre .2)
 
 add-wide : tie.Need-add-wide Inv-loop μ-loop
 add-wide c = omega (arith, known (c .before) .stands .fits)
@@ -63,7 +63,7 @@ part-location-at-end c = search needs
 location-at-requires : tie.Need-location-at-requires Inv-loop μ-loop
 location-at-requires c κs =
     let a = c .before .before .before .before .before .before .args in
-    tail-long (a .s .now) (a .start + 7 + c .before .wide2 .result * 3) 3 (omega (arith, known (c .before .before .before .before .before) .stands .locationFits (a .at .location) (c .before .before .before .before .before .before .pre .3), c .before .wide2 .ensures .0))
+    tail-long (a .table .now) (a .start + 7 + c .before .wide2 .result * 3) 3 (omega (arith, known (c .before .before .before .before .before) .stands .locationFits (a .at .location) (c .before .before .before .before .before .before .pre .3), c .before .wide2 .ensures .0))
 
 wide-requires-3 : tie.Need-wide-requires-3 Inv-loop μ-loop
 wide-requires-3 c κs = search needs
@@ -88,17 +88,17 @@ cast-e c = omega (arith, c .shared-slice-known4 .given (c .before .before .wide3
 
 -- the location is the one entered
 location-is : (c : tie.After-location-at Inv-loop μ-loop)
-    → c .location-at .result ≡ locationOf (componentIn (c .before .before .before .before .before .before .before .args .s .now) (c .before .before .before .before .before .before .before .args .c)) (c .before .before .before .before .before .before .before .args .at .location)
+    → c .location-at .result ≡ locationOf (componentIn (c .before .before .before .before .before .before .before .args .table .now) (c .before .before .before .before .before .before .before .args .c)) (c .before .before .before .before .before .before .before .args .at .location)
 location-is c =
     let s = c .before .before .before .before .before .before .before in
     let a = s .args in
     let there : a .start + 7 + c .before .before .wide2 .result * 3 ≡ locationPlace (a .start) (a .at .location) = rw (c .before .before .wide2 .ensures .0) in
-    found locationAt (a .s .now) _ _ there (c .location-at .ensures) ∙ known (c .before .before .before .before .before .before) .stands .location (a .at .location) (s .pre .3)
+    found locationAt (a .table .now) _ _ there (c .location-at .ensures) ∙ known (c .before .before .before .before .before .before) .stands .location (a .at .location) (s .pre .3)
 
 loop-holds : tie.Need-loop-holds Inv-loop μ-loop
 loop-holds c =
     let a = c .before .before .before .before .before .before .before .before .before .before .args in
-    let C = componentIn (a .s .now) (a .c) in
+    let C = componentIn (a .table .now) (a .c) in
     let i = a .index .now in
     let l = c .before .before .before .location-at .result in
     let q : c .before .before .wide3 .result * 80 + c .before .wide4 .result ≡ a .c * 80 + a .at .location = rw (c .before .before .wide3 .ensures .0, c .before .wide4 .ensures .0) in
@@ -112,15 +112,15 @@ loop-holds c =
     )
 
 -- in the loop: the edge is one of the component's, and its place is noted
-inside : (c : tie.In-loop Inv-loop μ-loop) → c .before .loop .e < length (componentIn (c .before .before .before .before .before .before .before .before .before .before .before .before .args .s .now) (c .before .before .before .before .before .before .before .before .before .before .before .before .args .c) .arcs)
+inside : (c : tie.In-loop Inv-loop μ-loop) → c .before .loop .e < length (componentIn (c .before .before .before .before .before .before .before .before .before .before .before .before .args .table .now) (c .before .before .before .before .before .before .before .before .before .before .before .before .args .c) .arcs)
 inside c =
     let a = c .before .before .before .before .before .before .before .before .before .before .before .before .args in
-    edge-in (a .s .now) (a .c) (a .start) (known (c .before .before .before .before .before .before .before .before .before .before .before)) (c .before .loop .e)
+    edge-in (a .table .now) (a .c) (a .start) (known (c .before .before .before .before .before .before .before .before .before .before .before)) (c .before .loop .e)
     (omega (arith, c .loop-test .taken, c .before .before .before .before .before .before .before .before .wide .ensures .0))
 
 place-is : (c : tie.In-loop Inv-loop μ-loop)
     → getD (c .before .before .before .before .before .before .before .before .before .before .before .before .args .index .now) (c .before .before .before .before .wide3 .result * 80 + 48 + c .before .loop .e) 0
-    ≡ arcPlace (c .before .before .before .before .before .before .before .before .before .before .before .before .args .s .now) (c .before .before .before .before .before .before .before .before .before .before .before .before .args .start) (c .before .loop .e)
+    ≡ arcPlace (c .before .before .before .before .before .before .before .before .before .before .before .before .args .table .now) (c .before .before .before .before .before .before .before .before .before .before .before .before .args .start) (c .before .loop .e)
 place-is c =
     let s = c .before .before .before .before .before .before .before .before .before .before .before .before in
     rw (c .before .before .before .before .wide3 .ensures .0) (s .pre .4 .place (c .before .loop .e) (inside c))
@@ -143,12 +143,12 @@ cast-place c = omega (arith, c .shared-slice-known5 .given (c .before .before .b
 sub-considered-edge : tie.Need-sub-considered-edge Inv-loop μ-loop
 sub-considered-edge c =
     let a = c .before .before .before .before .before .before .before .before .before .before .before .before .before .args in
-    omega (arith, arc-head (a .s .now) (a .c) (a .start) (known (c .before .before .before .before .before .before .before .before .before .before .before .before)) _ (c .before .before .loop .e) (place-is (c .before)) (inside (c .before)))
+    omega (arith, arc-head (a .table .now) (a .c) (a .start) (known (c .before .before .before .before .before .before .before .before .before .before .before .before)) _ (c .before .before .loop .e) (place-is (c .before)) (inside (c .before)))
 
 part-considered-edge-start : tie.Need-part-considered-edge-start Inv-loop μ-loop
 part-considered-edge-start c =
     let a = c .before .before .before .before .before .before .before .before .before .before .before .before .before .args in
-    omega (arith, arc-head (a .s .now) (a .c) (a .start) (known (c .before .before .before .before .before .before .before .before .before .before .before .before)) _ (c .before .before .loop .e) (place-is (c .before)) (inside (c .before)))
+    omega (arith, arc-head (a .table .now) (a .c) (a .start) (known (c .before .before .before .before .before .before .before .before .before .before .before .before)) _ (c .before .before .loop .e) (place-is (c .before)) (inside (c .before)))
 
 part-considered-edge-end : tie.Need-part-considered-edge-end Inv-loop μ-loop
 part-considered-edge-end c = search needs
@@ -159,7 +159,7 @@ cast-considered-edge c = omega (arith, inside (c .before .before), known (c .bef
 considered-edge-requires : tie.Need-considered-edge-requires Inv-loop μ-loop
 considered-edge-requires c κs =
     let a = c .before .before .before .before .before .before .before .before .before .before .before .before .before .before .args in (
-      arc-asked (a .s .now) (a .c) (a .start) (known (c .before .before .before .before .before .before .before .before .before .before .before .before .before)) _ (c .before .before .before .loop .e) (place-is (c .before .before)) (inside (c .before .before)),
+      arc-asked (a .table .now) (a .c) (a .start) (known (c .before .before .before .before .before .before .before .before .before .before .before .before .before)) _ (c .before .before .before .loop .e) (place-is (c .before .before)) (inside (c .before .before)),
       rw (location-is (c .before .before .before .before .before .before .before)) (known (c .before .before .before .before .before .before .before .before .before .before .before .before .before) .clock (a .at .location) (c .before .before .before .before .before .before .before .before .before .before .before .before .before .before .pre .3)),
     )
 
@@ -187,7 +187,7 @@ loop-less c =
 loop-again : tie.Need-loop-again Inv-loop μ-loop
 loop-again c =
     let a = c .before .before .before .before .before .before .before .before .before .before .before .before .before .before .before .before .args in
-    let C = componentIn (a .s .now) (a .c) in
+    let C = componentIn (a .table .now) (a .c) in
     let i = a .index .now in
     let l = c .before .before .before .before .before .loop in
     let t = (c .before .before .before .before) in
@@ -199,9 +199,9 @@ loop-again c =
     let f = c .before .before .before .before .before .before .before .before .before .before .before .before .before .before .before .before .pre .4 .next (l .e) (inside t) in
     let best : pickOf (c .before .considered-edge .result) ≡ considered p (a .at .location) (a .at .clocks) (a .at .values) (l .e) arc (pickOf (l .best)) =
     c .before .considered-edge .ensures .0
-    ∙ ap (λ x. considered p (a .at .location) (a .at .clocks) (a .at .values) (l .e) x (pickOf (l .best))) (arc-is (a .s .now) (a .c) (a .start) k _ (l .e) (place-is t) (inside t)) in
+    ∙ ap (λ x. considered p (a .at .location) (a .at .clocks) (a .at .values) (l .e) x (pickOf (l .best))) (arc-is (a .table .now) (a .c) (a .start) k _ (l .e) (place-is t) (inside t)) in
     let turned = chosen-turn p (a .at .location) (a .at .clocks) (a .at .values) (C .arcs) (l .e) (pickOf (l .best)) _ _ (inside t) best (l .inv .2) in (
-      c .before .considered-edge .ensures .1 (arcPlace (a .s .now) (a .start)) (sym (place-is t)) (l .inv .0),
+      c .before .considered-edge .ensures .1 (arcPlace (a .table .now) (a .start)) (sym (place-is t)) (l .inv .0),
       λ z. ap (sourceOf C) (ap (λ j. getD i j 0) q) ∙ (f .leaves (omega (arith, z, ap (λ j. getD i j 0) q)) ∙ source),
       subst (λ j. chosen p (a .at .location) (a .at .clocks) (a .at .values) (getD i j 0) (drop (getD i j 0) (C .arcs)) (pickOf (c .before .considered-edge .result)) ≡ choice C (entryOf (a .at))) (sym q)
           (chosen-skip p (a .at .location) (a .at .clocks) (a .at .values) (C .arcs) (l .e + 1) (nextOf i (a .c) (l .e)) _ _ (omega (arith, f .from))
@@ -212,8 +212,8 @@ returns : tie.Need-returns Inv-loop μ-loop
 returns c =
     let a = c .before .before .before .before .before .before .before .before .before .before .before .before .args in
     let l = c .before .loop in
-    let all : length (componentIn (a .s .now) (a .c) .arcs) ≤ l .e = omega (arith, known (c .before .before .before .before .before .before .before .before .before .before .before) .stands .arcs, c .loop-test .left, c .before .before .before .before .before .before .before .before .wide .ensures .0) in
-    (chosen-done (c .before .before .before .before .before .location-at .result) (a .at .location) (a .at .clocks) (a .at .values) (componentIn (a .s .now) (a .c) .arcs) (l .e) (pickOf (l .best)) _ all (l .inv .2), l .inv .0)
+    let all : length (componentIn (a .table .now) (a .c) .arcs) ≤ l .e = omega (arith, known (c .before .before .before .before .before .before .before .before .before .before .before) .stands .arcs, c .loop-test .left, c .before .before .before .before .before .before .before .before .wide .ensures .0) in
+    (chosen-done (c .before .before .before .before .before .location-at .result) (a .at .location) (a .at .clocks) (a .at .values) (componentIn (a .table .now) (a .c) .arcs) (l .e) (pickOf (l .best)) _ all (l .inv .2), l .inv .0)
 
 pub choose-spec : {M : Type 1} → statement M
 choose-spec =

@@ -20,7 +20,7 @@ edge-at-requires c κs = search needs
 returns : tie.Need-returns
 returns c =
     let a = c .before .before .before .before .before .args in
-    (elsewhere (a .l) (a .at .location) (a .at .clocks) (a .at .values) (a .e) (arcAt (a .h .now)) (pickOf (a .best)) (λ q. c .if1 .taken (ap (λ (edge : Edge). edge .source) (c .before .before .before .edge-at .ensures) ∙ q)), λ f p k. k)
+    (elsewhere (a .location) (a .at .location) (a .at .clocks) (a .at .values) (a .e) (arcAt (a .bytes .now)) (pickOf (a .best)) (λ q. c .if1 .taken (ap (λ (edge : Edge). edge .source) (c .before .before .before .edge-at .ensures) ∙ q)), λ f p k. k)
 
 shared-slice-read-wide : tie.Need-shared-slice-read-wide
 shared-slice-read-wide c = search needs
@@ -48,17 +48,17 @@ shared-slice-read-data-hold c = search needs
 
 data-hold-requires : tie.Need-data-hold-requires
 data-hold-requires c κs =
-    let h = c .before .before .before .before .before .before .before .before .before .before .args .h .now in
+    let h = c .before .before .before .before .before .before .before .before .before .before .args .bytes .now in
     let at : 7 + c .before .before .before .wide .result * 5 ≡ 7 + getD h 4 0 * 5 = rw (c .before .before .before .wide .ensures .0) in
     data-guards-asked h (c .before .before .before .before .before .before .before .before .before .before .pre .0) _ at
 
 returns-2 : tie.Need-returns-2
 returns-2 c =
     let a = c .before .before .before .before .before .before .before .before .before .before .before .before .args in
-    let h = a .h .now in
+    let h = a .bytes .now in
     let at : 7 + c .before .before .before .before .before .wide .result * 5 ≡ 7 + getD h 4 0 * 5 = rw (c .before .before .before .before .before .wide .ensures .0) in
     let d = data-found h _ (a .at .values) at (c .before .data-hold .ensures) in
-    (unheld (a .l) (a .at .location) (a .at .clocks) (a .at .values) (a .e) (arcAt h) (pickOf (a .best)) (sym d ∙ not-true _ (c .if2 .taken)), λ f p k. k)
+    (unheld (a .location) (a .at .location) (a .at .clocks) (a .at .values) (a .e) (arcAt h) (pickOf (a .best)) (sym d ∙ not-true _ (c .if2 .taken)), λ f p k. k)
 
 sub-window : tie.Need-sub-window
 sub-window c = search needs
@@ -75,7 +75,7 @@ shared-slice-read-window c = search needs
 window-requires : tie.Need-window-requires
 window-requires c κs =
     let s = c .before .before .before .before .before .before .before .before .before .before .before .before .before .before .before in
-    let g = clock-guards-asked (s .args .h .now) (s .pre .0) in
+    let g = clock-guards-asked (s .args .bytes .now) (s .pre .0) in
     (g .0, s .pre .1, g .1)
 
 add-if3 : tie.Need-add-if3
@@ -84,11 +84,11 @@ add-if3 c = search needs
 returns-3 : tie.Need-returns-3
 returns-3 c =
     let a = c .before .before .before .before .before .before .before .before .before .before .before .before .before .before .before .before .before .before .before .args in
-    let h = a .h .now in
+    let h = a .bytes .now in
     let w = c .before .before .before .window in
     let r = ready-found h (a .at .clocks) (w .ensures .0) in
-    let p = past-found h (a .l) (a .at .clocks) (w .ensures .1) in
-    (shut (a .l) (a .at .location) (a .at .clocks) (a .at .values) (a .e) (arcAt h) (pickOf (a .best)) (omega arith), λ f q k. k)
+    let p = past-found h (a .location) (a .at .clocks) (w .ensures .1) in
+    (shut (a .location) (a .at .location) (a .at .clocks) (a .at .values) (a .e) (arcAt h) (pickOf (a .best)) (omega arith), λ f q k. k)
 
 sub-t27 : tie.Need-sub-t27
 sub-t27 c = search needs
@@ -102,16 +102,16 @@ better-requires c κs = search needs
 returns-4 : tie.Need-returns-4
 returns-4 c =
     let a = c .before .before .before .before .before .before .before .before .before .before .before .before .before .before .before .before .before .before .before .before .before .before .args in
-    let h = a .h .now in
+    let h = a .bytes .now in
     let w = c .before .before .before .before .before .before .window in
     let at : 7 + c .before .before .before .before .before .before .before .before .before .before .before .before .before .before .before .wide .result * 5 ≡ 7 + getD h 4 0 * 5 = rw (c .before .before .before .before .before .before .before .before .before .before .before .before .before .before .before .wide .ensures .0) in
     let d = data-found h _ (a .at .values) at (c .before .before .before .before .before .before .before .before .before .before .before .data-hold .ensures) in
     let r = ready-found h (a .at .clocks) (w .ensures .0) in
-    let p = past-found h (a .l) (a .at .clocks) (w .ensures .1) in
+    let p = past-found h (a .location) (a .at .clocks) (w .ensures .1) in
     let n = c .before .before .wide2 .ensures in
     let t : Choice = record { edge = c .before .before .wide2 .result; place = a .place; ready = w .result .ready; end = w .result .past - 1 } in
-    let e = better-window (a .l) (a .at .clocks) (arcAt h) (a .best) t (a .e) (omega (arith, w .ensures .2)) (n .0) r (omega arith) in
-    let is = candidate-is (a .l) (a .at .location) (a .at .clocks) (a .at .values) (a .e) (arcAt h) (pickOf (a .best)) (sym (ap (λ (edge : Edge). edge .source) (c .before .before .before .before .before .before .before .before .before .before .before .before .before .before .before .before .before .before .before .before .edge-at .ensures)) ∙ c .before .before .before .before .before .before .before .before .before .before .before .before .before .before .before .before .before .if1 .left) (sym d ∙ not-false _ (c .before .before .before .before .before .before .before .before .before .before .if2 .left)) (omega arith) in (
+    let e = better-window (a .location) (a .at .clocks) (arcAt h) (a .best) t (a .e) (omega (arith, w .ensures .2)) (n .0) r (omega arith) in
+    let is = candidate-is (a .location) (a .at .location) (a .at .clocks) (a .at .values) (a .e) (arcAt h) (pickOf (a .best)) (sym (ap (λ (edge : Edge). edge .source) (c .before .before .before .before .before .before .before .before .before .before .before .before .before .before .before .before .before .before .before .before .edge-at .ensures)) ∙ c .before .before .before .before .before .before .before .before .before .before .before .before .before .before .before .before .before .if1 .left) (sym d ∙ not-false _ (c .before .before .before .before .before .before .before .before .before .before .if2 .left)) (omega arith) in (
       ap pickOf (c .better .ensures) ∙ e ∙ is,
       λ f q k. subst (Kept f) (sym (c .better .ensures)) (better-kept f (a .best) t (λ z. (sym q ∙ ap f (sym (n .0)), n .1, omega (arith, w .ensures .3))) k),
     )

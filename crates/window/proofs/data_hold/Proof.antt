@@ -15,12 +15,12 @@ use Rattle.window.proofs.data_hold.Statement.{statement}
 use Rattle.window.proofs.data_hold.Tie as tie
 
 abbrev Inv-loop : tie.InvT-loop
-Inv-loop h n values at₀ k₀ at k =
-    (at + k * 5 ≤ length h) × All (λ g. g .variable < 4) (listAt dataGuardAt 5 k (drop at h))
-    × (dataHolds (listAt dataGuardAt 5 k (drop at h)) values ≡ dataHolds (listAt dataGuardAt 5 n h) values)
+Inv-loop guards count values at₀ k₀ at k =
+    (at + k * 5 ≤ length guards) × All (λ g. g .variable < 4) (listAt dataGuardAt 5 k (drop at guards))
+    × (dataHolds (listAt dataGuardAt 5 k (drop at guards)) values ≡ dataHolds (listAt dataGuardAt 5 count guards) values)
 
 abbrev μ-loop : tie.MeasureT-loop
-μ-loop h n values at₀ k₀ at k = k
+μ-loop guards count values at₀ k₀ at k = k
 
 loop-holds : tie.Need-loop-holds Inv-loop μ-loop
 loop-holds c = (search needs, c .before .pre .1, refl)
@@ -41,17 +41,17 @@ data-within-requires : tie.Need-data-within-requires Inv-loop μ-loop
 data-within-requires c κs =
     let a = c .before .before .before .before .before .args in
     let l = c .before .before .before .loop in
-    let g = at-place dataGuardAt (a .h .now) (l .at) (c .data-guard-at .ensures) in
-    rw g (all-first dataGuardAt 5 (a .h .now) (l .at) (l .k) (c .before .before .loop-test .taken) (l .inv .1))
+    let g = at-place dataGuardAt (a .guards .now) (l .at) (c .data-guard-at .ensures) in
+    rw g (all-first dataGuardAt 5 (a .guards .now) (l .at) (l .k) (c .before .before .loop-test .taken) (l .inv .1))
 
 returns : tie.Need-returns Inv-loop μ-loop
 returns c =
     let a = c .before .before .before .before .before .before .before .args in
     let l = c .before .before .before .before .before .loop in
-    let g = at-place dataGuardAt (a .h .now) (l .at) (c .before .before .data-guard-at .ensures) in
-    let w : dataWithin (dataGuardAt (drop (l .at) (a .h .now))) (a .values) ≡ false =
+    let g = at-place dataGuardAt (a .guards .now) (l .at) (c .before .before .data-guard-at .ensures) in
+    let w : dataWithin (dataGuardAt (drop (l .at) (a .guards .now))) (a .values) ≡ false =
     sym (ap (λ d. dataWithin d (a .values)) g) ∙ sym (c .before .data-within .ensures) ∙ not-true _ (c .if1 .taken) in
-    holds-stop (λ d. dataWithin d (a .values)) dataGuardAt 5 (a .h .now) (l .at) (l .k) _ (l .inv .2) (c .before .before .before .before .loop-test .taken) w
+    holds-stop (λ d. dataWithin d (a .values)) dataGuardAt 5 (a .guards .now) (l .at) (l .k) _ (l .inv .2) (c .before .before .before .before .loop-test .taken) w
 
 add-at : tie.Need-add-at Inv-loop μ-loop
 add-at c = search needs
@@ -66,19 +66,19 @@ loop-again : tie.Need-loop-again Inv-loop μ-loop
 loop-again c =
     let a = c .before .before .before .before .before .before .before .args in
     let l = c .before .before .before .before .before .loop in
-    let g = at-place dataGuardAt (a .h .now) (l .at) (c .before .before .data-guard-at .ensures) in
-    let w : dataWithin (dataGuardAt (drop (l .at) (a .h .now))) (a .values) ≡ true =
+    let g = at-place dataGuardAt (a .guards .now) (l .at) (c .before .before .data-guard-at .ensures) in
+    let w : dataWithin (dataGuardAt (drop (l .at) (a .guards .now))) (a .values) ≡ true =
     sym (ap (λ d. dataWithin d (a .values)) g) ∙ sym (c .before .data-within .ensures) ∙ not-false _ (c .if1 .left) in (
       omega arith,
-      all-rest dataGuardAt 5 (a .h .now) (l .at) (l .k) (c .before .before .before .before .loop-test .taken) (l .inv .1),
-      holds-turn (λ d. dataWithin d (a .values)) dataGuardAt 5 (a .h .now) (l .at) (l .k) _ (l .inv .2) (c .before .before .before .before .loop-test .taken) w,
+      all-rest dataGuardAt 5 (a .guards .now) (l .at) (l .k) (c .before .before .before .before .loop-test .taken) (l .inv .1),
+      holds-turn (λ d. dataWithin d (a .values)) dataGuardAt 5 (a .guards .now) (l .at) (l .k) _ (l .inv .2) (c .before .before .before .before .loop-test .taken) w,
     )
 
 returns-2 : tie.Need-returns-2 Inv-loop μ-loop
 returns-2 c =
     let a = c .before .before .before .args in
     let l = c .before .loop in
-    holds-done (λ d. dataWithin d (a .values)) dataGuardAt 5 (a .h .now) (l .at) (l .k) _ (l .inv .2) (omega arith)
+    holds-done (λ d. dataWithin d (a .values)) dataGuardAt 5 (a .guards .now) (l .at) (l .k) _ (l .inv .2) (omega arith)
 
 pub data-hold-spec : {M : Type 1} → statement M
 data-hold-spec =

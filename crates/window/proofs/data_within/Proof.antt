@@ -24,7 +24,7 @@ within-requires c κs = search needs
 returns : tie.Need-returns
 returns c =
     let a = c .before .before .before .before .before .args in
-    let g = a .g in
+    let g = a .guard in
     let v = getD (a .t2) (c .before .before .before .before .wide .result) (pos 0) in
     let fl : SFits w16 (g .low) = search needs in
     let fh : SFits w16 (g .high) = search needs in

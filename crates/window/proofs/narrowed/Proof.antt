@@ -8,8 +8,8 @@ use borrow.Author.Needs.{needs}
 use Rattle.window.proofs.narrowed.Statement.{statement}
 use Rattle.window.proofs.narrowed.Tie as tie
 
-wide16-requires : tie.Need-wide16-requires
-wide16-requires c κs = search needs
+wide32-requires : tie.Need-wide32-requires
+wide32-requires c κs = search needs
 
 left-of-requires : tie.Need-left-of-requires
 left-of-requires c κs = search needs
@@ -20,8 +20,8 @@ greater-requires c κs = search needs
 returns : tie.Need-returns
 returns c = (omega arith, rw (eq-eqb _ _ (c .if1 .taken)), omega arith, omega arith)
 
-wide16-requires-2 : tie.Need-wide16-requires-2
-wide16-requires-2 c κs = search needs
+wide32-requires-2 : tie.Need-wide32-requires-2
+wide32-requires-2 c κs = search needs
 
 add-left-of : tie.Need-add-left-of
 add-left-of c = search needs
@@ -35,25 +35,25 @@ lesser-requires c κs = search needs
 returns-2 : tie.Need-returns-2
 returns-2 c =
     let a = c .before .before .before .before .before .before .before .before .args in
-    let ready : c .before .before .before .before .before .greater .result ≡ max (a .g .low - a .x) (a .w .ready) =
-    c .before .before .before .before .before .greater .ensures ∙ rw (c .before .before .before .before .before .before .left-of .ensures, c .before .before .before .before .before .before .before .wide16 .ensures .0) in
-    let high : c .before .before .wide162 .result + 1 ≡ suc (a .g .high) = omega (arith, c .before .before .wide162 .ensures .0) in
-    let past : c .lesser .result ≡ min (suc (a .g .high) - a .x) (a .w .past) = c .lesser .ensures ∙ rw (c .before .left-of2 .ensures, high) in (
+    let ready : c .before .before .before .before .before .greater .result ≡ max (a .guard .low - a .clock) (a .delays .ready) =
+    c .before .before .before .before .before .greater .ensures ∙ rw (c .before .before .before .before .before .before .left-of .ensures, c .before .before .before .before .before .before .before .wide32 .ensures .0) in
+    let high : c .before .before .wide322 .result + 1 ≡ suc (a .guard .high) = omega (arith, c .before .before .wide322 .ensures .0) in
+    let past : c .lesser .result ≡ min (suc (a .guard .high) - a .clock) (a .delays .past) = c .lesser .ensures ∙ rw (c .before .left-of2 .ensures, high) in (
       ready,
-      rw (ne-eqb (a .g .high) 65535 (c .before .before .before .if1 .left)) past,
-      ready-small _ (a .g .low) (a .x) (a .w .ready) ready (search needs) (c .before .before .before .before .before .before .before .before .pre .0),
-      past-small _ _ (a .w .past) past (c .before .before .before .before .before .before .before .before .pre .1),
+      rw (ne-eqb (a .guard .high) 65535 (c .before .before .before .if1 .left)) past,
+      ready-small _ (a .guard .low) (a .clock) (a .delays .ready) ready (search needs) (c .before .before .before .before .before .before .before .before .pre .0),
+      past-small _ _ (a .delays .past) past (c .before .before .before .before .before .before .before .before .pre .1),
     )
 
 pub narrowed-spec : {M : Type 1} → statement M
 narrowed-spec =
     tie.close
     (tie.spec
-    wide16-requires
+    wide32-requires
     left-of-requires
     greater-requires
     returns
-    wide16-requires-2
+    wide32-requires-2
     add-left-of
     left-of-requires-2
     lesser-requires

@@ -14,11 +14,11 @@ use Rattle.window.proofs.paired_location.Statement.{statement}
 use Rattle.window.proofs.paired_location.Tie as tie
 
 abbrev Inv-loop : tie.InvT-loop
-Inv-loop h n channel other at₀ k₀ at k =
-    (at + k * 2 ≤ length h) × (paired (listAt pairAt 2 k (drop at h)) channel other ≡ paired (listAt pairAt 2 n h) channel other)
+Inv-loop pairs count channel other at₀ k₀ at k =
+    (at + k * 2 ≤ length pairs) × (paired (listAt pairAt 2 k (drop at pairs)) channel other ≡ paired (listAt pairAt 2 count pairs) channel other)
 
 abbrev μ-loop : tie.MeasureT-loop
-μ-loop h n channel other at₀ k₀ at k = k
+μ-loop pairs count channel other at₀ k₀ at k = k
 
 loop-holds : tie.Need-loop-holds Inv-loop μ-loop
 loop-holds c = (search needs, refl)
@@ -39,7 +39,7 @@ returns : tie.Need-returns Inv-loop μ-loop
 returns c =
     let a = c .before .before .before .before .before .before .before .args in
     let l = c .before .before .before .before .before .loop in
-    let h = a .h .now in
+    let h = a .pairs .now in
     let pair = at-place pairAt h (l .at) (c .before .before .pair-at .ensures) in
     ap (λ (q : Pair). q .location) pair ∙ pair-found h (l .at) (l .k) (a .channel) (a .other) _ (l .inv .1) (c .before .before .before .before .loop-test .taken) (sym (ap (λ (q : Pair). q .channel) pair) ∙ c .if1 .taken)
 
@@ -56,7 +56,7 @@ loop-again : tie.Need-loop-again Inv-loop μ-loop
 loop-again c =
     let a = c .before .before .before .before .before .before .before .args in
     let l = c .before .before .before .before .before .loop in
-    let h = a .h .now in
+    let h = a .pairs .now in
     let pair = at-place pairAt h (l .at) (c .before .before .pair-at .ensures) in
     (omega arith, pair-passed h (l .at) (l .k) (a .channel) (a .other) _ (l .inv .1) (c .before .before .before .before .loop-test .taken) (λ e. c .if1 .left (ap (λ (q : Pair). q .channel) pair ∙ e)))
 
@@ -64,7 +64,7 @@ returns-2 : tie.Need-returns-2 Inv-loop μ-loop
 returns-2 c =
     let a = c .before .before .before .args in
     let l = c .before .loop in
-    pair-none (a .h .now) (l .at) (l .k) (a .channel) (a .other) _ (l .inv .1) (omega arith)
+    pair-none (a .pairs .now) (l .at) (l .k) (a .channel) (a .other) _ (l .inv .1) (omega arith)
 
 pub paired-location-spec : {M : Type 1} → statement M
 paired-location-spec =

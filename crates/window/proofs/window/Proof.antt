@@ -14,20 +14,20 @@ use Rattle.window.proofs.window.Statement.{statement}
 use Rattle.window.proofs.window.Tie as tie
 
 abbrev Inv-loop : tie.InvT-loop
-Inv-loop h n clocks i w₀ at₀ k₀ w at k =
-    (at + k * 5 ≤ length h) × (w .ready ≤ 65535) × (w .past ≤ 65536)
-    × All (λ g. g .clock < 4) (listAt clockGuardAt 5 k (drop at h))
-    × (max (w .ready) (readyOf (listAt clockGuardAt 5 k (drop at h)) clocks) ≡ readyOf (listAt clockGuardAt 5 n h) clocks)
-    × (pastFrom (w .past) (listAt clockGuardAt 5 k (drop at h)) clocks ≡ pastFrom (w₀ .past) (listAt clockGuardAt 5 n h) clocks)
+Inv-loop guards count clocks i delays₀ at₀ k₀ delays at k =
+    (at + k * 5 ≤ length guards) × (delays .ready ≤ 65535) × (delays .past ≤ 65536)
+    × All (λ g. g .clock < 4) (listAt clockGuardAt 5 k (drop at guards))
+    × (max (delays .ready) (readyOf (listAt clockGuardAt 5 k (drop at guards)) clocks) ≡ readyOf (listAt clockGuardAt 5 count guards) clocks)
+    × (pastFrom (delays .past) (listAt clockGuardAt 5 k (drop at guards)) clocks ≡ pastFrom (delays₀ .past) (listAt clockGuardAt 5 count guards) clocks)
 
 abbrev μ-loop : tie.MeasureT-loop
-μ-loop h n clocks i w₀ at₀ k₀ w at k = k
+μ-loop guards count clocks i delays₀ at₀ k₀ delays at k = k
 
 wide-requires : tie.Need-wide-requires Inv-loop μ-loop
 wide-requires c κs = search needs
 
-wide16-requires : tie.Need-wide16-requires Inv-loop μ-loop
-wide16-requires c κs = search needs
+wide32-requires : tie.Need-wide32-requires Inv-loop μ-loop
+wide32-requires c κs = search needs
 
 add-left-of : tie.Need-add-left-of Inv-loop μ-loop
 add-left-of c = search needs
@@ -66,8 +66,8 @@ array-read-narrowed : tie.Need-array-read-narrowed Inv-loop μ-loop
 array-read-narrowed c =
     let a = c .before .before .before .before .before .before .before .before .before .args in
     let l = c .before .before .before .before .loop in
-    let g = at-place clockGuardAt (a .h .now) (l .at) (c .before .clock-guard-at .ensures) in
-    let b = all-first clockGuardAt 5 (a .h .now) (l .at) (l .k) (c .before .before .before .loop-test .taken) (l .inv .3) in
+    let g = at-place clockGuardAt (a .guards .now) (l .at) (c .before .clock-guard-at .ensures) in
+    let b = all-first clockGuardAt 5 (a .guards .now) (l .at) (l .k) (c .before .before .before .loop-test .taken) (l .inv .3) in
     let small : c .before .clock-guard-at .result .clock < 4 = rw g b in
     search needs
 
@@ -87,31 +87,31 @@ loop-again : tie.Need-loop-again Inv-loop μ-loop
 loop-again c =
     let a = c .before .before .before .before .before .before .before .before .before .before .args in
     let l = c .before .before .before .before .before .loop in
-    let h = a .h .now in
+    let h = a .guards .now in
     let g = c .before .before .clock-guard-at .result in
     let g′ = clockGuardAt (drop (l .at) h) in
     let i = c .before .wide2 .result in
     let is = at-place clockGuardAt h (l .at) (c .before .before .clock-guard-at .ensures) in
     let n = c .narrowed .ensures in
-    let ready = ready-as (a .t4) g g′ i (l .w .ready) is (c .before .wide2 .ensures .0) (n .0) in
-    let past = past-as (a .t4) g g′ i (l .w .past) is (c .before .wide2 .ensures .0) (n .1) in (
+    let ready = ready-as (a .t4) g g′ i (l .delays .ready) is (c .before .wide2 .ensures .0) (n .0) in
+    let past = past-as (a .t4) g g′ i (l .delays .past) is (c .before .wide2 .ensures .0) (n .1) in (
       omega arith,
       n .2,
       n .3,
       all-rest clockGuardAt 5 h (l .at) (l .k) (c .before .before .before .before .loop-test .taken) (l .inv .3),
-      ready-turn h (l .at) (l .k) (a .t4) (c .before .before .before .before .loop-test .taken) (l .w .ready) _ _ ready (l .inv .4),
-      past-turn h (l .at) (l .k) (a .t4) (c .before .before .before .before .loop-test .taken) (l .w .past) _ _ past (l .inv .5),
+      ready-turn h (l .at) (l .k) (a .t4) (c .before .before .before .before .loop-test .taken) (l .delays .ready) _ _ ready (l .inv .4),
+      past-turn h (l .at) (l .k) (a .t4) (c .before .before .before .before .loop-test .taken) (l .delays .past) _ _ past (l .inv .5),
     )
 
 returns : tie.Need-returns Inv-loop μ-loop
 returns c =
     let a = c .before .before .before .before .before .before .args in
     let l = c .before .loop in
-    let h = a .h .now in
+    let h = a .guards .now in
     let bs = drop (l .at) h in
-    let first : c .before .before .left-of .result ≡ suc (a .l .bound) - clockAt (a .t4) (a .l .clock) = c .before .before .left-of .ensures ∙ rw (c .before .before .before .before .wide .ensures .0) (omega arith) in (
-      ready-done bs (l .k) (a .t4) (omega arith) (l .w .ready) _ (l .inv .4),
-      past-done bs (l .k) (a .t4) (omega arith) (l .w .past) _ (l .inv .5) ∙ rw first (sym (past-is (a .l) (listAt clockGuardAt 5 (a .n) h) (a .t4))),
+    let first : c .before .before .left-of .result ≡ suc (a .location .bound) - clockAt (a .t4) (a .location .clock) = c .before .before .left-of .ensures ∙ rw (c .before .before .before .before .wide .ensures .0) (omega arith) in (
+      ready-done bs (l .k) (a .t4) (omega arith) (l .delays .ready) _ (l .inv .4),
+      past-done bs (l .k) (a .t4) (omega arith) (l .delays .past) _ (l .inv .5) ∙ rw first (sym (past-is (a .location) (listAt clockGuardAt 5 (a .count) h) (a .t4))),
       l .inv .1,
       l .inv .2,
     )
@@ -123,7 +123,7 @@ window-spec =
     Inv-loop
     μ-loop
     wide-requires
-    wide16-requires
+    wide32-requires
     add-left-of
     mul-left-of
     array-read-left-of

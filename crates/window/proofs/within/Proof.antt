@@ -12,7 +12,7 @@ both-requires c κs = search needs
 returns : tie.Need-returns
 returns c =
     let s = c .before in
-    c .both .ensures ∙ rw (toZ-ofZ w16 (s .args .x) (s .fits .x), toZ-ofZ w16 (s .args .low) (s .fits .low), toZ-ofZ w16 (s .args .high) (s .fits .high))
+    c .both .ensures ∙ rw (toZ-ofZ w16 (s .args .value) (s .fits .value), toZ-ofZ w16 (s .args .low) (s .fits .low), toZ-ofZ w16 (s .args .high) (s .fits .high))
 
 pub within-spec : {M : Type 1} → statement M
 within-spec = tie.close (tie.spec both-requires returns)

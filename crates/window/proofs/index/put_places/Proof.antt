@@ -4,10 +4,9 @@ use Prim.Native.Nat.{_+_, _-_, _*_, _≤_, _<_}
 use native.Mathlib.Omega.{arith}
 use lib.ListN.{length}
 use Rattle.model.specs.Places.{arcPlace, componentIn}
-use Rattle.decoder.proofs.Walk.{first}
 use Rattle.window.specs.Indexed.{PlacesPut}
 use Rattle.window.proofs.Rests.{tail-long}
-use Rattle.window.proofs.Ready.{Entered, entered, first-within, edge-in, arc-head, next-place, next-within}
+use Rattle.window.proofs.Ready.{Entered, entered, first-place, first-within, edge-in, arc-head, next-place, next-within}
 use Rattle.window.proofs.Indexing.{places-none, places-turn}
 use borrow.Author.Needs.{needs}
 use Rattle.window.proofs.index.put_places.Statement.{statement}
@@ -61,7 +60,7 @@ add-place-2 c =
 loop-holds : tie.Need-loop-holds Inv-loop μ-loop
 loop-holds c =
     let a = c .before .before .before .before .before .before .args in
-    (omega arith, first (a .table .now) (a .start) (c .wide2 .result) (c .wide2 .ensures .0), places-none (a .table .now) (a .index .now) (a .c) (a .start))
+    (omega arith, first-place (a .table .now) (a .start) (c .wide2 .result) (c .wide2 .ensures .0), places-none (a .table .now) (a .index .now) (a .c) (a .start))
 
 -- in the loop: the edge is one of the component's
 inside : (c : tie.In-loop Inv-loop μ-loop) → c .before .loop .e < length (componentIn (c .before .before .before .before .before .before .before .before .args .table .now) (c .before .before .before .before .before .before .before .before .args .c) .arcs)

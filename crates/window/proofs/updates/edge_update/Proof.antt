@@ -1,4 +1,4 @@
--- `window::edge_update` meets its contract. Assumes nothing.
+-- `window::updates::edge_update` meets its contract. Assumes nothing.
 use mathlib.Core.Path.{sym, ap, _∙_}
 use lib.ListN.{getD}
 use Rattle.model.specs.Reader.{updateAt}
@@ -9,8 +9,8 @@ use Rattle.decoder.proofs.ByAction.{internal-updates, send-updates, receive-upd
 use Rattle.window.proofs.Fronts.{updates-asked}
 use Rattle.window.proofs.Updating.{no-updates}
 use borrow.Author.Needs.{needs}
-use Rattle.window.proofs.edge_update.Statement.{statement}
-use Rattle.window.proofs.edge_update.Tie as tie
+use Rattle.window.proofs.updates.edge_update.Statement.{statement}
+use Rattle.window.proofs.updates.edge_update.Tie as tie
 
 action-at-requires : tie.Need-action-at-requires
 action-at-requires c κs = search needs
@@ -37,7 +37,7 @@ update-requires : tie.Need-update-requires
 update-requires c κs =
     let e = c .before .before .before .before .before .before .before in
     let items = c .before .before .items-place in
-    updates-asked (e .args .h .now) (e .pre) (items .result) (items .ensures) (sym (c .before .before .before .enum-told .given .1) ∙ c .before .before .before .before .before .action-at .ensures)
+    updates-asked (e .args .bytes .now) (e .pre) (items .result) (items .ensures) (sym (c .before .before .before .enum-told .given .1) ∙ c .before .before .before .before .before .action-at .ensures)
 
 enum-told-2 : tie.Need-enum-told-2
 enum-told-2 c = search needs
@@ -48,7 +48,7 @@ enum-told-3 c = search needs
 returns : tie.Need-returns
 returns c =
     let a = c .before .before .before .before .before .before .before .before .args in
-    let h = a .h .now in
+    let h = a .bytes .now in
     let items = c .before .before .before .items-place in
     found (λ bs. updated (listAt updateAt 4 (getD h 6 0) bs) (a .values)) h (items .result) (itemsPlace h) (items .ensures) (c .update .ensures)
     ∙ ap (λ us. updated us (a .values)) (sym (internal-updates h (sym (c .before .before .before .before .enum-told .given .1) ∙ c .before .before .before .before .before .before .action-at .ensures)))
@@ -56,12 +56,12 @@ returns c =
 returns-2 : tie.Need-returns-2
 returns-2 c =
     let a = c .before .before .before .before .args in
-    no-updates (arcAt (a .h .now) .updates) (a .values) (send-updates (a .h .now) _ (sym (c .enum-told2 .given .1) ∙ c .before .before .action-at .ensures))
+    no-updates (arcAt (a .bytes .now) .updates) (a .values) (send-updates (a .bytes .now) _ (sym (c .enum-told2 .given .1) ∙ c .before .before .action-at .ensures))
 
 returns-3 : tie.Need-returns-3
 returns-3 c =
     let a = c .before .before .before .before .args in
-    no-updates (arcAt (a .h .now) .updates) (a .values) (receive-updates (a .h .now) (sym (c .enum-told3 .given .1) ∙ c .before .before .action-at .ensures))
+    no-updates (arcAt (a .bytes .now) .updates) (a .values) (receive-updates (a .bytes .now) (sym (c .enum-told3 .given .1) ∙ c .before .before .action-at .ensures))
 
 pub edge-update-spec : {M : Type 1} → statement M
 edge-update-spec =
