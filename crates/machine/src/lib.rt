@@ -27,74 +27,78 @@ pub struct Moved {
 }
 
 // The first row from a row on that is of component c, the number of rows where there is none.
-pub fn next_row(rows: &[u32], n: usize, c: usize, from: usize) -> usize
-    requires { ⌜ RowsStand (now rows) n × (c < 8) × (from ≤ n) ⌝ }
-    ensures { λ r. ⌜ (r ≤ n) × (own c (drop r (rowsOf (now (rows .entry)) n)) ≡ own c (drop from (rowsOf (now (rows .entry)) n))) × (r < n → num (now (rows .entry)) r 0 ≡ c) ⌝ }
+pub fn next_row(rows: &[u32], passages: usize, c: usize, from: usize) -> usize
+    requires { ⌜ RowsStand (now rows) passages × (c < 8) × (from ≤ passages) ⌝ }
+    ensures { λ r. ⌜ (r ≤ passages) × (own c (drop r (rowsOf (now (rows .entry)) passages)) ≡ own c (drop from (rowsOf (now (rows .entry)) passages))) × (r < passages → num (now (rows .entry)) r 0 ≡ c) ⌝ }
 {
     let mut i = from;
-    while i < n {
+    while i < passages {
         if rows::index(rows, i, rows::COMPONENT) == c {
             return i;
         }
         i += 1;
     }
-    n
+    passages
 }
 
 // The ready of a row; past the last row a tick that no run reaches.
-fn next_ready(rows: &[u32], n: usize, row: usize) -> u64
-    requires { ⌜ RowsStand (now rows) n ⌝ }
-    ensures { λ r. ⌜ r ≡ readyAt (rowsOf (now (rows .entry)) n) row ⌝ }
+fn next_ready(rows: &[u32], passages: usize, row: usize) -> u64
+    requires { ⌜ RowsStand (now rows) passages ⌝ }
+    ensures { λ r. ⌜ r ≡ readyAt (rowsOf (now (rows .entry)) passages) row ⌝ }
 {
-    if row < n {
+    if row < passages {
         return rows::number(rows, row, rows::READY) as u64;
     }
-    18446744073709551615
+    stand::NEVER
 }
 
-// Notes when node c is due and when it is late; p is its part, and its next statement stands at that place.
-fn note(p: &[u8], rows: &[u32], n: usize, l: &mut [u64], c: usize, pc: usize)
-    requires { ⌜ (256 ≤ length (now l)) × RowsStand (now rows) n × (c < 8) × (readyTickIn (now l) c ≤ 4000000000000000000) × (pc ≡ placeIn (now l) c) ⌝ }
-    ensures { λ _. ⌜ Noted (now (p .entry)) (now (rows .entry)) n (now (l .entry)) c (now (l .exit)) ⌝ }
+// Notes when node c is due and when it is late; the part is its own, and its next statement stands at that place.
+fn note(part: &[u8], rows: &[u32], passages: usize, words: &mut [u64], c: usize, pc: usize)
+    requires { ⌜ (256 ≤ length (now words)) × RowsStand (now rows) passages × (c < 8) × (readyTickIn (now words) c ≤ 4000000000000000000) × (pc ≡ placeIn (now words) c) ⌝ }
+    ensures { λ _. ⌜ Noted (now (part .entry)) (now (rows .entry)) passages (now (words .entry)) c (now (words .exit)) ⌝ }
 {
-    let op = node::op_at(p, pc);
-    let t = registers::word(l, c, registers::READY_TICK);
-    let d = registers::half(registers::word(l, c, registers::WINDOW_LENGTH));
-    let next = next_ready(rows, n, registers::word(l, c, registers::ROW) as usize);
-    let due = stand::due_by(op, t, d);
-    let last = stand::last_by(op, t, d, next);
-    registers::put_word(l, c, registers::DUE, due);
-    registers::put_word(l, c, registers::LAST, last);
+    let op = node::op_at(part, pc);
+    let ready = registers::word(words, c, registers::READY_TICK);
+    let window = registers::half(registers::word(words, c, registers::WINDOW_LENGTH));
+    let next = next_ready(
+        rows,
+        passages,
+        registers::word(words, c, registers::ROW) as usize,
+    );
+    let due = stand::due_by(op, ready, window);
+    let last = stand::last_by(op, ready, window, next);
+    registers::put_word(words, c, registers::DUE, due);
+    registers::put_word(words, c, registers::LAST, last);
 }
 
 // Puts the registers of node c back, and notes when it is due and when it is late.
 pub fn put_node(
     program: &[u8],
     rows: &[u32],
-    n: usize,
-    l: &mut [u64],
-    v: &mut [i16],
+    passages: usize,
+    words: &mut [u64],
+    values: &mut [i16],
     c: usize,
-    q: Node,
+    next: Node,
 )
-    requires { ⌜ Eight (now l) (now v) × RowsStand (now rows) n × (c < 8) × Inside (now program) (now l) c × Within 4000000000000000000 q ⌝ }
-    ensures { λ _. ⌜ NodePut (now (program .entry)) (now (rows .entry)) n (now (l .entry)) (now (v .entry)) c q (now (l .exit)) (now (v .exit)) ⌝ }
+    requires { ⌜ Eight (now words) (now values) × RowsStand (now rows) passages × (c < 8) × Inside (now program) (now words) c × Within 4000000000000000000 next ⌝ }
+    ensures { λ _. ⌜ NodePut (now (program .entry)) (now (rows .entry)) passages (now (words .entry)) (now (values .entry)) c next (now (words .exit)) (now (values .exit)) ⌝ }
 {
-    registers::store(l, v, c, q);
-    let base = registers::word(l, c, registers::PART_START) as usize;
-    let end = base + registers::word(l, c, registers::PART_LENGTH) as usize;
-    note(&program[base..end], rows, n, l, c, q.pc);
+    registers::store(words, values, c, next);
+    let base = registers::word(words, c, registers::PART_START) as usize;
+    let end = base + registers::word(words, c, registers::PART_LENGTH) as usize;
+    note(&program[base..end], rows, passages, words, c, next.pc);
 }
 
 // After a sleep: the row of node c's next passage.
-fn pass_row(rows: &[u32], n: usize, l: &mut [u64], c: usize)
-    requires { ⌜ (256 ≤ length (now l)) × RowsStand (now rows) n × (c < 8) ⌝ }
-    ensures { λ _. ⌜ RowPassed (now (rows .entry)) n (now (l .entry)) c (now (l .exit)) ⌝ }
+fn pass_row(rows: &[u32], passages: usize, words: &mut [u64], c: usize)
+    requires { ⌜ (256 ≤ length (now words)) × RowsStand (now rows) passages × (c < 8) ⌝ }
+    ensures { λ _. ⌜ RowPassed (now (rows .entry)) passages (now (words .entry)) c (now (words .exit)) ⌝ }
 {
-    let row = registers::word(l, c, registers::ROW) as usize;
-    if row < n {
-        let next = next_row(rows, n, c, row + 1);
-        registers::put_word(l, c, registers::ROW, next as u64);
+    let row = registers::word(words, c, registers::ROW) as usize;
+    if row < passages {
+        let next = next_row(rows, passages, c, row + 1);
+        registers::put_word(words, c, registers::ROW, next as u64);
     }
 }
 
@@ -102,63 +106,71 @@ fn pass_row(rows: &[u32], n: usize, l: &mut [u64], c: usize)
 fn finish_node(
     program: &[u8],
     rows: &[u32],
-    n: usize,
-    l: &mut [u64],
-    v: &mut [i16],
+    passages: usize,
+    words: &mut [u64],
+    values: &mut [i16],
     c: usize,
     op: u8,
 )
-    requires { ⌜ Eight (now l) (now v) × RowsStand (now rows) n × (c < 8) × NodeStands (now program) (now rows) n (now l) (now v) c 3000000000000000000 × (op ≡ opOf (now program) (now l) (now v) c) × Addable (drop (placeIn (now l) c) (partIn (now program) (now l) c)) (heldIn (now l) c) (nodeIn (now l) (now v) c) ⌝ }
-    ensures { λ _. ⌜ NodeMoved (now (program .entry)) (now (rows .entry)) n (now (l .entry)) (now (v .entry)) c (finish (partIn (now (program .entry)) (now (l .entry)) c) (viewIn (now (program .entry)) (now (l .entry)) (now (v .entry)) c) (viewIn (now (program .entry)) (now (l .entry)) (now (v .entry)) c .rest)) (now (l .exit)) (now (v .exit)) ⌝ }
+    requires { ⌜ Eight (now words) (now values) × RowsStand (now rows) passages × (c < 8) × NodeStands (now program) (now rows) passages (now words) (now values) c 3000000000000000000 × (op ≡ opOf (now program) (now words) (now values) c) × Addable (drop (placeIn (now words) c) (partIn (now program) (now words) c)) (heldIn (now words) c) (nodeIn (now words) (now values) c) ⌝ }
+    ensures { λ _. ⌜ NodeMoved (now (program .entry)) (now (rows .entry)) passages (now (words .entry)) (now (values .entry)) c (finish (partIn (now (program .entry)) (now (words .entry)) c) (viewIn (now (program .entry)) (now (words .entry)) (now (values .entry)) c) (viewIn (now (program .entry)) (now (words .entry)) (now (values .entry)) c .rest)) (now (words .exit)) (now (values .exit)) ⌝ }
 {
-    let base = registers::word(l, c, registers::PART_START) as usize;
-    let end = base + registers::word(l, c, registers::PART_LENGTH) as usize;
+    let base = registers::word(words, c, registers::PART_START) as usize;
+    let end = base + registers::word(words, c, registers::PART_LENGTH) as usize;
     if op == op::SLEEP {
-        pass_row(rows, n, l, c);
+        pass_row(rows, passages, words, c);
     }
-    let pc = statement::finish(&program[base..end], l, v, c, op);
-    note(&program[base..end], rows, n, l, c, pc);
+    let pc = statement::finish(&program[base..end], words, values, c, op);
+    note(&program[base..end], rows, passages, words, c, pc);
 }
 
 // Node i takes a message on the channel.
-fn hear(program: &[u8], rows: &[u32], n: usize, l: &mut [u64], v: &mut [i16], i: usize, k: u8)
-    requires { ⌜ Eight (now l) (now v) × RowsStand (now rows) n × (i < 8) × NodeStands (now program) (now rows) n (now l) (now v) i 3000000000000000000 × (opOf (now program) (now l) (now v) i ≡ 5) ⌝ }
-    ensures { λ _. ⌜ NodeMoved (now (program .entry)) (now (rows .entry)) n (now (l .entry)) (now (v .entry)) i (takesMessage (partIn (now (program .entry)) (now (l .entry)) i) k (viewIn (now (program .entry)) (now (l .entry)) (now (v .entry)) i)) (now (l .exit)) (now (v .exit)) ⌝ }
+fn hear(
+    program: &[u8],
+    rows: &[u32],
+    passages: usize,
+    words: &mut [u64],
+    values: &mut [i16],
+    i: usize,
+    channel: u8,
+)
+    requires { ⌜ Eight (now words) (now values) × RowsStand (now rows) passages × (i < 8) × NodeStands (now program) (now rows) passages (now words) (now values) i 3000000000000000000 × (opOf (now program) (now words) (now values) i ≡ 5) ⌝ }
+    ensures { λ _. ⌜ NodeMoved (now (program .entry)) (now (rows .entry)) passages (now (words .entry)) (now (values .entry)) i (takesMessage (partIn (now (program .entry)) (now (words .entry)) i) channel (viewIn (now (program .entry)) (now (words .entry)) (now (values .entry)) i)) (now (words .exit)) (now (values .exit)) ⌝ }
 {
-    let base = registers::word(l, i, registers::PART_START) as usize;
-    let end = base + registers::word(l, i, registers::PART_LENGTH) as usize;
-    let r = registers::load(l, v, i);
-    let q = stand::take_message(&program[base..end], r, k);
-    put_node(program, rows, n, l, v, i, q);
+    let base = registers::word(words, i, registers::PART_START) as usize;
+    let end = base + registers::word(words, i, registers::PART_LENGTH) as usize;
+    let before = registers::load(words, values, i);
+    let next = stand::take_message(&program[base..end], before, channel);
+    put_node(program, rows, passages, words, values, i, next);
 }
 
 // Whether node i stands at a listen that names the channel, has taken nothing, and has listened since that tick or longer.
-fn hears(program: &[u8], l: &[u64], i: usize, t: u64, k: u8) -> bool
-    requires { ⌜ (256 ≤ length (now l)) × (i < 8) × Inside (now program) (now l) i ⌝ }
-    ensures { λ r. ⌜ ((v : List ℤ) → r ≡ names k (standOf (viewIn (now (program .entry)) (now (l .entry)) v i)) && isNone (viewIn (now (program .entry)) (now (l .entry)) v i .goes) && leb (readyTickIn (now (l .entry)) i) t) ⌝ }
+fn hears(program: &[u8], words: &[u64], i: usize, ready: u64, channel: u8) -> bool
+    requires { ⌜ (256 ≤ length (now words)) × (i < 8) × Inside (now program) (now words) i ⌝ }
+    ensures { λ r. ⌜ ((values : List ℤ) → r ≡ names channel (standOf (viewIn (now (program .entry)) (now (words .entry)) values i)) && isNone (viewIn (now (program .entry)) (now (words .entry)) values i .goes) && leb (readyTickIn (now (words .entry)) i) ready) ⌝ }
 {
-    if t < registers::word(l, i, registers::READY_TICK) {
+    if ready < registers::word(words, i, registers::READY_TICK) {
         return false;
     }
-    if registers::word(l, i, registers::TAKEN) == 1 {
+    if registers::word(words, i, registers::TAKEN) == 1 {
         return false;
     }
-    let base = registers::word(l, i, registers::PART_START) as usize;
-    let end = base + registers::word(l, i, registers::PART_LENGTH) as usize;
-    let pc = registers::word(l, i, registers::PLACE) as usize;
-    stand::names(&program[base..end], pc, k)
+    let base = registers::word(words, i, registers::PART_START) as usize;
+    let end = base + registers::word(words, i, registers::PART_LENGTH) as usize;
+    let pc = registers::word(words, i, registers::PLACE) as usize;
+    stand::names(&program[base..end], pc, channel)
 }
 
 // The lowest node that hears a send of node c on the channel, 8 where there is none.
-fn listener(program: &[u8], l: &[u64], count: usize, c: usize, k: u8) -> usize
-    requires { ⌜ (256 ≤ length (now l)) × (count ≤ 8) × (c < count) × ((i : ℕ) → i < count → Inside (now program) (now l) i) ⌝ }
-    ensures { λ r. ⌜ ((v : List ℤ) (s : Run) → s .nodes ≡ map (viewIn (now (program .entry)) (now (l .entry)) v) (below count) → IsFirst (listeners s c k) r) × (r < 8 → (r < count) × ((r ≡ c) → ⊥) × (opIn (drop (placeIn (now (l .entry)) r) (partIn (now (program .entry)) (now (l .entry)) r)) ≡ 5)) ⌝ }
+fn listener(program: &[u8], words: &[u64], count: usize, c: usize, channel: u8) -> usize
+    requires { ⌜ (256 ≤ length (now words)) × (count ≤ 8) × (c < count) × ((i : ℕ) → i < count → Inside (now program) (now words) i) ⌝ }
+    ensures { λ r. ⌜ ((values : List ℤ) (s : Run) → s .nodes ≡ map (viewIn (now (program .entry)) (now (words .entry)) values) (below count) → IsFirst (listeners s c channel) r) × (r < 8 → (r < count) × ((r ≡ c) → ⊥) × (opIn (drop (placeIn (now (words .entry)) r) (partIn (now (program .entry)) (now (words .entry)) r)) ≡ 5)) ⌝ }
 {
-    let t = registers::word(l, c, registers::READY_TICK);
+    let ready = registers::word(words, c, registers::READY_TICK);
     let mut i: usize = 0;
     while i < count {
         if i != c {
-            if hears(program, l, i, t, k) {
+            if hears(program, words, i, ready, channel) {
                 return i;
             }
         }
@@ -171,118 +183,130 @@ fn listener(program: &[u8], l: &[u64], count: usize, c: usize, k: u8) -> usize
 fn send_message(
     program: &[u8],
     rows: &[u32],
-    n: usize,
-    l: &mut [u64],
-    v: &mut [i16],
+    passages: usize,
+    words: &mut [u64],
+    values: &mut [i16],
     count: usize,
     c: usize,
 ) -> bool
-    requires { ⌜ Standing (now program) (now rows) n (now l) (now v) count × (c < count) × (opOf (now program) (now l) (now v) c ≡ 4) ⌝ }
-    ensures { λ r. ⌜ ((H tick written : ℕ) (out : List ℕ) → Chosen (now (program .entry)) (now (rows .entry)) n H count tick c (now (l .entry)) (now (v .entry)) out written (record { allowed = r; written = written }) (now (l .exit)) (now (v .exit)) out) ⌝ }
+    requires { ⌜ Standing (now program) (now rows) passages (now words) (now values) count × (c < count) × (opOf (now program) (now words) (now values) c ≡ 4) ⌝ }
+    ensures { λ r. ⌜ ((H tick written : ℕ) (out : List ℕ) → Chosen (now (program .entry)) (now (rows .entry)) passages H count tick c (now (words .entry)) (now (values .entry)) out written (record { allowed = r; written = written }) (now (words .exit)) (now (values .exit)) out) ⌝ }
 {
-    let base = registers::word(l, c, registers::PART_START) as usize;
-    let end = base + registers::word(l, c, registers::PART_LENGTH) as usize;
-    let pc = registers::word(l, c, registers::PLACE) as usize;
-    let k = node::byte_at(&program[base..end], pc + 1);
-    let i = listener(program, l, count, c, k);
+    let base = registers::word(words, c, registers::PART_START) as usize;
+    let end = base + registers::word(words, c, registers::PART_LENGTH) as usize;
+    let pc = registers::word(words, c, registers::PLACE) as usize;
+    let channel = node::byte_at(&program[base..end], pc + 1);
+    let i = listener(program, words, count, c, channel);
     if 8 <= i {
         return false;
     }
-    finish_node(program, rows, n, l, v, c, op::SEND);
-    hear(program, rows, n, l, v, i, k);
+    finish_node(program, rows, passages, words, values, c, op::SEND);
+    hear(program, rows, passages, words, values, i, channel);
     true
 }
 
 // Whether node c, whose statement's op that is, may finish it at that tick without another node.
-fn may_finish(program: &[u8], l: &[u64], v: &[i16], c: usize, op: u8, tick: u64) -> bool
-    requires { ⌜ Eight (now l) (now v) × (c < 8) × Inside (now program) (now l) c × Held (heldIn (now l) c) × (readyTickIn (now l) c ≤ 4000000000000000000) × (op ≡ opOf (now program) (now l) (now v) c) ⌝ }
-    ensures { λ b. ⌜ b ≡ mayFinish tick (viewIn (now (program .entry)) (now (l .entry)) (now (v .entry)) c) (standOf (viewIn (now (program .entry)) (now (l .entry)) (now (v .entry)) c)) ⌝ }
+fn may_finish(program: &[u8], words: &[u64], values: &[i16], c: usize, op: u8, tick: u64) -> bool
+    requires { ⌜ Eight (now words) (now values) × (c < 8) × Inside (now program) (now words) c × Held (heldIn (now words) c) × (readyTickIn (now words) c ≤ 4000000000000000000) × (op ≡ opOf (now program) (now words) (now values) c) ⌝ }
+    ensures { λ b. ⌜ b ≡ mayFinish tick (viewIn (now (program .entry)) (now (words .entry)) (now (values .entry)) c) (standOf (viewIn (now (program .entry)) (now (words .entry)) (now (values .entry)) c)) ⌝ }
 {
-    let t = registers::word(l, c, registers::READY_TICK);
-    let d = registers::half(registers::word(l, c, registers::WINDOW_LENGTH));
-    let kept = registers::word(l, c, registers::KEPT) == 1;
+    let ready = registers::word(words, c, registers::READY_TICK);
+    let window = registers::half(registers::word(words, c, registers::WINDOW_LENGTH));
+    let kept = registers::word(words, c, registers::KEPT) == 1;
     if op == op::ADD {
-        let base = registers::word(l, c, registers::PART_START) as usize;
-        let end = base + registers::word(l, c, registers::PART_LENGTH) as usize;
-        let at = registers::word(l, c, registers::PLACE) as usize;
-        let p = &program[base..end];
-        let value = registers::value(l, v, c, p[at + 1]);
-        let fits = stand::adds_in_range(&p[at..], value);
-        return stand::may_by(op, tick, t, d, kept, fits);
+        let base = registers::word(words, c, registers::PART_START) as usize;
+        let end = base + registers::word(words, c, registers::PART_LENGTH) as usize;
+        let at = registers::word(words, c, registers::PLACE) as usize;
+        let part = &program[base..end];
+        let value = registers::value(words, values, c, part[at + 1]);
+        let fits = stand::adds_in_range(&part[at..], value);
+        return stand::may_by(op, tick, ready, window, kept, fits);
     }
-    stand::may_by(op, tick, t, d, kept, true)
+    stand::may_by(op, tick, ready, window, kept, true)
 }
 
 // Node c, which does not stand at a send, finishes its statement if it may; a sleep is observed.
 fn go_alone(
     program: &[u8],
     rows: &[u32],
-    n: usize,
+    passages: usize,
     count: usize,
-    l: &mut [u64],
-    v: &mut [i16],
+    words: &mut [u64],
+    values: &mut [i16],
     c: usize,
     op: u8,
     tick: u64,
     out: &mut [u8],
     written: usize,
 ) -> Moved
-    requires { ⌜ Standing (now program) (now rows) n (now l) (now v) count × (c < count) × (op ≡ opOf (now program) (now l) (now v) c) × (opOf (now program) (now l) (now v) c ≡ 4 → ⊥) × (observesNow (now program) (now l) (now v) c tick ≡ true → written * 32 + 32 ≤ length (now out)) × (written ≤ 1000000) ⌝ }
-    ensures { λ m. ⌜ ((H : ℕ) → Chosen (now (program .entry)) (now (rows .entry)) n H count tick c (now (l .entry)) (now (v .entry)) (now (out .entry)) written m (now (l .exit)) (now (v .exit)) (now (out .exit))) ⌝ }
+    requires { ⌜ Standing (now program) (now rows) passages (now words) (now values) count × (c < count) × (op ≡ opOf (now program) (now words) (now values) c) × (opOf (now program) (now words) (now values) c ≡ 4 → ⊥) × (observesNow (now program) (now words) (now values) c tick ≡ true → written * 32 + 32 ≤ length (now out)) × (written ≤ 1000000) ⌝ }
+    ensures { λ moved. ⌜ ((H : ℕ) → Chosen (now (program .entry)) (now (rows .entry)) passages H count tick c (now (words .entry)) (now (values .entry)) (now (out .entry)) written moved (now (words .exit)) (now (values .exit)) (now (out .exit))) ⌝ }
 {
-    if !may_finish(program, l, v, c, op, tick) {
+    if !may_finish(program, words, values, c, op, tick) {
         return Moved {
             allowed: false,
             written,
         };
     }
     if op == op::SLEEP {
-        let held = registers::counts(l, c);
-        let r = registers::load(l, v, c);
-        observation::put_observation(r, held, c as u8, tick, out, written * 32);
-        finish_node(program, rows, n, l, v, c, op::SLEEP);
+        let held = registers::counts(words, c);
+        let before = registers::load(words, values, c);
+        observation::put_observation(before, held, c as u8, tick, out, written * 32);
+        finish_node(program, rows, passages, words, values, c, op::SLEEP);
         return Moved {
             allowed: true,
             written: written + 1,
         };
     }
-    finish_node(program, rows, n, l, v, c, op);
+    finish_node(program, rows, passages, words, values, c, op);
     Moved {
         allowed: true,
         written,
     }
 }
 
-// Choice b: a node's number.
+// A choice: a node's number.
 pub fn choose_node(
     program: &[u8],
     rows: &[u32],
-    n: usize,
+    passages: usize,
     count: usize,
-    l: &mut [u64],
-    v: &mut [i16],
+    words: &mut [u64],
+    values: &mut [i16],
     tick: u64,
-    b: u8,
+    choice: u8,
     out: &mut [u8],
     written: usize,
 ) -> Moved
-    requires { ⌜ Standing (now program) (now rows) n (now l) (now v) count × (b < 255) × (b < count → observesNow (now program) (now l) (now v) b tick ≡ true → written * 32 + 32 ≤ length (now out)) × (written ≤ 1000000) ⌝ }
-    ensures { λ m. ⌜ ((H : ℕ) → Chosen (now (program .entry)) (now (rows .entry)) n H count tick b (now (l .entry)) (now (v .entry)) (now (out .entry)) written m (now (l .exit)) (now (v .exit)) (now (out .exit))) ⌝ }
+    requires { ⌜ Standing (now program) (now rows) passages (now words) (now values) count × (choice < 255) × (choice < count → observesNow (now program) (now words) (now values) choice tick ≡ true → written * 32 + 32 ≤ length (now out)) × (written ≤ 1000000) ⌝ }
+    ensures { λ moved. ⌜ ((H : ℕ) → Chosen (now (program .entry)) (now (rows .entry)) passages H count tick choice (now (words .entry)) (now (values .entry)) (now (out .entry)) written moved (now (words .exit)) (now (values .exit)) (now (out .exit))) ⌝ }
 {
-    let c = b as usize;
+    let c = choice as usize;
     if count <= c {
         return Moved {
             allowed: false,
             written,
         };
     }
-    let base = registers::word(l, c, registers::PART_START) as usize;
-    let end = base + registers::word(l, c, registers::PART_LENGTH) as usize;
-    let pc = registers::word(l, c, registers::PLACE) as usize;
+    let base = registers::word(words, c, registers::PART_START) as usize;
+    let end = base + registers::word(words, c, registers::PART_LENGTH) as usize;
+    let pc = registers::word(words, c, registers::PLACE) as usize;
     let op = node::op_at(&program[base..end], pc);
     if op == op::SEND {
-        let allowed = send_message(program, rows, n, l, v, count, c);
+        let allowed = send_message(program, rows, passages, words, values, count, c);
         return Moved { allowed, written };
     }
-    go_alone(program, rows, n, count, l, v, c, op, tick, out, written)
+    go_alone(
+        program,
+        rows,
+        passages,
+        count,
+        words,
+        values,
+        c,
+        op,
+        tick,
+        out,
+        written,
+    )
 }

@@ -7,27 +7,27 @@ use crate::Kept;
 use crate::Trial;
 use crate::wide64;
 
-// What is left of k after the clock, or 0.
-pub fn left_of(k: u16, clock: u64) -> u16
-    ensures { λ r. ⌜ r ≡ k - clock ⌝ }
+// What is left of the bound after the clock, or 0.
+pub fn left_of(bound: u16, clock: u64) -> u16
+    ensures { λ r. ⌜ r ≡ bound - clock ⌝ }
 {
-    if clock < wide64(k) {
-        k - (clock as u16)
+    if clock < wide64(bound) {
+        bound - (clock as u16)
     } else {
         0
     }
 }
 
-fn greater(a: u16, b: u16) -> u16
-    ensures { λ r. ⌜ r ≡ max a b ⌝ }
+fn greater(first: u16, second: u16) -> u16
+    ensures { λ r. ⌜ r ≡ max first second ⌝ }
 {
-    if a < b { b } else { a }
+    if first < second { second } else { first }
 }
 
-fn lesser(a: u16, b: u16) -> u16
-    ensures { λ r. ⌜ r ≡ min a b ⌝ }
+fn lesser(first: u16, second: u16) -> u16
+    ensures { λ r. ⌜ r ≡ min first second ⌝ }
 {
-    if a < b { a } else { b }
+    if first < second { first } else { second }
 }
 
 pub fn no_trial() -> Trial
@@ -41,70 +41,74 @@ pub fn no_trial() -> Trial
     }
 }
 
-// Low raises the ready delay to k less the clock.
-pub fn raised(x: Trial, k: u16, clock: u64) -> Trial
-    ensures { λ r. ⌜ r ≡ raisedTo x k clock ⌝ }
+// Low raises the ready delay to the bound less the clock.
+pub fn raised(trial: Trial, bound: u16, clock: u64) -> Trial
+    ensures { λ r. ⌜ r ≡ raisedTo trial bound clock ⌝ }
 {
     Trial {
-        ready: greater(x.ready, left_of(k, clock)),
-        ended: x.ended,
-        end: x.end,
-        good: x.good,
+        ready: greater(trial.ready, left_of(bound, clock)),
+        ended: trial.ended,
+        end: trial.end,
+        good: trial.good,
     }
 }
 
 // The lower of the trial's end and another, or the other where it has none.
-fn lowest(x: Trial, left: u16) -> u16
-    ensures { λ r. ⌜ r ≡ cond (x .ended) (min (x .end) left) left ⌝ }
+fn lowest(trial: Trial, left: u16) -> u16
+    ensures { λ r. ⌜ r ≡ cond (trial .ended) (min (trial .end) left) left ⌝ }
 {
-    if x.ended { lesser(x.end, left) } else { left }
+    if trial.ended {
+        lesser(trial.end, left)
+    } else {
+        left
+    }
 }
 
-// High lowers the end to k less the clock; a clock beyond k fails the trial.
-pub fn lowered(x: Trial, k: u16, clock: u64) -> Trial
-    ensures { λ r. ⌜ r ≡ loweredTo x k clock ⌝ }
+// High lowers the end to the bound less the clock; a clock beyond the bound fails the trial.
+pub fn lowered(trial: Trial, bound: u16, clock: u64) -> Trial
+    ensures { λ r. ⌜ r ≡ loweredTo trial bound clock ⌝ }
 {
-    let left = left_of(k, clock);
-    let good = parts::both(x.good, clock <= wide64(k));
+    let left = left_of(bound, clock);
+    let good = parts::both(trial.good, clock <= wide64(bound));
     Trial {
-        ready: x.ready,
+        ready: trial.ready,
         ended: true,
-        end: lowest(x, left),
+        end: lowest(trial, left),
         good,
     }
 }
 
-pub fn met(x: Trial, b: bool) -> Trial
-    ensures { λ r. ⌜ r ≡ metBy x b ⌝ }
+pub fn met(trial: Trial, holds: bool) -> Trial
+    ensures { λ r. ⌜ r ≡ metBy trial holds ⌝ }
 {
     Trial {
-        ready: x.ready,
-        ended: x.ended,
-        end: x.end,
-        good: parts::both(x.good, b),
+        ready: trial.ready,
+        ended: trial.ended,
+        end: trial.end,
+        good: parts::both(trial.good, holds),
     }
 }
 
 // Keep applies the candidate rule: the earlier ready delay, on a tie the edge kept before.
-pub fn keeps(x: Trial, e: u8, k: Kept) -> Kept
-    ensures { λ r. ⌜ r ≡ keptBy x e k ⌝ }
+pub fn keeps(trial: Trial, edge: u8, kept: Kept) -> Kept
+    ensures { λ r. ⌜ r ≡ keptBy trial edge kept ⌝ }
 {
-    if !x.ended {
-        return k;
+    if !trial.ended {
+        return kept;
     }
-    if !x.good {
-        return k;
+    if !trial.good {
+        return kept;
     }
-    if x.end <= x.ready {
-        return k;
+    if trial.end <= trial.ready {
+        return kept;
     }
-    if parts::both(k.some, k.ready <= x.ready) {
-        return k;
+    if parts::both(kept.some, kept.ready <= trial.ready) {
+        return kept;
     }
     Kept {
         some: true,
-        edge: e,
-        ready: x.ready,
-        end: x.end,
+        edge,
+        ready: trial.ready,
+        end: trial.end,
     }
 }

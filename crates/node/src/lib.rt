@@ -64,55 +64,43 @@ pub struct Node {
     pub sleeps: u64,
 }
 
-pub fn wide(x: u8) -> usize
-    ensures { λ r. ⌜ (r ≡ x) × (r < 256) ⌝ }
+pub fn wide64(number: u16) -> u64
+    ensures { λ r. ⌜ (r ≡ number) × (r < 65536) ⌝ }
 {
-    x as usize
+    number as u64
 }
 
-fn wide16(x: u8) -> u16
-    ensures { λ r. ⌜ (r ≡ x) × (r < 256) ⌝ }
+pub fn wide32(number: i16) -> i32
+    ensures { λ r. ⌜ r ≡ number ⌝ }
 {
-    x as u16
-}
-
-pub fn wide64(x: u16) -> u64
-    ensures { λ r. ⌜ (r ≡ x) × (r < 65536) ⌝ }
-{
-    x as u64
-}
-
-pub fn wide32(x: i16) -> i32
-    ensures { λ r. ⌜ r ≡ x ⌝ }
-{
-    x as i32
+    number as i32
 }
 
 // The byte at a place, 0 past the end.
-pub fn byte_at(p: &[u8], i: usize) -> u8
-    ensures { λ r. ⌜ r ≡ byte (now (p .entry)) i ⌝ }
+pub fn byte_at(part: &[u8], i: usize) -> u8
+    ensures { λ r. ⌜ r ≡ byte (now (part .entry)) i ⌝ }
 {
-    if i < p.len() { p[i] } else { 0 }
+    if i < part.len() { part[i] } else { 0 }
 }
 
-fn number_at(p: &[u8], i: usize) -> u16
+fn number_at(part: &[u8], i: usize) -> u16
     requires { ⌜ i ≤ 65535 ⌝ }
-    ensures { λ r. ⌜ r ≡ word (now (p .entry)) i ⌝ }
+    ensures { λ r. ⌜ r ≡ word (now (part .entry)) i ⌝ }
 {
-    wide16(byte_at(p, i)) * 256 + wide16(byte_at(p, i + 1))
+    parts::wide16(byte_at(part, i)) * 256 + parts::wide16(byte_at(part, i + 1))
 }
 
 // The op of the statement at a place, 255 where there is none.
-pub fn op_at(p: &[u8], at: usize) -> u8
-    ensures { λ r. ⌜ r ≡ opIn (drop at (now (p .entry))) ⌝ }
+pub fn op_at(part: &[u8], at: usize) -> u8
+    ensures { λ r. ⌜ r ≡ opIn (drop at (now (part .entry))) ⌝ }
 {
-    if p.len() < 4 {
+    if part.len() < 4 {
         return NOWHERE;
     }
-    if p.len() - 4 < at {
+    if part.len() - 4 < at {
         return NOWHERE;
     }
-    let op = p[at];
+    let op = part[at];
     if op == op::PAIR {
         return NOWHERE;
     }
@@ -120,243 +108,244 @@ pub fn op_at(p: &[u8], at: usize) -> u8
 }
 
 // Where block i starts.
-pub fn block_place(p: &[u8], i: usize) -> usize
+pub fn block_place(part: &[u8], i: usize) -> usize
     requires { ⌜ i ≤ 512 ⌝ }
-    ensures { λ r. ⌜ r ≡ blockPlace (now (p .entry)) i ⌝ }
+    ensures { λ r. ⌜ r ≡ blockPlace (now (part .entry)) i ⌝ }
 {
-    let head = 6 + (wide(byte_at(p, 2)) + wide(byte_at(p, 3))) * 2;
-    head + (number_at(p, 6 + i * 2) as usize) * 4
+    let head = 6 + (parts::wide(byte_at(part, 2)) + parts::wide(byte_at(part, 3))) * 2;
+    head + (number_at(part, 6 + i * 2) as usize) * 4
 }
 
 // A clock, 0 for one that the node does not have.
-fn clock_at(clocks: [u64; 4], n: u8, i: u8) -> u64
-    requires { ⌜ n ≤ 4 ⌝ }
-    ensures { λ r. ⌜ r ≡ clockAt (take n clocks) i ⌝ }
+fn clock_at(clocks: [u64; 4], count: u8, i: u8) -> u64
+    requires { ⌜ count ≤ 4 ⌝ }
+    ensures { λ r. ⌜ r ≡ clockAt (take count clocks) i ⌝ }
 {
-    if i < n { clocks[wide(i)] } else { 0 }
+    if i < count { clocks[parts::wide(i)] } else { 0 }
 }
 
-pub fn value_at(values: [i16; 4], n: u8, i: u8) -> i16
-    requires { ⌜ n ≤ 4 ⌝ }
-    ensures { λ r. ⌜ r ≡ valueAt (take n values) i ⌝ }
+pub fn value_at(values: [i16; 4], count: u8, i: u8) -> i16
+    requires { ⌜ count ≤ 4 ⌝ }
+    ensures { λ r. ⌜ r ≡ valueAt (take count values) i ⌝ }
 {
-    if i < n { values[wide(i)] } else { 0 }
+    if i < count { values[parts::wide(i)] } else { 0 }
 }
 
 // The trial after a bound on that clock: low (0B) or high (0C).
-pub fn by_clock(h: &[u8], x: Trial, clock: u64) -> Trial
-    requires { ⌜ (4 ≤ length (now h)) × (11 ≤ byte (now h) 0) × (byte (now h) 0 ≤ 12) ⌝ }
-    ensures { λ y. ⌜ y ≡ clockTried (now (h .entry)) x clock ⌝ }
+pub fn by_clock(statement: &[u8], trial: Trial, clock: u64) -> Trial
+    requires { ⌜ (4 ≤ length (now statement)) × (11 ≤ byte (now statement) 0) × (byte (now statement) 0 ≤ 12) ⌝ }
+    ensures { λ next. ⌜ next ≡ clockTried (now (statement .entry)) trial clock ⌝ }
 {
-    let k = parts::word_at(h, 2);
-    if h[0] == op::LOW {
-        return candidate::raised(x, k, clock);
+    let bound = parts::word_at(statement, 2);
+    if statement[0] == op::LOW {
+        return candidate::raised(trial, bound, clock);
     }
-    candidate::lowered(x, k, clock)
+    candidate::lowered(trial, bound, clock)
 }
 
 // The trial after a bound on that variable (0D or 0E).
-pub fn by_value(h: &[u8], x: Trial, value: i16) -> Trial
-    requires { ⌜ (4 ≤ length (now h)) × (13 ≤ byte (now h) 0) × (byte (now h) 0 ≤ 14) ⌝ }
-    ensures { λ y. ⌜ y ≡ valueTried (now (h .entry)) x value ⌝ }
+pub fn by_value(statement: &[u8], trial: Trial, value: i16) -> Trial
+    requires { ⌜ (4 ≤ length (now statement)) × (13 ≤ byte (now statement) 0) × (byte (now statement) 0 ≤ 14) ⌝ }
+    ensures { λ next. ⌜ next ≡ valueTried (now (statement .entry)) trial value ⌝ }
 {
-    let bound = decoder::signed_at(h, 2);
-    if h[0] == op::DATA_LOW {
-        return candidate::met(x, bound <= value);
+    let bound = decoder::signed_at(statement, 2);
+    if statement[0] == op::DATA_LOW {
+        return candidate::met(trial, bound <= value);
     }
-    candidate::met(x, value <= bound)
+    candidate::met(trial, value <= bound)
 }
 
 // The trial after a bound, by its op, or a new trial (0A).
-fn tried(h: &[u8], held: Counts, r: Node) -> Trial
-    requires { ⌜ (4 ≤ length (now h)) × (10 ≤ byte (now h) 0) × (byte (now h) 0 ≤ 14) × Held held ⌝ }
-    ensures { λ x. ⌜ trying r x ≡ effect (now (h .entry)) held r ⌝ }
+fn tried(statement: &[u8], held: Counts, registers: Node) -> Trial
+    requires { ⌜ (4 ≤ length (now statement)) × (10 ≤ byte (now statement) 0) × (byte (now statement) 0 ≤ 14) × Held held ⌝ }
+    ensures { λ trial. ⌜ trying registers trial ≡ effect (now (statement .entry)) held registers ⌝ }
 {
-    let op = h[0];
-    let a = h[1];
-    let x = r.tried;
-    let clocks = r.clocks;
-    let values = r.values;
+    let op = statement[0];
+    let a = statement[1];
+    let trial = registers.tried;
+    let clocks = registers.clocks;
+    let values = registers.values;
     if op == op::TRIAL {
         return candidate::no_trial();
     }
     if op < op::DATA_LOW {
-        return by_clock(h, x, clock_at(clocks, held.clocks, a));
+        return by_clock(statement, trial, clock_at(clocks, held.clocks, a));
     }
-    by_value(h, x, value_at(values, held.variables, a))
+    by_value(statement, trial, value_at(values, held.variables, a))
 }
 
 // A statement of a trial (0A to 0F).
-fn try_statement(h: &[u8], held: Counts, r: Node) -> Node
-    requires { ⌜ (4 ≤ length (now h)) × (10 ≤ byte (now h) 0) × (byte (now h) 0 ≤ 15) × Held held ⌝ }
-    ensures { λ q. ⌜ q ≡ effect (now (h .entry)) held r ⌝ }
+fn try_statement(statement: &[u8], held: Counts, registers: Node) -> Node
+    requires { ⌜ (4 ≤ length (now statement)) × (10 ≤ byte (now statement) 0) × (byte (now statement) 0 ≤ 15) × Held held ⌝ }
+    ensures { λ next. ⌜ next ≡ effect (now (statement .entry)) held registers ⌝ }
 {
-    let mut q = r;
-    if h[0] == op::KEEP {
-        let k = candidate::keeps(r.tried, h[3], r.kept);
-        q.kept = k;
+    let mut next = registers;
+    if statement[0] == op::KEEP {
+        let kept = candidate::keeps(registers.tried, statement[3], registers.kept);
+        next.kept = kept;
     } else {
-        let x = tried(h, held, r);
-        q.tried = x;
+        let trial = tried(statement, held, registers);
+        next.tried = trial;
     }
-    q
+    next
 }
 
 // A sum that stays in range.
-pub fn sum(x: i16, z: i16) -> i16
-    requires { ⌜ inRange (x +ℤ z) ≡ true ⌝ }
-    ensures { λ r. ⌜ r ≡ x +ℤ z ⌝ }
+pub fn sum(value: i16, addend: i16) -> i16
+    requires { ⌜ inRange (value +ℤ addend) ≡ true ⌝ }
+    ensures { λ r. ⌜ r ≡ value +ℤ addend ⌝ }
 {
-    (wide32(x) + wide32(z)) as i16
+    (wide32(value) + wide32(addend)) as i16
 }
 
 // Set (01) and add (02).
-fn update_statement(h: &[u8], held: Counts, r: Node) -> Node
-    requires { ⌜ (4 ≤ length (now h)) × (1 ≤ byte (now h) 0) × (byte (now h) 0 ≤ 2) × Held held × Addable (now h) held r ⌝ }
-    ensures { λ q. ⌜ q ≡ effect (now (h .entry)) held r ⌝ }
+fn update_statement(statement: &[u8], held: Counts, registers: Node) -> Node
+    requires { ⌜ (4 ≤ length (now statement)) × (1 ≤ byte (now statement) 0) × (byte (now statement) 0 ≤ 2) × Held held × Addable (now statement) held registers ⌝ }
+    ensures { λ next. ⌜ next ≡ effect (now (statement .entry)) held registers ⌝ }
 {
-    let a = h[1];
+    let a = statement[1];
     if held.variables <= a {
-        return r;
+        return registers;
     }
-    let z = decoder::signed_at(h, 2);
-    let mut values = r.values;
-    if h[0] == op::SET {
-        values[wide(a)] = z;
+    let operand = decoder::signed_at(statement, 2);
+    let mut values = registers.values;
+    if statement[0] == op::SET {
+        values[parts::wide(a)] = operand;
     } else {
-        values[wide(a)] = sum(values[wide(a)], z);
+        values[parts::wide(a)] = sum(values[parts::wide(a)], operand);
     }
-    let mut q = r;
-    q.values = values;
-    q
+    let mut next = registers;
+    next.values = values;
+    next
 }
 
 // Age (07) and zero (08).
-fn clock_statement(h: &[u8], held: Counts, r: Node) -> Node
-    requires { ⌜ (4 ≤ length (now h)) × (7 ≤ byte (now h) 0) × (byte (now h) 0 ≤ 8) × Held held × Within 4000000000000000000 r ⌝ }
-    ensures { λ q. ⌜ q ≡ effect (now (h .entry)) held r ⌝ }
+fn clock_statement(statement: &[u8], held: Counts, registers: Node) -> Node
+    requires { ⌜ (4 ≤ length (now statement)) × (7 ≤ byte (now statement) 0) × (byte (now statement) 0 ≤ 8) × Held held × Within 4000000000000000000 registers ⌝ }
+    ensures { λ next. ⌜ next ≡ effect (now (statement .entry)) held registers ⌝ }
 {
-    let a = h[1];
+    let a = statement[1];
     if held.clocks <= a {
-        return r;
+        return registers;
     }
-    let mut clocks = r.clocks;
-    if h[0] == op::ZERO {
-        clocks[wide(a)] = 0;
+    let mut clocks = registers.clocks;
+    if statement[0] == op::ZERO {
+        clocks[parts::wide(a)] = 0;
     } else {
-        clocks[wide(a)] = clocks[wide(a)] + (wide64(r.n) + wide64(r.d));
+        clocks[parts::wide(a)] = clocks[parts::wide(a)]
+            + (wide64(registers.n) + wide64(registers.d));
     }
-    let mut q = r;
-    q.clocks = clocks;
-    q
+    let mut next = registers;
+    next.clocks = clocks;
+    next
 }
 
 // Enter (09): the location, after a message the paired one.
-fn enter_statement(h: &[u8], held: Counts, r: Node) -> Node
-    requires { ⌜ (4 ≤ length (now h)) × (byte (now h) 0 ≡ 9) ⌝ }
-    ensures { λ q. ⌜ q ≡ effect (now (h .entry)) held r ⌝ }
+fn enter_statement(statement: &[u8], held: Counts, registers: Node) -> Node
+    requires { ⌜ (4 ≤ length (now statement)) × (byte (now statement) 0 ≡ 9) ⌝ }
+    ensures { λ next. ⌜ next ≡ effect (now (statement .entry)) held registers ⌝ }
 {
-    let to = h[3];
-    let mut q = r;
-    if r.taken {
-        q.location = r.goes;
+    let to = statement[3];
+    let mut next = registers;
+    if registers.taken {
+        next.location = registers.goes;
     } else {
-        q.location = to;
+        next.location = to;
     }
-    q.taken = false;
-    q
+    next.taken = false;
+    next
 }
 
 // A statement of work or after it (00 to 09). Done, send and listen change no register.
-fn work_statement(h: &[u8], held: Counts, r: Node) -> Node
-    requires { ⌜ (4 ≤ length (now h)) × (byte (now h) 0 ≤ 9) × Held held × Within 4000000000000000000 r × Addable (now h) held r ⌝ }
-    ensures { λ q. ⌜ q ≡ effect (now (h .entry)) held r ⌝ }
+fn work_statement(statement: &[u8], held: Counts, registers: Node) -> Node
+    requires { ⌜ (4 ≤ length (now statement)) × (byte (now statement) 0 ≤ 9) × Held held × Within 4000000000000000000 registers × Addable (now statement) held registers ⌝ }
+    ensures { λ next. ⌜ next ≡ effect (now (statement .entry)) held registers ⌝ }
 {
-    let op = h[0];
+    let op = statement[0];
     if op == op::SLEEP {
-        let mut q = r;
-        q.sleeps = r.sleeps + 1;
-        return q;
+        let mut next = registers;
+        next.sleeps = registers.sleeps + 1;
+        return next;
     }
     if op < op::DONE {
-        return update_statement(h, held, r);
+        return update_statement(statement, held, registers);
     }
     if op < op::AGE {
-        return r;
+        return registers;
     }
     if op < op::ENTER {
-        return clock_statement(h, held, r);
+        return clock_statement(statement, held, registers);
     }
-    enter_statement(h, held, r)
+    enter_statement(statement, held, registers)
 }
 
 // How many bytes the statement at the front has, a listen's pairs included.
-pub fn statement_length(h: &[u8]) -> usize
-    requires { ⌜ 4 ≤ length (now h) ⌝ }
-    ensures { λ r. ⌜ (r ≡ statementLength (now (h .entry))) × (r ≤ 1024) ⌝ }
+pub fn statement_length(statement: &[u8]) -> usize
+    requires { ⌜ 4 ≤ length (now statement) ⌝ }
+    ensures { λ r. ⌜ (r ≡ statementLength (now (statement .entry))) × (r ≤ 1024) ⌝ }
 {
-    if h[0] == op::LISTEN {
-        return 4 + wide(h[1]) * 4;
+    if statement[0] == op::LISTEN {
+        return 4 + parts::wide(statement[1]) * 4;
     }
     4
 }
 
 // Take (10): t moves by the old d, then by the new ready delay; with nothing kept nothing changes.
-fn take_edge(p: &[u8], r: Node) -> Node
-    requires { ⌜ Within 4000000000000000000 r ⌝ }
-    ensures { λ q. ⌜ q ≡ edgeTaken (now (p .entry)) r ⌝ }
+fn take_edge(part: &[u8], registers: Node) -> Node
+    requires { ⌜ Within 4000000000000000000 registers ⌝ }
+    ensures { λ next. ⌜ next ≡ edgeTaken (now (part .entry)) registers ⌝ }
 {
-    let k = r.kept;
-    let mut q = r;
-    if !k.some {
-        return q;
+    let kept = registers.kept;
+    let mut next = registers;
+    if !kept.some {
+        return next;
     }
-    q.pc = block_place(p, wide(byte_at(p, 2)) + wide(k.edge));
-    let d = candidate::left_of(k.end, wide64(k.ready));
-    q.t = r.t + wide64(r.d) + wide64(k.ready);
-    q.n = k.ready;
-    q.d = d;
-    q.edge = k.edge;
+    next.pc = block_place(part, parts::wide(byte_at(part, 2)) + parts::wide(kept.edge));
+    let d = candidate::left_of(kept.end, wide64(kept.ready));
+    next.t = registers.t + wide64(registers.d) + wide64(kept.ready);
+    next.n = kept.ready;
+    next.d = d;
+    next.edge = kept.edge;
     let nothing = Kept {
         some: false,
         edge: 0,
         ready: 0,
         end: 0,
     };
-    q.kept = nothing;
-    q
+    next.kept = nothing;
+    next
 }
 
 // Choose (11) goes to the present location's block.
-fn choose_block(p: &[u8], r: Node) -> Node
-    ensures { λ q. ⌜ q ≡ blockChosen (now (p .entry)) r ⌝ }
+fn choose_block(part: &[u8], registers: Node) -> Node
+    ensures { λ next. ⌜ next ≡ blockChosen (now (part .entry)) registers ⌝ }
 {
-    let mut q = r;
-    q.pc = block_place(p, wide(r.location));
-    q
+    let mut next = registers;
+    next.pc = block_place(part, parts::wide(registers.location));
+    next
 }
 
 // The registers after the statement at the program counter; as they are where there is none, and at a take with nothing kept.
-pub fn finish(p: &[u8], held: Counts, r: Node) -> Node
-    requires { ⌜ (length (now p) ≤ 65535) × Held held × Within 4000000000000000000 r × Addable (drop (r .pc) (now p)) held r ⌝ }
-    ensures { λ q. ⌜ q ≡ after (now (p .entry)) held r ⌝ }
+pub fn finish(part: &[u8], held: Counts, registers: Node) -> Node
+    requires { ⌜ (length (now part) ≤ 65535) × Held held × Within 4000000000000000000 registers × Addable (drop (registers .pc) (now part)) held registers ⌝ }
+    ensures { λ next. ⌜ next ≡ after (now (part .entry)) held registers ⌝ }
 {
-    let op = op_at(p, r.pc);
+    let op = op_at(part, registers.pc);
     if op == NOWHERE {
-        return r;
+        return registers;
     }
     if op == op::TAKE {
-        return take_edge(p, r);
+        return take_edge(part, registers);
     }
     if op == op::CHOOSE {
-        return choose_block(p, r);
+        return choose_block(part, registers);
     }
-    let at = r.pc;
-    let h = &p[at..];
-    let mut q = r;
-    q.pc = at + statement_length(h);
+    let at = registers.pc;
+    let statement = &part[at..];
+    let mut next = registers;
+    next.pc = at + statement_length(statement);
     if op < op::TRIAL {
-        return work_statement(h, held, q);
+        return work_statement(statement, held, next);
     }
-    try_statement(h, held, q)
+    try_statement(statement, held, next)
 }

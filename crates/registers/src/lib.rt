@@ -67,301 +67,300 @@ pub const DUE: usize = 26;
 
 pub const LAST: usize = 27;
 
-pub fn small(x: u64) -> u8
-    ensures { λ r. ⌜ r ≡ x % 256 ⌝ }
+pub fn small(number: u64) -> u8
+    ensures { λ r. ⌜ r ≡ number % 256 ⌝ }
 {
-    (x % 256) as u8
+    (number % 256) as u8
 }
 
-pub fn half(x: u64) -> u16
-    ensures { λ r. ⌜ r ≡ x % 65536 ⌝ }
+pub fn half(number: u64) -> u16
+    ensures { λ r. ⌜ r ≡ number % 65536 ⌝ }
 {
-    (x % 65536) as u16
-}
-
-fn wide(x: u8) -> usize
-    ensures { λ r. ⌜ (r ≡ x) × (r < 256) ⌝ }
-{
-    x as usize
+    (number % 65536) as u16
 }
 
 // 1 for true.
-fn flag(b: bool) -> u64
-    ensures { λ r. ⌜ r ≡ flagOf b ⌝ }
+fn flag(truth: bool) -> u64
+    ensures { λ r. ⌜ r ≡ flagOf truth ⌝ }
 {
-    if b { 1 } else { 0 }
+    if truth { 1 } else { 0 }
 }
 
 // Word k of node c.
-pub fn word(l: &[u64], c: usize, k: usize) -> u64
-    requires { ⌜ (256 ≤ length (now l)) × (c < 8) × (k < 32) ⌝ }
-    ensures { λ r. ⌜ r ≡ wordIn (now (l .entry)) c k ⌝ }
+pub fn word(words: &[u64], c: usize, k: usize) -> u64
+    requires { ⌜ (256 ≤ length (now words)) × (c < 8) × (k < 32) ⌝ }
+    ensures { λ r. ⌜ r ≡ wordIn (now (words .entry)) c k ⌝ }
 {
-    l[c * 32 + k]
+    words[c * 32 + k]
 }
 
-pub fn put_word(l: &mut [u64], c: usize, k: usize, x: u64)
-    requires { ⌜ (256 ≤ length (now l)) × (c < 8) × (k < 32) ⌝ }
-    ensures { λ _. ⌜ now (l .exit) ≡ set (now (l .entry)) (c * 32 + k) x ⌝ }
+pub fn put_word(words: &mut [u64], c: usize, k: usize, number: u64)
+    requires { ⌜ (256 ≤ length (now words)) × (c < 8) × (k < 32) ⌝ }
+    ensures { λ _. ⌜ now (words .exit) ≡ set (now (words .entry)) (c * 32 + k) number ⌝ }
 {
-    l[c * 32 + k] = x;
+    words[c * 32 + k] = number;
 }
 
 // How many clocks and variables node c has.
-pub fn counts(l: &[u64], c: usize) -> Counts
-    requires { ⌜ (256 ≤ length (now l)) × (c < 8) ⌝ }
-    ensures { λ r. ⌜ r ≡ heldIn (now (l .entry)) c ⌝ }
+pub fn counts(words: &[u64], c: usize) -> Counts
+    requires { ⌜ (256 ≤ length (now words)) × (c < 8) ⌝ }
+    ensures { λ r. ⌜ r ≡ heldIn (now (words .entry)) c ⌝ }
 {
     Counts {
-        clocks: small(word(l, c, CLOCK_COUNT)),
-        variables: small(word(l, c, VARIABLE_COUNT)),
+        clocks: small(word(words, c, CLOCK_COUNT)),
+        variables: small(word(words, c, VARIABLE_COUNT)),
     }
 }
 
 // The trial of node c.
-pub fn load_trial(l: &[u64], c: usize) -> Trial
-    requires { ⌜ (256 ≤ length (now l)) × (c < 8) ⌝ }
-    ensures { λ r. ⌜ r ≡ trialIn (now (l .entry)) c ⌝ }
+pub fn load_trial(words: &[u64], c: usize) -> Trial
+    requires { ⌜ (256 ≤ length (now words)) × (c < 8) ⌝ }
+    ensures { λ r. ⌜ r ≡ trialIn (now (words .entry)) c ⌝ }
 {
     Trial {
-        ready: half(word(l, c, TRIAL_READY)),
-        ended: word(l, c, TRIAL_ENDED) == 1,
-        end: half(word(l, c, TRIAL_END)),
-        good: word(l, c, TRIAL_GOOD) == 1,
+        ready: half(word(words, c, TRIAL_READY)),
+        ended: word(words, c, TRIAL_ENDED) == 1,
+        end: half(word(words, c, TRIAL_END)),
+        good: word(words, c, TRIAL_GOOD) == 1,
     }
 }
 
 // The edge that node c keeps.
-pub fn load_kept(l: &[u64], c: usize) -> Kept
-    requires { ⌜ (256 ≤ length (now l)) × (c < 8) ⌝ }
-    ensures { λ r. ⌜ r ≡ keptIn (now (l .entry)) c ⌝ }
+pub fn load_kept(words: &[u64], c: usize) -> Kept
+    requires { ⌜ (256 ≤ length (now words)) × (c < 8) ⌝ }
+    ensures { λ r. ⌜ r ≡ keptIn (now (words .entry)) c ⌝ }
 {
     Kept {
-        some: word(l, c, KEPT) == 1,
-        edge: small(word(l, c, KEPT_EDGE)),
-        ready: half(word(l, c, KEPT_READY)),
-        end: half(word(l, c, KEPT_END)),
+        some: word(words, c, KEPT) == 1,
+        edge: small(word(words, c, KEPT_EDGE)),
+        ready: half(word(words, c, KEPT_READY)),
+        end: half(word(words, c, KEPT_END)),
     }
 }
 
-fn load_clocks(l: &[u64], c: usize) -> [u64; 4]
-    requires { ⌜ (256 ≤ length (now l)) × (c < 8) ⌝ }
-    ensures { λ r. ⌜ r ≡ clocksIn (now (l .entry)) c ⌝ }
+fn load_clocks(words: &[u64], c: usize) -> [u64; 4]
+    requires { ⌜ (256 ≤ length (now words)) × (c < 8) ⌝ }
+    ensures { λ r. ⌜ r ≡ clocksIn (now (words .entry)) c ⌝ }
 {
-    [word(l, c, 2), word(l, c, 3), word(l, c, 4), word(l, c, 5)]
+    [
+        word(words, c, 2),
+        word(words, c, 3),
+        word(words, c, 4),
+        word(words, c, 5),
+    ]
 }
 
-fn load_values(v: &[i16], c: usize) -> [i16; 4]
-    requires { ⌜ (32 ≤ length (now v)) × (c < 8) ⌝ }
-    ensures { λ r. ⌜ r ≡ valuesIn (now (v .entry)) c ⌝ }
+fn load_values(values: &[i16], c: usize) -> [i16; 4]
+    requires { ⌜ (32 ≤ length (now values)) × (c < 8) ⌝ }
+    ensures { λ r. ⌜ r ≡ valuesIn (now (values .entry)) c ⌝ }
 {
     let at = c * 4;
-    [v[at], v[at + 1], v[at + 2], v[at + 3]]
+    [values[at], values[at + 1], values[at + 2], values[at + 3]]
 }
 
 // The registers of node c.
-pub fn load(l: &[u64], v: &[i16], c: usize) -> Node
-    requires { ⌜ Eight (now l) (now v) × (c < 8) ⌝ }
-    ensures { λ r. ⌜ r ≡ nodeIn (now (l .entry)) (now (v .entry)) c ⌝ }
+pub fn load(words: &[u64], values: &[i16], c: usize) -> Node
+    requires { ⌜ Eight (now words) (now values) × (c < 8) ⌝ }
+    ensures { λ r. ⌜ r ≡ nodeIn (now (words .entry)) (now (values .entry)) c ⌝ }
 {
     Node {
-        pc: word(l, c, PLACE) as usize,
-        location: small(word(l, c, LOCATION)),
-        clocks: load_clocks(l, c),
-        values: load_values(v, c),
-        t: word(l, c, READY_TICK),
-        n: half(word(l, c, READY_DELAY)),
-        d: half(word(l, c, WINDOW_LENGTH)),
-        edge: small(word(l, c, EDGE)),
-        taken: word(l, c, TAKEN) == 1,
-        goes: small(word(l, c, GOES)),
-        tried: load_trial(l, c),
-        kept: load_kept(l, c),
-        sleeps: word(l, c, SLEEPS),
+        pc: word(words, c, PLACE) as usize,
+        location: small(word(words, c, LOCATION)),
+        clocks: load_clocks(words, c),
+        values: load_values(values, c),
+        t: word(words, c, READY_TICK),
+        n: half(word(words, c, READY_DELAY)),
+        d: half(word(words, c, WINDOW_LENGTH)),
+        edge: small(word(words, c, EDGE)),
+        taken: word(words, c, TAKEN) == 1,
+        goes: small(word(words, c, GOES)),
+        tried: load_trial(words, c),
+        kept: load_kept(words, c),
+        sleeps: word(words, c, SLEEPS),
     }
 }
 
 // Words 0 to 5, from place at on.
-fn store_times(l: &mut [u64], at: usize, pc: usize, t: u64, clocks: [u64; 4])
-    requires { ⌜ at + 6 ≤ length (now l) ⌝ }
-    ensures { λ _. ⌜ now (l .exit) ≡ sets (now (l .entry)) at (timeWords pc t clocks) ⌝ }
+fn store_times(words: &mut [u64], at: usize, pc: usize, ready: u64, clocks: [u64; 4])
+    requires { ⌜ at + 6 ≤ length (now words) ⌝ }
+    ensures { λ _. ⌜ now (words .exit) ≡ sets (now (words .entry)) at (timeWords pc ready clocks) ⌝ }
 {
-    l[at] = pc as u64;
-    l[at + 1] = t;
-    l[at + 2] = clocks[0];
-    l[at + 3] = clocks[1];
-    l[at + 4] = clocks[2];
-    l[at + 5] = clocks[3];
+    words[at] = pc as u64;
+    words[at + 1] = ready;
+    words[at + 2] = clocks[0];
+    words[at + 3] = clocks[1];
+    words[at + 4] = clocks[2];
+    words[at + 5] = clocks[3];
 }
 
 // Words 6 to 11, from place at on.
 fn store_place(
-    l: &mut [u64],
+    words: &mut [u64],
     at: usize,
-    n: u16,
-    d: u16,
+    delay: u16,
+    window: u16,
     location: u8,
     edge: u8,
     taken: bool,
     goes: u8,
 )
-    requires { ⌜ at + 6 ≤ length (now l) ⌝ }
-    ensures { λ _. ⌜ now (l .exit) ≡ sets (now (l .entry)) at (placeWords n d location edge taken goes) ⌝ }
+    requires { ⌜ at + 6 ≤ length (now words) ⌝ }
+    ensures { λ _. ⌜ now (words .exit) ≡ sets (now (words .entry)) at (placeWords delay window location edge taken goes) ⌝ }
 {
-    l[at] = n as u64;
-    l[at + 1] = d as u64;
-    l[at + 2] = location as u64;
-    l[at + 3] = edge as u64;
-    l[at + 4] = flag(taken);
-    l[at + 5] = goes as u64;
+    words[at] = delay as u64;
+    words[at + 1] = window as u64;
+    words[at + 2] = location as u64;
+    words[at + 3] = edge as u64;
+    words[at + 4] = flag(taken);
+    words[at + 5] = goes as u64;
 }
 
 // Words 12 to 15, from place at on.
-fn store_trial(l: &mut [u64], at: usize, x: Trial)
-    requires { ⌜ at + 4 ≤ length (now l) ⌝ }
-    ensures { λ _. ⌜ now (l .exit) ≡ sets (now (l .entry)) at (trialWords x) ⌝ }
+fn store_trial(words: &mut [u64], at: usize, trial: Trial)
+    requires { ⌜ at + 4 ≤ length (now words) ⌝ }
+    ensures { λ _. ⌜ now (words .exit) ≡ sets (now (words .entry)) at (trialWords trial) ⌝ }
 {
-    l[at] = x.ready as u64;
-    l[at + 1] = flag(x.ended);
-    l[at + 2] = x.end as u64;
-    l[at + 3] = flag(x.good);
+    words[at] = trial.ready as u64;
+    words[at + 1] = flag(trial.ended);
+    words[at + 2] = trial.end as u64;
+    words[at + 3] = flag(trial.good);
 }
 
 // Words 16 to 19, from place at on.
-fn store_kept(l: &mut [u64], at: usize, k: Kept)
-    requires { ⌜ at + 4 ≤ length (now l) ⌝ }
-    ensures { λ _. ⌜ now (l .exit) ≡ sets (now (l .entry)) at (keptWords k) ⌝ }
+fn store_kept(words: &mut [u64], at: usize, kept: Kept)
+    requires { ⌜ at + 4 ≤ length (now words) ⌝ }
+    ensures { λ _. ⌜ now (words .exit) ≡ sets (now (words .entry)) at (keptWords kept) ⌝ }
 {
-    l[at] = flag(k.some);
-    l[at + 1] = k.edge as u64;
-    l[at + 2] = k.ready as u64;
-    l[at + 3] = k.end as u64;
+    words[at] = flag(kept.some);
+    words[at + 1] = kept.edge as u64;
+    words[at + 2] = kept.ready as u64;
+    words[at + 3] = kept.end as u64;
 }
 
 // The variables.
-fn store_values(v: &mut [i16], at: usize, values: [i16; 4])
-    requires { ⌜ at + 4 ≤ length (now v) ⌝ }
-    ensures { λ _. ⌜ now (v .exit) ≡ sets (now (v .entry)) at (fourOf values) ⌝ }
+fn store_values(values: &mut [i16], at: usize, four: [i16; 4])
+    requires { ⌜ at + 4 ≤ length (now values) ⌝ }
+    ensures { λ _. ⌜ now (values .exit) ≡ sets (now (values .entry)) at (fourOf four) ⌝ }
 {
-    v[at] = values[0];
-    v[at + 1] = values[1];
-    v[at + 2] = values[2];
-    v[at + 3] = values[3];
+    values[at] = four[0];
+    values[at + 1] = four[1];
+    values[at + 2] = four[2];
+    values[at + 3] = four[3];
 }
 
 // Puts the registers of node c back.
-pub fn store(l: &mut [u64], v: &mut [i16], c: usize, r: Node)
-    requires { ⌜ Eight (now l) (now v) × (c < 8) ⌝ }
-    ensures { λ _. ⌜ Stored (now (l .entry)) (now (v .entry)) c r (now (l .exit)) (now (v .exit)) ⌝ }
+pub fn store(words: &mut [u64], values: &mut [i16], c: usize, registers: Node)
+    requires { ⌜ Eight (now words) (now values) × (c < 8) ⌝ }
+    ensures { λ _. ⌜ Stored (now (words .entry)) (now (values .entry)) c registers (now (words .exit)) (now (values .exit)) ⌝ }
 {
     let at = c * 32;
-    let clocks = r.clocks;
-    let tried = r.tried;
-    let kept = r.kept;
-    let values = r.values;
-    store_times(l, at, r.pc, r.t, clocks);
+    let clocks = registers.clocks;
+    let tried = registers.tried;
+    let kept = registers.kept;
+    let four = registers.values;
+    store_times(words, at, registers.pc, registers.t, clocks);
     store_place(
-        l,
+        words,
         at + READY_DELAY,
-        r.n,
-        r.d,
-        r.location,
-        r.edge,
-        r.taken,
-        r.goes,
+        registers.n,
+        registers.d,
+        registers.location,
+        registers.edge,
+        registers.taken,
+        registers.goes,
     );
-    store_trial(l, at + TRIAL_READY, tried);
-    store_kept(l, at + KEPT, kept);
-    l[at + SLEEPS] = r.sleeps;
-    store_values(v, c * 4, values);
+    store_trial(words, at + TRIAL_READY, tried);
+    store_kept(words, at + KEPT, kept);
+    words[at + SLEEPS] = registers.sleeps;
+    store_values(values, c * 4, four);
 }
 
 // Clock a of node c, 0 for one that the node does not have.
-pub fn clock(l: &[u64], c: usize, a: u8) -> u64
-    requires { ⌜ (256 ≤ length (now l)) × (c < 8) × Held (heldIn (now l) c) ⌝ }
-    ensures { λ r. ⌜ r ≡ clockAt (take (heldIn (now (l .entry)) c .clocks) (clocksIn (now (l .entry)) c)) a ⌝ }
+pub fn clock(words: &[u64], c: usize, a: u8) -> u64
+    requires { ⌜ (256 ≤ length (now words)) × (c < 8) × Held (heldIn (now words) c) ⌝ }
+    ensures { λ r. ⌜ r ≡ clockAt (take (heldIn (now (words .entry)) c .clocks) (clocksIn (now (words .entry)) c)) a ⌝ }
 {
-    if a < small(word(l, c, CLOCK_COUNT)) {
-        return word(l, c, CLOCKS + wide(a));
+    if a < small(word(words, c, CLOCK_COUNT)) {
+        return word(words, c, CLOCKS + parts::wide(a));
     }
     0
 }
 
 // Variable a of node c, 0 for one that the node does not have.
-pub fn value(l: &[u64], v: &[i16], c: usize, a: u8) -> i16
-    requires { ⌜ Eight (now l) (now v) × (c < 8) × Held (heldIn (now l) c) ⌝ }
-    ensures { λ r. ⌜ r ≡ valueAt (take (heldIn (now (l .entry)) c .variables) (valuesIn (now (v .entry)) c)) a ⌝ }
+pub fn value(words: &[u64], values: &[i16], c: usize, a: u8) -> i16
+    requires { ⌜ Eight (now words) (now values) × (c < 8) × Held (heldIn (now words) c) ⌝ }
+    ensures { λ r. ⌜ r ≡ valueAt (take (heldIn (now (words .entry)) c .variables) (valuesIn (now (values .entry)) c)) a ⌝ }
 {
-    if a < small(word(l, c, VARIABLE_COUNT)) {
-        return v[c * 4 + wide(a)];
+    if a < small(word(words, c, VARIABLE_COUNT)) {
+        return values[c * 4 + parts::wide(a)];
     }
     0
 }
 
 // Puts the place of node c's next statement.
-pub fn put_place(l: &mut [u64], c: usize, pc: usize)
-    requires { ⌜ (256 ≤ length (now l)) × (c < 8) ⌝ }
-    ensures { λ _. ⌜ ((v : List ℤ) → Stored (now (l .entry)) v c (atPlace (nodeIn (now (l .entry)) v c) pc) (now (l .exit)) v) ⌝ }
+pub fn put_place(words: &mut [u64], c: usize, pc: usize)
+    requires { ⌜ (256 ≤ length (now words)) × (c < 8) ⌝ }
+    ensures { λ _. ⌜ ((values : List ℤ) → Stored (now (words .entry)) values c (atPlace (nodeIn (now (words .entry)) values c) pc) (now (words .exit)) values) ⌝ }
 {
-    put_word(l, c, PLACE, pc as u64);
+    put_word(words, c, PLACE, pc as u64);
 }
 
 // Puts clock a of node c.
-pub fn put_clock(l: &mut [u64], c: usize, a: u8, x: u64)
-    requires { ⌜ (256 ≤ length (now l)) × (c < 8) × (a < 4) ⌝ }
-    ensures { λ _. ⌜ ((v : List ℤ) → Stored (now (l .entry)) v c (withClocks (nodeIn (now (l .entry)) v c) (set (clocksIn (now (l .entry)) c) a x)) (now (l .exit)) v) ⌝ }
+pub fn put_clock(words: &mut [u64], c: usize, a: u8, ticks: u64)
+    requires { ⌜ (256 ≤ length (now words)) × (c < 8) × (a < 4) ⌝ }
+    ensures { λ _. ⌜ ((values : List ℤ) → Stored (now (words .entry)) values c (withClocks (nodeIn (now (words .entry)) values c) (set (clocksIn (now (words .entry)) c) a ticks)) (now (words .exit)) values) ⌝ }
 {
-    put_word(l, c, CLOCKS + wide(a), x);
+    put_word(words, c, CLOCKS + parts::wide(a), ticks);
 }
 
 // Puts variable a of node c.
-pub fn put_value(v: &mut [i16], c: usize, a: u8, x: i16)
-    requires { ⌜ (32 ≤ length (now v)) × (c < 8) × (a < 4) ⌝ }
-    ensures { λ _. ⌜ ((l : List ℕ) → Stored l (now (v .entry)) c (withValues (nodeIn l (now (v .entry)) c) (set (valuesIn (now (v .entry)) c) a x)) l (now (v .exit))) ⌝ }
+pub fn put_value(values: &mut [i16], c: usize, a: u8, value: i16)
+    requires { ⌜ (32 ≤ length (now values)) × (c < 8) × (a < 4) ⌝ }
+    ensures { λ _. ⌜ ((words : List ℕ) → Stored words (now (values .entry)) c (withValues (nodeIn words (now (values .entry)) c) (set (valuesIn (now (values .entry)) c) a value)) words (now (values .exit))) ⌝ }
 {
-    v[c * 4 + wide(a)] = x;
+    values[c * 4 + parts::wide(a)] = value;
 }
 
 // Puts the location of node c; no message is taken.
-pub fn put_location(l: &mut [u64], c: usize, location: u8)
-    requires { ⌜ (256 ≤ length (now l)) × (c < 8) ⌝ }
-    ensures { λ _. ⌜ ((v : List ℤ) → Stored (now (l .entry)) v c (entering (nodeIn (now (l .entry)) v c) location) (now (l .exit)) v) ⌝ }
+pub fn put_location(words: &mut [u64], c: usize, location: u8)
+    requires { ⌜ (256 ≤ length (now words)) × (c < 8) ⌝ }
+    ensures { λ _. ⌜ ((values : List ℤ) → Stored (now (words .entry)) values c (entering (nodeIn (now (words .entry)) values c) location) (now (words .exit)) values) ⌝ }
 {
-    put_word(l, c, LOCATION, location as u64);
-    put_word(l, c, TAKEN, 0);
+    put_word(words, c, LOCATION, location as u64);
+    put_word(words, c, TAKEN, 0);
 }
 
 // Puts the trial of node c.
-pub fn put_trial(l: &mut [u64], c: usize, x: Trial)
-    requires { ⌜ (256 ≤ length (now l)) × (c < 8) ⌝ }
-    ensures { λ _. ⌜ ((v : List ℤ) → Stored (now (l .entry)) v c (withTrial (nodeIn (now (l .entry)) v c) x) (now (l .exit)) v) ⌝ }
+pub fn put_trial(words: &mut [u64], c: usize, trial: Trial)
+    requires { ⌜ (256 ≤ length (now words)) × (c < 8) ⌝ }
+    ensures { λ _. ⌜ ((values : List ℤ) → Stored (now (words .entry)) values c (withTrial (nodeIn (now (words .entry)) values c) trial) (now (words .exit)) values) ⌝ }
 {
-    store_trial(l, c * 32 + TRIAL_READY, x);
+    store_trial(words, c * 32 + TRIAL_READY, trial);
 }
 
 // Puts the edge that node c keeps.
-pub fn put_kept(l: &mut [u64], c: usize, k: Kept)
-    requires { ⌜ (256 ≤ length (now l)) × (c < 8) ⌝ }
-    ensures { λ _. ⌜ ((v : List ℤ) → Stored (now (l .entry)) v c (withKept (nodeIn (now (l .entry)) v c) k) (now (l .exit)) v) ⌝ }
+pub fn put_kept(words: &mut [u64], c: usize, kept: Kept)
+    requires { ⌜ (256 ≤ length (now words)) × (c < 8) ⌝ }
+    ensures { λ _. ⌜ ((values : List ℤ) → Stored (now (words .entry)) values c (withKept (nodeIn (now (words .entry)) values c) kept) (now (words .exit)) values) ⌝ }
 {
-    store_kept(l, c * 32 + KEPT, k);
+    store_kept(words, c * 32 + KEPT, kept);
 }
 
-// Puts the passage of node c: its edge, t, n and d.
-pub fn put_passage(l: &mut [u64], c: usize, edge: u8, t: u64, n: u16, d: u16)
-    requires { ⌜ (256 ≤ length (now l)) × (c < 8) ⌝ }
-    ensures { λ _. ⌜ ((v : List ℤ) → Stored (now (l .entry)) v c (withPassage (nodeIn (now (l .entry)) v c) edge t n d) (now (l .exit)) v) ⌝ }
+// Puts the passage of node c: its edge, ready tick, ready delay and window length.
+pub fn put_passage(words: &mut [u64], c: usize, edge: u8, ready: u64, delay: u16, window: u16)
+    requires { ⌜ (256 ≤ length (now words)) × (c < 8) ⌝ }
+    ensures { λ _. ⌜ ((values : List ℤ) → Stored (now (words .entry)) values c (withPassage (nodeIn (now (words .entry)) values c) edge ready delay window) (now (words .exit)) values) ⌝ }
 {
-    put_word(l, c, READY_TICK, t);
-    put_word(l, c, READY_DELAY, n as u64);
-    put_word(l, c, WINDOW_LENGTH, d as u64);
-    put_word(l, c, EDGE, edge as u64);
+    put_word(words, c, READY_TICK, ready);
+    put_word(words, c, READY_DELAY, delay as u64);
+    put_word(words, c, WINDOW_LENGTH, window as u64);
+    put_word(words, c, EDGE, edge as u64);
 }
 
 // Puts the number of sleeps that node c has finished.
-pub fn put_sleeps(l: &mut [u64], c: usize, sleeps: u64)
-    requires { ⌜ (256 ≤ length (now l)) × (c < 8) ⌝ }
-    ensures { λ _. ⌜ ((v : List ℤ) → Stored (now (l .entry)) v c (withSleeps (nodeIn (now (l .entry)) v c) sleeps) (now (l .exit)) v) ⌝ }
+pub fn put_sleeps(words: &mut [u64], c: usize, sleeps: u64)
+    requires { ⌜ (256 ≤ length (now words)) × (c < 8) ⌝ }
+    ensures { λ _. ⌜ ((values : List ℤ) → Stored (now (words .entry)) values c (withSleeps (nodeIn (now (words .entry)) values c) sleeps) (now (words .exit)) values) ⌝ }
 {
-    put_word(l, c, SLEEPS, sleeps);
+    put_word(words, c, SLEEPS, sleeps);
 }

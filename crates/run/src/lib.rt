@@ -26,13 +26,13 @@ pub struct Ended {
 }
 
 // Whether a sleep or a listen is due.
-fn some_due(l: &[u64], count: usize, tick: u64) -> bool
-    requires { ⌜ (256 ≤ length (now l)) × (count ≤ 8) ⌝ }
-    ensures { λ r. ⌜ r ≡ any (λ c. eqb (dueIn (now (l .entry)) c) tick) (below count) ⌝ }
+fn some_due(words: &[u64], count: usize, tick: u64) -> bool
+    requires { ⌜ (256 ≤ length (now words)) × (count ≤ 8) ⌝ }
+    ensures { λ r. ⌜ r ≡ any (λ c. eqb (dueIn (now (words .entry)) c) tick) (below count) ⌝ }
 {
     let mut c: usize = 0;
     while c < count {
-        if registers::word(l, c, registers::DUE) == tick {
+        if registers::word(words, c, registers::DUE) == tick {
             return true;
         }
         c += 1;
@@ -41,13 +41,13 @@ fn some_due(l: &[u64], count: usize, tick: u64) -> bool
 }
 
 // The lowest node that is late at that tick, the number of nodes where none is.
-fn first_late(l: &[u64], count: usize, tick: u64) -> usize
-    requires { ⌜ (256 ≤ length (now l)) × (count ≤ 8) ⌝ }
-    ensures { λ r. ⌜ FirstLate (now (l .entry)) count tick r ⌝ }
+fn first_late(words: &[u64], count: usize, tick: u64) -> usize
+    requires { ⌜ (256 ≤ length (now words)) × (count ≤ 8) ⌝ }
+    ensures { λ r. ⌜ FirstLate (now (words .entry)) count tick r ⌝ }
 {
     let mut c: usize = 0;
     while c < count {
-        if registers::word(l, c, registers::LAST) < tick {
+        if registers::word(words, c, registers::LAST) < tick {
             return c;
         }
         c += 1;
@@ -55,16 +55,16 @@ fn first_late(l: &[u64], count: usize, tick: u64) -> usize
     count
 }
 
-fn lesser(a: u64, b: u64) -> u64
-    ensures { λ r. ⌜ (r ≤ a) × (r ≤ b) × ((m : ℕ) → m ≤ a → m ≤ b → m ≤ r) ⌝ }
+fn lesser(first: u64, second: u64) -> u64
+    ensures { λ r. ⌜ (r ≤ first) × (r ≤ second) × ((m : ℕ) → m ≤ first → m ≤ second → m ≤ r) ⌝ }
 {
-    if a < b { a } else { b }
+    if first < second { first } else { second }
 }
 
 // A tick before the horizon up to which no node is due and none is late.
-fn calm_until(l: &[u64], count: usize, horizon: u64) -> u64
-    requires { ⌜ (256 ≤ length (now l)) × (count ≤ 8) ⌝ }
-    ensures { λ calm. ⌜ Calm (now (l .entry)) count horizon calm ⌝ }
+fn calm_until(words: &[u64], count: usize, horizon: u64) -> u64
+    requires { ⌜ (256 ≤ length (now words)) × (count ≤ 8) ⌝ }
+    ensures { λ calm. ⌜ Calm (now (words .entry)) count horizon calm ⌝ }
 {
     if horizon == 0 {
         return 0;
@@ -72,18 +72,18 @@ fn calm_until(l: &[u64], count: usize, horizon: u64) -> u64
     let mut calm = horizon - 1;
     let mut c: usize = 0;
     while c < count {
-        let due = registers::word(l, c, registers::DUE);
-        let last = registers::word(l, c, registers::LAST);
+        let due = registers::word(words, c, registers::DUE);
+        let last = registers::word(words, c, registers::LAST);
         calm = lesser(calm, lesser(due, last));
         c += 1;
     }
     calm
 }
 
-fn wide(x: u8) -> u32
-    ensures { λ r. ⌜ (r ≡ x) × (r < 256) ⌝ }
+fn wide(byte: u8) -> u32
+    ensures { λ r. ⌜ (r ≡ byte) × (r < 256) ⌝ }
 {
-    x as u32
+    byte as u32
 }
 
 // Four choices from a place on, added up: 1,020 if they are ticks.
@@ -151,35 +151,35 @@ fn end_of(end: u8, node: u8, tick: u64, used: usize, written: usize) -> Ended
 fn carry_out(
     program: &[u8],
     rows: &[u32],
-    n: usize,
+    passages: usize,
     count: usize,
     horizon: u64,
     choices: &[u8],
-    l: &mut [u64],
-    v: &mut [i16],
+    words: &mut [u64],
+    values: &mut [i16],
     out: &mut [u8],
 ) -> Ended
-    requires { ⌜ Running (now program) (now rows) n (now l) (now v) count (startRun (settingIn (now program) horizon (now rows) n (now l) count)) × (length (now choices) ≤ 1000000) × Roomy (settingIn (now program) horizon (now rows) n (now l) count) (now choices) (length (now out)) ⌝ }
-    ensures { λ e. ⌜ EndsAs (settingIn (now (program .entry)) horizon (now (rows .entry)) n (now (l .entry)) count) (now (choices .entry)) (now (out .entry)) e (now (out .exit)) ⌝ }
+    requires { ⌜ Running (now program) (now rows) passages (now words) (now values) count (startRun (settingIn (now program) horizon (now rows) passages (now words) count)) × (length (now choices) ≤ 1000000) × Roomy (settingIn (now program) horizon (now rows) passages (now words) count) (now choices) (length (now out)) ⌝ }
+    ensures { λ e. ⌜ EndsAs (settingIn (now (program .entry)) horizon (now (rows .entry)) passages (now (words .entry)) count) (now (choices .entry)) (now (out .entry)) e (now (out .exit)) ⌝ }
 {
     let mut tick: u64 = 0;
     let mut used: usize = 0;
     let mut written: usize = 0;
     while used < choices.len() {
-        let b = choices[used];
-        if b == 255 {
-            let calm = calm_until(l, count, horizon);
+        let choice = choices[used];
+        if choice == 255 {
+            let calm = calm_until(words, count, horizon);
             if tick < calm {
                 let k = ticks_in_a_row(choices, used, calm - tick);
                 tick += k as u64;
                 used += k;
             } else {
-                if some_due(l, count, tick) {
+                if some_due(words, count, tick) {
                     return end_of(3, 255, tick, used, written);
                 }
                 tick += 1;
                 used += 1;
-                let c = first_late(l, count, tick);
+                let c = first_late(words, count, tick);
                 if c < count {
                     return end_of(2, c as u8, tick, used, written);
                 }
@@ -188,11 +188,22 @@ fn carry_out(
                 }
             }
         } else {
-            let m = machine::choose_node(program, rows, n, count, l, v, tick, b, out, written);
-            if !m.allowed {
+            let moved = machine::choose_node(
+                program,
+                rows,
+                passages,
+                count,
+                words,
+                values,
+                tick,
+                choice,
+                out,
+                written,
+            );
+            if !moved.allowed {
                 return end_of(3, 255, tick, used, written);
             }
-            written = m.written;
+            written = moved.written;
             used += 1;
         }
     }
@@ -201,7 +212,7 @@ fn carry_out(
 
 // Words 21 to 25 of node c: its part, its counts, its row.
 fn put_fixed(
-    l: &mut [u64],
+    words: &mut [u64],
     c: usize,
     start: usize,
     long: usize,
@@ -209,14 +220,14 @@ fn put_fixed(
     variables: u8,
     row: usize,
 )
-    requires { ⌜ (256 ≤ length (now l)) × (c < 8) ⌝ }
-    ensures { λ _. ⌜ WordsPut (now (l .entry)) c start long clocks variables row (now (l .exit)) ⌝ }
+    requires { ⌜ (256 ≤ length (now words)) × (c < 8) ⌝ }
+    ensures { λ _. ⌜ WordsPut (now (words .entry)) c start long clocks variables row (now (words .exit)) ⌝ }
 {
-    registers::put_word(l, c, registers::PART_START, start as u64);
-    registers::put_word(l, c, registers::PART_LENGTH, long as u64);
-    registers::put_word(l, c, registers::CLOCK_COUNT, clocks as u64);
-    registers::put_word(l, c, registers::VARIABLE_COUNT, variables as u64);
-    registers::put_word(l, c, registers::ROW, row as u64);
+    registers::put_word(words, c, registers::PART_START, start as u64);
+    registers::put_word(words, c, registers::PART_LENGTH, long as u64);
+    registers::put_word(words, c, registers::CLOCK_COUNT, clocks as u64);
+    registers::put_word(words, c, registers::VARIABLE_COUNT, variables as u64);
+    registers::put_word(words, c, registers::ROW, row as u64);
 }
 
 // Node c at its program's start; its component stands at that place of the table.
@@ -225,21 +236,21 @@ fn start_node(
     at: usize,
     program: &[u8],
     rows: &[u32],
-    n: usize,
-    l: &mut [u64],
-    v: &mut [i16],
+    passages: usize,
+    words: &mut [u64],
+    values: &mut [i16],
     c: usize,
 )
-    requires { ⌜ Eight (now l) (now v) × RowsStand (now rows) n × (c < 8) × (at + 6 ≤ length (now table)) × (byte (now table) (at + 4) ≤ 4) × (byte (now table) (at + 5) ≤ 4) ⌝ }
-    ensures { λ _. ⌜ NodeStarted (now (program .entry)) (now (rows .entry)) n (byte (now (table .entry)) (at + 4)) (byte (now (table .entry)) (at + 5)) (now (l .entry)) (now (v .entry)) c (now (l .exit)) (now (v .exit)) ⌝ }
+    requires { ⌜ Eight (now words) (now values) × RowsStand (now rows) passages × (c < 8) × (at + 6 ≤ length (now table)) × (byte (now table) (at + 4) ≤ 4) × (byte (now table) (at + 5) ≤ 4) ⌝ }
+    ensures { λ _. ⌜ NodeStarted (now (program .entry)) (now (rows .entry)) passages (byte (now (table .entry)) (at + 4)) (byte (now (table .entry)) (at + 5)) (now (words .entry)) (now (values .entry)) c (now (words .exit)) (now (values .exit)) ⌝ }
 {
     let span = program::span_of(program, c as u8);
     let start = span.start;
     let long = span.long;
-    let row = machine::next_row(rows, n, c, 0);
-    put_fixed(l, c, start, long, table[at + 4], table[at + 5], row);
-    let q = stand::start_node(&program[start..start + long]);
-    machine::put_node(program, rows, n, l, v, c, q);
+    let row = machine::next_row(rows, passages, c, 0);
+    put_fixed(words, c, start, long, table[at + 4], table[at + 5], row);
+    let begun = stand::start_node(&program[start..start + long]);
+    machine::put_node(program, rows, passages, words, values, c, begun);
 }
 
 // All nodes at their programs' start.
@@ -248,17 +259,26 @@ fn start(
     starts: [u16; 8],
     program: &[u8],
     rows: &[u32],
-    n: usize,
-    l: &mut [u64],
-    v: &mut [i16],
+    passages: usize,
+    words: &mut [u64],
+    values: &mut [i16],
 )
-    requires { ⌜ Valid (now table) × (starts ≡ startsOf (now table) (byte (now table) 3)) × Eight (now l) (now v) × RowsStand (now rows) n ⌝ }
-    ensures { λ _. ⌜ Started (now (table .entry)) (now (program .entry)) (now (rows .entry)) n (now (l .exit)) (now (v .exit)) ⌝ }
+    requires { ⌜ Valid (now table) × (starts ≡ startsOf (now table) (byte (now table) 3)) × Eight (now words) (now values) × RowsStand (now rows) passages ⌝ }
+    ensures { λ _. ⌜ Started (now (table .entry)) (now (program .entry)) (now (rows .entry)) passages (now (words .exit)) (now (values .exit)) ⌝ }
 {
     let count = table[3] as usize;
     let mut c: usize = 0;
     while c < count {
-        start_node(table, starts[c] as usize, program, rows, n, l, v, c);
+        start_node(
+            table,
+            starts[c] as usize,
+            program,
+            rows,
+            passages,
+            words,
+            values,
+            c,
+        );
         c += 1;
     }
 }
@@ -269,27 +289,35 @@ fn run_program(
     starts: [u16; 8],
     program: &[u8],
     rows: &[u32],
-    n: usize,
+    passages: usize,
     choices: &[u8],
     out: &mut [u8],
 ) -> Ended
-    requires { ⌜ Valid (now table) × (starts ≡ startsOf (now table) (byte (now table) 3)) × (now program ≡ programBytes (readOf (now table))) × Planned (now table) (now rows) n × (n * 32 ≤ length (now out)) × (length (now choices) ≤ 1000000) ⌝ }
+    requires { ⌜ Valid (now table) × (starts ≡ startsOf (now table) (byte (now table) 3)) × (now program ≡ programBytes (readOf (now table))) × Planned (now table) (now rows) passages × (passages * 32 ≤ length (now out)) × (length (now choices) ≤ 1000000) ⌝ }
     ensures { λ e. ⌜ ((S : List Passage) → acceptedScheduleOf (readOf (now (table .entry))) ≡ accepted S → EndsAs (settingOf (readOf (now (table .entry))) S) (now (choices .entry)) (now (out .entry)) e (now (out .exit))) ⌝ }
 {
-    let mut l = [0u64; 256];
-    let mut v = [0i16; 32];
-    start(table, starts, program, rows, n, &mut l, &mut v);
+    let mut words = [0u64; 256];
+    let mut values = [0i16; 32];
+    start(
+        table,
+        starts,
+        program,
+        rows,
+        passages,
+        &mut words,
+        &mut values,
+    );
     let count = table[3] as usize;
     let horizon = parts::word_at(table, 5) as u64;
     carry_out(
         program,
         rows,
-        n,
+        passages,
         count,
         horizon,
         choices,
-        &mut l,
-        &mut v,
+        &mut words,
+        &mut values,
         out,
     )
 }
@@ -300,15 +328,23 @@ fn run_in(
     starts: [u16; 8],
     program: &mut [u8],
     rows: &[u32],
-    n: usize,
+    passages: usize,
     choices: &[u8],
     out: &mut [u8],
 ) -> Ended
-    requires { ⌜ Valid (now table) × (starts ≡ startsOf (now table) (byte (now table) 3)) × (length (programBytes (readOf (now table))) ≤ length (now program)) × Planned (now table) (now rows) n × (n * 32 ≤ length (now out)) × (length (now choices) ≤ 1000000) ⌝ }
+    requires { ⌜ Valid (now table) × (starts ≡ startsOf (now table) (byte (now table) 3)) × (length (programBytes (readOf (now table))) ≤ length (now program)) × Planned (now table) (now rows) passages × (passages * 32 ≤ length (now out)) × (length (now choices) ≤ 1000000) ⌝ }
     ensures { λ e. ⌜ ((S : List Passage) → acceptedScheduleOf (readOf (now (table .entry))) ≡ accepted S → EndsAs (settingOf (readOf (now (table .entry))) S) (now (choices .entry)) (now (out .entry)) e (now (out .exit))) ⌝ }
 {
     let long = translator::write_program(table, starts, program);
-    run_program(table, starts, &program[..long], rows, n, choices, out)
+    run_program(
+        table,
+        starts,
+        &program[..long],
+        rows,
+        passages,
+        choices,
+        out,
+    )
 }
 
 // Runs the programs of an accepted table whose schedule stands in the rows.
@@ -316,17 +352,17 @@ pub fn run_table(
     table: &[u8],
     starts: [u16; 8],
     rows: &[u32],
-    n: usize,
+    passages: usize,
     choices: &[u8],
     out: &mut [u8],
 ) -> Ended
-    requires { ⌜ Valid (now table) × (starts ≡ startsOf (now table) (byte (now table) 3)) × Planned (now table) (now rows) n × (n * 32 ≤ length (now out)) × (length (now choices) ≤ 1000000) ⌝ }
+    requires { ⌜ Valid (now table) × (starts ≡ startsOf (now table) (byte (now table) 3)) × Planned (now table) (now rows) passages × (passages * 32 ≤ length (now out)) × (length (now choices) ≤ 1000000) ⌝ }
     ensures { λ e. ⌜ ((S : List Passage) → acceptedScheduleOf (readOf (now (table .entry))) ≡ accepted S → EndsAs (settingOf (readOf (now (table .entry))) S) (now (choices .entry)) (now (out .entry)) e (now (out .exit))) ⌝ }
 {
     if translator::program_length(table, starts) <= 2048 {
         let mut program = [0u8; 2048];
-        return run_in(table, starts, &mut program, rows, n, choices, out);
+        return run_in(table, starts, &mut program, rows, passages, choices, out);
     }
     let mut program = [0u8; 24576];
-    run_in(table, starts, &mut program, rows, n, choices, out)
+    run_in(table, starts, &mut program, rows, passages, choices, out)
 }

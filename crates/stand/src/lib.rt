@@ -23,15 +23,18 @@ use node::Kept;
 use node::Node;
 use node::Trial;
 
-// Whether one of n pairs from a place on has that channel.
-fn lists_channel(p: &[u8], from: usize, n: u8, k: u8) -> bool
+// A tick that no run reaches.
+pub const NEVER: u64 = 18446744073709551615;
+
+// Whether one of so many pairs from a place on has that channel.
+fn lists_channel(part: &[u8], from: usize, count: u8, channel: u8) -> bool
     requires { ⌜ from ≤ 65535 ⌝ }
-    ensures { λ r. ⌜ r ≡ any (λ q. eqb (q .channel) k) (listAt pairAt 4 n (drop from (now (p .entry)))) ⌝ }
+    ensures { λ r. ⌜ r ≡ any (λ q. eqb (q .channel) channel) (listAt pairAt 4 count (drop from (now (part .entry)))) ⌝ }
 {
     let mut at = from;
-    let mut i = n;
+    let mut i = count;
     while 0 < i {
-        if node::byte_at(p, at + 1) == k {
+        if node::byte_at(part, at + 1) == channel {
             return true;
         }
         at += 4;
@@ -40,16 +43,16 @@ fn lists_channel(p: &[u8], from: usize, n: u8, k: u8) -> bool
     false
 }
 
-// The location of the first of n pairs from a place on that has that channel, 0 where none has.
-fn paired_location(p: &[u8], from: usize, n: u8, k: u8) -> u8
+// The location of the first of so many pairs from a place on that has that channel, 0 where none has.
+fn paired_location(part: &[u8], from: usize, count: u8, channel: u8) -> u8
     requires { ⌜ from ≤ 65535 ⌝ }
-    ensures { λ r. ⌜ r ≡ paired (listAt pairAt 4 n (drop from (now (p .entry)))) k 0 ⌝ }
+    ensures { λ r. ⌜ r ≡ paired (listAt pairAt 4 count (drop from (now (part .entry)))) channel 0 ⌝ }
 {
     let mut at = from;
-    let mut i = n;
+    let mut i = count;
     while 0 < i {
-        if node::byte_at(p, at + 1) == k {
-            return node::byte_at(p, at + 3);
+        if node::byte_at(part, at + 1) == channel {
+            return node::byte_at(part, at + 3);
         }
         at += 4;
         i -= 1;
@@ -58,50 +61,50 @@ fn paired_location(p: &[u8], from: usize, n: u8, k: u8) -> u8
 }
 
 // Whether the node stands at a listen that names the channel.
-pub fn names(p: &[u8], at: usize, k: u8) -> bool
-    requires { ⌜ length (now p) ≤ 65535 ⌝ }
-    ensures { λ r. ⌜ r ≡ Rattle.model.specs.Run.names k (standAt (restAt (now (p .entry)) at)) ⌝ }
+pub fn names(part: &[u8], at: usize, channel: u8) -> bool
+    requires { ⌜ length (now part) ≤ 65535 ⌝ }
+    ensures { λ r. ⌜ r ≡ Rattle.model.specs.Run.names channel (standAt (restAt (now (part .entry)) at)) ⌝ }
 {
-    if node::op_at(p, at) == op::LISTEN {
-        return lists_channel(p, at + 4, p[at + 1], k);
+    if node::op_at(part, at) == op::LISTEN {
+        return lists_channel(part, at + 4, part[at + 1], channel);
     }
     false
 }
 
 // The listener's registers after a message on the channel: its statement is finished too, and enter will go to the paired location.
-pub fn take_message(p: &[u8], r: Node, k: u8) -> Node
-    requires { ⌜ (length (now p) ≤ 65535) × (opIn (drop (r .pc) (now p)) ≡ 5) ⌝ }
-    ensures { λ q. ⌜ q ≡ listened (now (p .entry)) k r ⌝ }
+pub fn take_message(part: &[u8], registers: Node, channel: u8) -> Node
+    requires { ⌜ (length (now part) ≤ 65535) × (opIn (drop (registers .pc) (now part)) ≡ 5) ⌝ }
+    ensures { λ next. ⌜ next ≡ listened (now (part .entry)) channel registers ⌝ }
 {
-    let at = r.pc;
-    let location = paired_location(p, at + 4, p[at + 1], k);
-    let mut q = r;
-    q.pc = at + node::statement_length(&p[at..]);
-    q.taken = true;
-    q.goes = location;
-    q
+    let at = registers.pc;
+    let location = paired_location(part, at + 4, part[at + 1], channel);
+    let mut next = registers;
+    next.pc = at + node::statement_length(&part[at..]);
+    next.taken = true;
+    next.goes = location;
+    next
 }
 
 // Whether an addition to that value stays in range.
-pub fn adds_in_range(h: &[u8], value: i16) -> bool
-    requires { ⌜ 4 ≤ length (now h) ⌝ }
-    ensures { λ b. ⌜ b ≡ inRange (value +ℤ complement (word (now (h .entry)) 2)) ⌝ }
+pub fn adds_in_range(statement: &[u8], value: i16) -> bool
+    requires { ⌜ 4 ≤ length (now statement) ⌝ }
+    ensures { λ b. ⌜ b ≡ inRange (value +ℤ complement (word (now (statement .entry)) 2)) ⌝ }
 {
-    let sum = node::wide32(value) + node::wide32(decoder::signed_at(h, 2));
+    let sum = node::wide32(value) + node::wide32(decoder::signed_at(statement, 2));
     parts::both(-32768 <= sum, sum <= 32767)
 }
 
 // Whether a node may finish a statement of that op at that tick without another node; `kept` says whether an edge is kept, `fits` whether
 // an addition stays in range.
-pub fn may_by(op: u8, tick: u64, t: u64, d: u16, kept: bool, fits: bool) -> bool
-    requires { ⌜ t ≤ 4000000000000000000 ⌝ }
-    ensures { λ b. ⌜ ((p : List ℕ) (held : Counts) (r : Node) → op ≡ opIn (drop (r .pc) p) → t ≡ r .t → d ≡ r .d → kept ≡ r .kept .some → (op ≡ 2 → fits ≡ addFits p held r) → b ≡ mayFinish tick (nodeOf p held r) (standOf (nodeOf p held r))) ⌝ }
+pub fn may_by(op: u8, tick: u64, ready: u64, window: u16, kept: bool, fits: bool) -> bool
+    requires { ⌜ ready ≤ 4000000000000000000 ⌝ }
+    ensures { λ b. ⌜ ((part : List ℕ) (held : Counts) (registers : Node) → op ≡ opIn (drop (registers .pc) part) → ready ≡ registers .t → window ≡ registers .d → kept ≡ registers .kept .some → (op ≡ 2 → fits ≡ addFits part held registers) → b ≡ mayFinish tick (nodeOf part held registers) (standOf (nodeOf part held registers))) ⌝ }
 {
     if op == op::SLEEP {
-        return tick == t;
+        return tick == ready;
     }
     if op == op::LISTEN {
-        return tick == t + node::wide64(d);
+        return tick == ready + node::wide64(window);
     }
     if op == op::ADD {
         return fits;
@@ -116,55 +119,55 @@ pub fn may_by(op: u8, tick: u64, t: u64, d: u16, kept: bool, fits: bool) -> bool
 }
 
 // The tick at which a node is due that stands at that op.
-pub fn due_by(op: u8, t: u64, d: u16) -> u64
-    requires { ⌜ t ≤ 4000000000000000000 ⌝ }
-    ensures { λ e. ⌜ ((p : List ℕ) (held : Counts) (r : Node) → op ≡ opIn (drop (r .pc) p) → t ≡ r .t → d ≡ r .d → e ≡ dueTick (nodeOf p held r) (standOf (nodeOf p held r))) ⌝ }
+pub fn due_by(op: u8, ready: u64, window: u16) -> u64
+    requires { ⌜ ready ≤ 4000000000000000000 ⌝ }
+    ensures { λ e. ⌜ ((part : List ℕ) (held : Counts) (registers : Node) → op ≡ opIn (drop (registers .pc) part) → ready ≡ registers .t → window ≡ registers .d → e ≡ dueTick (nodeOf part held registers) (standOf (nodeOf part held registers))) ⌝ }
 {
     if op == op::SLEEP {
-        return t;
+        return ready;
     }
     if op == op::LISTEN {
-        return t + node::wide64(d);
+        return ready + node::wide64(window);
     }
-    18446744073709551615
+    NEVER
 }
 
 // The last tick before a node is late that stands at that op; its next passage is ready at `next`.
-pub fn last_by(op: u8, t: u64, d: u16, next: u64) -> u64
-    requires { ⌜ t ≤ 4000000000000000000 ⌝ }
-    ensures { λ e. ⌜ ((p : List ℕ) (held : Counts) (r : Node) → op ≡ opIn (drop (r .pc) p) → t ≡ r .t → d ≡ r .d → e ≡ lastTick (nodeOf p held r) next (standOf (nodeOf p held r))) ⌝ }
+pub fn last_by(op: u8, ready: u64, window: u16, next: u64) -> u64
+    requires { ⌜ ready ≤ 4000000000000000000 ⌝ }
+    ensures { λ e. ⌜ ((part : List ℕ) (held : Counts) (registers : Node) → op ≡ opIn (drop (registers .pc) part) → ready ≡ registers .t → window ≡ registers .d → e ≡ lastTick (nodeOf part held registers) next (standOf (nodeOf part held registers))) ⌝ }
 {
     if op == op::SLEEP {
-        return 18446744073709551615;
+        return NEVER;
     }
     if op < op::PAIR {
-        return t + node::wide64(d);
+        return ready + node::wide64(window);
     }
     next
 }
 
 // Whether the node may finish its statement at that tick without another node.
-pub fn may_finish(p: &[u8], held: Counts, r: Node, tick: u64) -> bool
-    requires { ⌜ (length (now p) ≤ 65535) × Held held × Within 4000000000000000000 r ⌝ }
-    ensures { λ b. ⌜ b ≡ mayFinish tick (nodeOf (now (p .entry)) held r) (standOf (nodeOf (now (p .entry)) held r)) ⌝ }
+pub fn may_finish(part: &[u8], held: Counts, registers: Node, tick: u64) -> bool
+    requires { ⌜ (length (now part) ≤ 65535) × Held held × Within 4000000000000000000 registers ⌝ }
+    ensures { λ b. ⌜ b ≡ mayFinish tick (nodeOf (now (part .entry)) held registers) (standOf (nodeOf (now (part .entry)) held registers)) ⌝ }
 {
-    let op = node::op_at(p, r.pc);
-    let k = r.kept;
+    let op = node::op_at(part, registers.pc);
+    let kept = registers.kept;
     if op == op::ADD {
-        let at = r.pc;
-        let values = r.values;
-        let value = node::value_at(values, held.variables, p[at + 1]);
-        let fits = adds_in_range(&p[at..], value);
-        return may_by(op, tick, r.t, r.d, k.some, fits);
+        let at = registers.pc;
+        let values = registers.values;
+        let value = node::value_at(values, held.variables, part[at + 1]);
+        let fits = adds_in_range(&part[at..], value);
+        return may_by(op, tick, registers.t, registers.d, kept.some, fits);
     }
-    may_by(op, tick, r.t, r.d, k.some, true)
+    may_by(op, tick, registers.t, registers.d, kept.some, true)
 }
 
 // A node at its program's start: in the initial location's block, all else 0.
-pub fn start_node(p: &[u8]) -> Node
-    ensures { λ r. ⌜ r ≡ startOf (now (p .entry)) ⌝ }
+pub fn start_node(part: &[u8]) -> Node
+    ensures { λ r. ⌜ r ≡ startOf (now (part .entry)) ⌝ }
 {
-    let location = node::byte_at(p, 4);
+    let location = node::byte_at(part, 4);
     let clocks = [0u64; 4];
     let values = [0i16; 4];
     let tried = Trial {
@@ -180,7 +183,7 @@ pub fn start_node(p: &[u8]) -> Node
         end: 0,
     };
     Node {
-        pc: node::block_place(p, location as usize),
+        pc: node::block_place(part, location as usize),
         location,
         clocks,
         values,

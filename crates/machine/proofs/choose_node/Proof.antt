@@ -13,23 +13,23 @@ use Rattle.machine.proofs.choose_node.Tie as tie
 abbrev start : (c : tie.After-word3) → tie.Start
 start c = c .before .before .before .before .before .before .before .before .before .before .before
 
-present : (c : tie.After-word3) → start c .args .b < start c .args .count
+present : (c : tie.After-word3) → start c .args .choice < start c .args .count
 present c = omega (arith, c .before .before .before .before .before .before .if1 .left)
 
 -- the op at which the node stands
 op-there : (c : tie.After-op-at)
-    → let a = start (c .before .before) .args in c .op-at .result ≡ opOf (a .program .now) (a .l .now) (a .v .now) (a .b)
+    → let a = start (c .before .before) .args in c .op-at .result ≡ opOf (a .program .now) (a .words .now) (a .values .now) (a .choice)
 op-there c =
     let d = c .before .before in
     let a = start d .args in
-    op-read (a .program .now) (a .l .now) (a .v .now) (a .b) (d .before .before .before .before .word .result) (d .before .before .word2 .result) (d .word3 .result) (c .op-at .result)
+    op-read (a .program .now) (a .words .now) (a .values .now) (a .choice) (d .before .before .before .before .word .result) (d .before .before .word2 .result) (d .word3 .result) (c .op-at .result)
     (d .before .before .before .before .word .ensures) (d .before .before .word2 .ensures) (d .word3 .ensures) (c .op-at .ensures)
 
 returns : tie.Need-returns
 returns c H =
     let f = c .before .before .before .before .before in
     let a = f .args in
-    refused-absent (a .program .now) (a .rows .now) (a .n) H (a .count) (a .tick) (a .b) (a .l .now) (a .v .now) (a .out .now) (a .written) (f .pre .1) (c .if1 .taken)
+    refused-absent (a .program .now) (a .rows .now) (a .passages) H (a .count) (a .tick) (a .choice) (a .words .now) (a .values .now) (a .out .now) (a .written) (f .pre .1) (c .if1 .taken)
 
 word-requires : tie.Need-word-requires
 word-requires c κs = search needs
@@ -40,7 +40,7 @@ word-requires-2 c κs = search needs
 add-end : tie.Need-add-end
 add-end c =
     let f = c .before .before .before .before .before .before .before .before .before in
-    let s = f .pre .0 .each (f .args .b) (omega (arith, c .before .before .before .before .if1 .left)) in
+    let s = f .pre .0 .each (f .args .choice) (omega (arith, c .before .before .before .before .if1 .left)) in
     search needs
 
 word-requires-3 : tie.Need-word-requires-3
@@ -54,7 +54,7 @@ part-op-at-start c = search needs
 
 part-op-at-end : tie.Need-part-op-at-end
 part-op-at-end c =
-    let s = start c .pre .0 .each (start c .args .b) (present c) in
+    let s = start c .pre .0 .each (start c .args .choice) (present c) in
     search needs
 
 op-at-requires : tie.Need-op-at-requires

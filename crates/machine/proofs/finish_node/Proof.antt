@@ -36,13 +36,13 @@ finish-requires c κs =
     let base = c .before .before .before .before .before .before .word in
     let size = c .before .before .before .before .word2 in
     let row = c .before .before .before .if1 in
-    let way : Passing (a .rows .now) (a .n) (a .l .now) (a .c) (a .op) (row .l) =
+    let way : Passing (a .rows .now) (a .passages) (a .words .now) (a .c) (a .op) (row .words) =
     ⊎-elim
-    (λ w. inl (w .0 .taken, subst (RowPassed (a .rows .now) (a .n) (a .l .now) (a .c)) (sym (w .5)) (w .2 .ensures)))
+    (λ w. inl (w .0 .taken, subst (RowPassed (a .rows .now) (a .passages) (a .words .now) (a .c)) (sym (w .5)) (w .2 .ensures)))
     (λ w. inr (w .0 .left, w .1))
     (row .came) in
     let asked =
-    passes (a .program .now) (a .rows .now) (a .n) (a .l .now) (a .v .now) (a .c) (base .result) (size .result) (a .op) (row .l) (base .ensures) (size .ensures)
+    passes (a .program .now) (a .rows .now) (a .passages) (a .words .now) (a .values .now) (a .c) (base .result) (size .result) (a .op) (row .words) (base .ensures) (size .ensures)
     (s .pre .0) (s .pre .3) (s .pre .4) (s .pre .5) way in
     (asked .short, asked .eight, s .pre .2, asked .held, asked .within, asked .addable, asked .op-is)
 
@@ -62,13 +62,13 @@ note-requires c κs =
     let base = c .before .before .before .before .before .before .before .before .before .before .before .before .word in
     let size = c .before .before .before .before .before .before .before .before .before .before .word2 in
     let row = c .before .before .before .before .before .before .before .before .before .if1 in
-    let way : Passing (a .rows .now) (a .n) (a .l .now) (a .c) (a .op) (row .l) =
+    let way : Passing (a .rows .now) (a .passages) (a .words .now) (a .c) (a .op) (row .words) =
     ⊎-elim
-    (λ w. inl (w .0 .taken, subst (RowPassed (a .rows .now) (a .n) (a .l .now) (a .c)) (sym (w .5)) (w .2 .ensures)))
+    (λ w. inl (w .0 .taken, subst (RowPassed (a .rows .now) (a .passages) (a .words .now) (a .c)) (sym (w .5)) (w .2 .ensures)))
     (λ w. inr (w .0 .left, w .1))
     (row .came) in
     let asked =
-    passes (a .program .now) (a .rows .now) (a .n) (a .l .now) (a .v .now) (a .c) (base .result) (size .result) (a .op) (row .l) (base .ensures) (size .ensures)
+    passes (a .program .now) (a .rows .now) (a .passages) (a .words .now) (a .values .now) (a .c) (base .result) (size .result) (a .op) (row .words) (base .ensures) (size .ensures)
     (s .pre .0) (s .pre .3) (s .pre .4) (s .pre .5) way in
     let f = c .before .before .before .before .before .finish .ensures in (
       stored-eight (f .stored) (asked .eight) .words,
@@ -85,15 +85,15 @@ same-length c =
     let base = c .before .before .before .before .before .before .before .before .before .before .before .before .before .before .before .word in
     let size = c .before .before .before .before .before .before .before .before .before .before .before .before .before .word2 in
     let row = c .before .before .before .before .before .before .before .before .before .before .before .before .if1 in
-    let way : Passing (a .rows .now) (a .n) (a .l .now) (a .c) (a .op) (row .l) =
+    let way : Passing (a .rows .now) (a .passages) (a .words .now) (a .c) (a .op) (row .words) =
     ⊎-elim
-    (λ w. inl (w .0 .taken, subst (RowPassed (a .rows .now) (a .n) (a .l .now) (a .c)) (sym (w .5)) (w .2 .ensures)))
+    (λ w. inl (w .0 .taken, subst (RowPassed (a .rows .now) (a .passages) (a .words .now) (a .c)) (sym (w .5)) (w .2 .ensures)))
     (λ w. inr (w .0 .left, w .1))
     (row .came) in
     let asked =
-    passes (a .program .now) (a .rows .now) (a .n) (a .l .now) (a .v .now) (a .c) (base .result) (size .result) (a .op) (row .l) (base .ensures) (size .ensures)
+    passes (a .program .now) (a .rows .now) (a .passages) (a .words .now) (a .values .now) (a .c) (base .result) (size .result) (a .op) (row .words) (base .ensures) (size .ensures)
     (s .pre .0) (s .pre .3) (s .pre .4) (s .pre .5) way in
-    c .before .before .note .kept .1 .1 .1 .0 ∙ (c .before .before .before .before .before .before .before .before .finish .kept .1 .0 ∙ passing-length (a .rows .now) (a .n) (a .l .now) (a .c) (a .op) (row .l) way)
+    c .before .before .note .kept .1 .1 .1 .0 ∙ (c .before .before .before .before .before .before .before .before .finish .kept .1 .0 ∙ passing-length (a .rows .now) (a .passages) (a .words .now) (a .c) (a .op) (row .words) way)
 
 same-length-2 : tie.Need-same-length-2
 same-length-2 c = search needs
@@ -105,16 +105,16 @@ returns c =
     let base = c .before .before .before .before .before .before .before .before .before .before .before .before .before .before .before .word in
     let size = c .before .before .before .before .before .before .before .before .before .before .before .before .before .word2 in
     let row = c .before .before .before .before .before .before .before .before .before .before .before .before .if1 in
-    let way : Passing (a .rows .now) (a .n) (a .l .now) (a .c) (a .op) (row .l) =
+    let way : Passing (a .rows .now) (a .passages) (a .words .now) (a .c) (a .op) (row .words) =
     ⊎-elim
-    (λ w. inl (w .0 .taken, subst (RowPassed (a .rows .now) (a .n) (a .l .now) (a .c)) (sym (w .5)) (w .2 .ensures)))
+    (λ w. inl (w .0 .taken, subst (RowPassed (a .rows .now) (a .passages) (a .words .now) (a .c)) (sym (w .5)) (w .2 .ensures)))
     (λ w. inr (w .0 .left, w .1))
     (row .came) in
     let asked =
-    passes (a .program .now) (a .rows .now) (a .n) (a .l .now) (a .v .now) (a .c) (base .result) (size .result) (a .op) (row .l) (base .ensures) (size .ensures)
+    passes (a .program .now) (a .rows .now) (a .passages) (a .words .now) (a .values .now) (a .c) (base .result) (size .result) (a .op) (row .words) (base .ensures) (size .ensures)
     (s .pre .0) (s .pre .3) (s .pre .4) (s .pre .5) way in
     let f = c .before .before .before .before .before .before .before .before .finish in
-    words-moved (a .program .now) (a .rows .now) (a .n) (a .l .now) (a .v .now) (a .c) (base .result) (size .result) (a .op) (f .result) (row .l) (f .last .1 .0) (f .last .1 .1 .0)
+    words-moved (a .program .now) (a .rows .now) (a .passages) (a .words .now) (a .values .now) (a .c) (base .result) (size .result) (a .op) (f .result) (row .words) (f .last .1 .0) (f .last .1 .1 .0)
     (c .before .before .note .last .1 .1 .1 .0) (s .pre .2) (base .ensures) (size .ensures) (s .pre .4) way asked (f .ensures) (c .before .before .note .ensures)
 
 pub finish-node-spec : {M : Type 1} → statement M

@@ -19,12 +19,12 @@ use Rattle.machine.proofs.go_alone.Tie as tie
 
 -- it may be finished
 allowed : (c : tie.Else1) → let a = c .before .before .before .before .before .before .before .before .args in
-    mayFinish (a .tick) (viewIn (a .program .now) (a .l .now) (a .v .now) (a .c)) (standOf (viewIn (a .program .now) (a .l .now) (a .v .now) (a .c))) ≡ true
+    mayFinish (a .tick) (viewIn (a .program .now) (a .words .now) (a .values .now) (a .c)) (standOf (viewIn (a .program .now) (a .words .now) (a .values .now) (a .c))) ≡ true
 allowed c = let m = c .before .may-finish in sym (m .ensures) ∙ not-false (m .result) (c .if1 .left)
 
 -- the node's registers have been read
 loaded : (c : tie.After-load) → let a = c .before .before .before .before .before .before .before .before .before .before .before .before .before .before .args in
-    Loaded (a .program .now) (a .rows .now) (a .n) (a .l .now) (a .v .now) (a .c) (wordIn (a .l .now) (a .c) 21) (wordIn (a .l .now) (a .c) 22) (c .before .before .before .counts .result) (c .load .result)
+    Loaded (a .program .now) (a .rows .now) (a .passages) (a .words .now) (a .values .now) (a .c) (wordIn (a .words .now) (a .c) 21) (wordIn (a .words .now) (a .c) 22) (c .before .before .before .counts .result) (c .load .result)
 loaded c =
     let s = c .before .before .before .before .before .before .before .before .before .before .before .before .before .before in
     record { begins = refl; spans = refl; counts = c .before .before .before .counts .ensures; node = c .load .ensures; stands = s .pre .0 .each (s .args .c) (s .pre .1) }
@@ -53,7 +53,7 @@ returns c H =
     let s = c .before .before .before .before .before .before .before .before in
     let a = s .args in
     let m = c .before .may-finish in
-    refused (a .program .now) (a .rows .now) (a .n) H (a .count) (a .tick) (a .c) (a .l .now) (a .v .now) (a .out .now) (a .written) (s .pre .0 .most) (s .pre .1) (λ z. s .pre .3 z) (sym (m .ensures) ∙ not-true (m .result) (c .if1 .taken))
+    refused (a .program .now) (a .rows .now) (a .passages) H (a .count) (a .tick) (a .c) (a .words .now) (a .values .now) (a .out .now) (a .written) (s .pre .0 .most) (s .pre .1) (λ z. s .pre .3 z) (sym (m .ensures) ∙ not-true (m .result) (c .if1 .taken))
 
 counts-requires : tie.Need-counts-requires
 counts-requires c κs = search needs
@@ -75,7 +75,7 @@ put-observation-requires c κs =
     let s = c .before .before .before .before .before .before .before .before .before .before .before .before .before .before .before in
     let a = s .args in
     let d = c .before in (
-      s .pre .4 (observed-now (a .program .now) (a .l .now) (a .v .now) (a .c) (a .tick) (sym (s .pre .2) ∙ c .before .before .before .before .before .before .if2 .taken) (allowed (c .before .before .before .before .before .before .before))),
+      s .pre .4 (observed-now (a .program .now) (a .words .now) (a .values .now) (a .c) (a .tick) (sym (s .pre .2) ∙ c .before .before .before .before .before .before .if2 .taken) (allowed (c .before .before .before .before .before .before .before))),
       held-fine (loaded d),
       within (loaded d),
     )
@@ -89,7 +89,7 @@ finish-node-requires c κs =
       (omega (arith, s .pre .0 .most, s .pre .1)),
       stands-there (s .pre .0) (a .c) (s .pre .1),
       sym (c .before .before .before .before .before .before .before .before .before .before .before .if2 .taken) ∙ s .pre .2,
-      addable (partIn (a .program .now) (a .l .now) (a .c)) (heldIn (a .l .now) (a .c)) (nodeIn (a .l .now) (a .v .now) (a .c)) (a .tick) (allowed (c .before .before .before .before .before .before .before .before .before .before .before .before)),
+      addable (partIn (a .program .now) (a .words .now) (a .c)) (heldIn (a .words .now) (a .c)) (nodeIn (a .words .now) (a .values .now) (a .c)) (a .tick) (allowed (c .before .before .before .before .before .before .before .before .before .before .before .before)),
     )
 
 add-t30 : tie.Need-add-t30
@@ -112,13 +112,13 @@ returns-2 c H =
     let s = c .before .before .before .before .before .before .before .before .before .before .before .before .before .before .before .before .before .before .before .before .before .before .before .before in
     let a = s .args in
     let d = c .before .before .before .before .before .before .before .before .before .before in
-    woken (a .program .now) (a .rows .now) (a .n) H (a .count) (a .tick) (a .c) (a .l .now) (a .v .now) (a .out .now) (a .written) (s .pre .0 .most) (s .pre .1)
+    woken (a .program .now) (a .rows .now) (a .passages) H (a .count) (a .tick) (a .c) (a .words .now) (a .values .now) (a .out .now) (a .written) (s .pre .0 .most) (s .pre .1)
     (c .before .before .before .finish-node .ensures)
     (s .pre .3)
     (allowed (c .before .before .before .before .before .before .before .before .before .before .before .before .before .before .before .before))
     (sym (s .pre .2) ∙ c .before .before .before .before .before .before .before .before .before .before .before .before .before .before .before .if2 .taken)
     _
-    (c .before .before .before .before .before .before .before .before .put-observation .ensures (partIn (a .program .now) (a .l .now) (a .c))
+    (c .before .before .before .before .before .before .before .before .put-observation .ensures (partIn (a .program .now) (a .words .now) (a .c))
     ∙ ap (λ (q : Rattle.model.specs.Machine.Node). sets (a .out .now) (a .written * 32) (observationBytes (observes (a .c) (a .tick) q))) (view-of (loaded d)))
 
 finish-node-requires-2 : tie.Need-finish-node-requires-2
@@ -130,7 +130,7 @@ finish-node-requires-2 c κs =
       (omega (arith, s .pre .0 .most, s .pre .1)),
       stands-there (s .pre .0) (a .c) (s .pre .1),
       s .pre .2,
-      addable (partIn (a .program .now) (a .l .now) (a .c)) (heldIn (a .l .now) (a .c)) (nodeIn (a .l .now) (a .v .now) (a .c)) (a .tick) (allowed (c .before .before .before)),
+      addable (partIn (a .program .now) (a .words .now) (a .c)) (heldIn (a .words .now) (a .c)) (nodeIn (a .words .now) (a .values .now) (a .c)) (a .tick) (allowed (c .before .before .before)),
     )
 
 same-length-6 : tie.Need-same-length-6
@@ -143,7 +143,7 @@ returns-3 : tie.Need-returns-3
 returns-3 c H =
     let s = c .before .before .before .before .before .before .before .before .before .before .before .before .before .before .before in
     let a = s .args in
-    done (a .program .now) (a .rows .now) (a .n) H (a .count) (a .tick) (a .c) (a .l .now) (a .v .now) (a .out .now) (a .written) (s .pre .0 .most) (s .pre .1)
+    done (a .program .now) (a .rows .now) (a .passages) H (a .count) (a .tick) (a .c) (a .words .now) (a .values .now) (a .out .now) (a .written) (s .pre .0 .most) (s .pre .1)
     (c .before .before .before .finish-node2 .ensures)
     (s .pre .3)
     (allowed (c .before .before .before .before .before .before .before))

@@ -37,7 +37,7 @@ take-message-requires c κs =
     let size = c .before .before .before .before .word2 in
     let r = c .before .load in
     let asked =
-    asks (a .program .now) (a .rows .now) (a .n) (a .l .now) (a .v .now) (a .i) (base .result) (size .result) (heldIn (a .l .now) (a .i)) (r .result)
+    asks (a .program .now) (a .rows .now) (a .passages) (a .words .now) (a .values .now) (a .i) (base .result) (size .result) (heldIn (a .words .now) (a .i)) (r .result)
     (base .ensures)
     (size .ensures)
     refl
@@ -55,14 +55,14 @@ put-node-requires c κs =
     let r = c .before .before .before .before .load in
     let q = c .before .before .take-message in
     let asked =
-    asks (a .program .now) (a .rows .now) (a .n) (a .l .now) (a .v .now) (a .i) (base .result) (size .result) (heldIn (a .l .now) (a .i)) (r .result)
+    asks (a .program .now) (a .rows .now) (a .passages) (a .words .now) (a .values .now) (a .i) (base .result) (size .result) (heldIn (a .words .now) (a .i)) (r .result)
     (base .ensures)
     (size .ensures)
     refl
     (r .ensures)
     (pre .3) in
     let before = asked .within in
-    let after = asked .put (q .result) (message-grows _ (a .k) (r .result) (q .result) (q .ensures)) in
+    let after = asked .put (q .result) (message-grows _ (a .channel) (r .result) (q .result) (q .ensures)) in
     (pre .0, pre .1, pre .2, asked .inside, search needs)
 
 same-length : tie.Need-same-length
@@ -81,14 +81,14 @@ returns c =
     let r = c .before .before .before .before .before .before .before .before .load in
     let q = c .before .before .before .before .before .before .take-message in
     let put = c .before .before .before .put-node in
-    message-moved (a .program .now) (a .rows .now) (a .n) (a .l .now) (a .v .now) (a .i) (base .result) (size .result) (heldIn (a .l .now) (a .i)) (q .result)
+    message-moved (a .program .now) (a .rows .now) (a .passages) (a .words .now) (a .values .now) (a .i) (base .result) (size .result) (heldIn (a .words .now) (a .i)) (q .result)
     (put .last .1 .1 .1 .0)
     (put .last .1 .1 .1 .1 .0)
     (base .ensures)
     (size .ensures)
     refl
     (r .result)
-    (a .k)
+    (a .channel)
     (r .ensures)
     (pre .4)
     (q .ensures)

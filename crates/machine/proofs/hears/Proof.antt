@@ -11,7 +11,7 @@ word-requires c κs = search needs
 returns : tie.Need-returns
 returns c v =
     let a = c .before .before .before .before .args in
-    deaf-late (a .program .now) (a .l .now) v (a .k) (a .t) (a .i) (omega arith)
+    deaf-late (a .program .now) (a .words .now) v (a .channel) (a .ready) (a .i) (omega arith)
 
 word-requires-2 : tie.Need-word-requires-2
 word-requires-2 c κs = search needs
@@ -19,7 +19,7 @@ word-requires-2 c κs = search needs
 returns-2 : tie.Need-returns-2
 returns-2 c v =
     let a = c .before .before .before .before .before .before .args in
-    deaf-taken (a .program .now) (a .l .now) v (a .k) (a .t) (a .i) (omega arith)
+    deaf-taken (a .program .now) (a .words .now) v (a .channel) (a .ready) (a .i) (omega arith)
 
 word-requires-3 : tie.Need-word-requires-3
 word-requires-3 c κs = search needs
@@ -49,7 +49,7 @@ returns-3 : tie.Need-returns-3
 returns-3 c v =
     let f = c .before .before .before in
     let a = f .before .before .before .before .before .before .before .before .args in
-    heard (a .program .now) (a .l .now) v (a .k) (a .t) (a .i) _ _ _ (c .names .result) (f .before .word3 .ensures) (f .word4 .ensures) (c .before .before .word5 .ensures) (c .names .ensures) (omega arith) (λ e. omega arith)
+    heard (a .program .now) (a .words .now) v (a .channel) (a .ready) (a .i) _ _ _ (c .names .result) (f .before .word3 .ensures) (f .word4 .ensures) (c .before .before .word5 .ensures) (c .names .ensures) (omega arith) (λ e. omega arith)
 
 pub hears-spec : {M : Type 1} → statement M
 hears-spec =

@@ -30,7 +30,7 @@ returns c =
     let h = c .before .before .before .before in
     let f = h .before .before .before .before in
     let a = f .args in
-    found (a .program .now) (a .l .now) (a .k) (h .before .word .result) (a .count) (a .c) (h .loop .i) (search needs) (h .before .word .ensures) (h .loop .inv .1)
+    found (a .program .now) (a .words .now) (a .channel) (h .before .word .result) (a .count) (a .c) (h .loop .i) (search needs) (h .before .word .ensures) (h .loop .inv .1)
     (search needs)
     (c .before .before .if1 .taken)
     (c .before .hears .result)
@@ -48,7 +48,7 @@ loop-again c =
     let h = c .before .before in
     let a = h .before .before .before .before .args in (
       search needs,
-      one-more (a .program .now) (a .l .now) (a .k) (h .before .word .result) (a .c) (h .loop .i) (h .loop .inv .1)
+      one-more (a .program .now) (a .words .now) (a .channel) (h .before .word .result) (a .c) (h .loop .i) (h .loop .inv .1)
           (λ v n. ⊎-elim (λ w. sym (w .1 .ensures v) ∙ w .2 .left) (λ w. absurd (n (w .left))) (c .if1 .came)),
     )
 
@@ -56,7 +56,7 @@ returns-2 : tie.Need-returns-2 Inv-loop μ-loop
 returns-2 c =
     let h = c .before in
     let a = h .before .before .before .before .args in
-    not-found (a .program .now) (a .l .now) (a .k) (h .before .word .result) (a .count) (a .c) (h .loop .i) (search needs) (h .before .word .ensures) (h .loop .inv .1) (search needs)
+    not-found (a .program .now) (a .words .now) (a .channel) (h .before .word .result) (a .count) (a .c) (h .loop .i) (search needs) (h .before .word .ensures) (h .loop .inv .1) (search needs)
 
 pub listener-spec : {M : Type 1} → statement M
 listener-spec =

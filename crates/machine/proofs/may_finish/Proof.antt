@@ -18,12 +18,12 @@ use Rattle.machine.proofs.may_finish.Statement.{statement}
 use Rattle.machine.proofs.may_finish.Tie as tie
 
 -- the addition's four bytes are there
-whole : (c : tie.After-p) → c .before .word6 .result + 4 ≤ length (lent (c .before .before .before .before .before .before .before .before .before .before .before .args .program .now) (c .before .before .before .word4 .result) (c .before .before .word5 .result))
+whole : (c : tie.After-part) → c .before .word6 .result + 4 ≤ length (lent (c .before .before .before .before .before .before .before .before .before .before .before .args .program .now) (c .before .before .before .word4 .result) (c .before .before .word5 .result))
 whole c =
     let s = c .before .before .before .before .before .before .before .before .before .before .before in
     let a = s .args in
-    let bytes = lent-is (a .program .now) (a .l .now) (a .c) (c .before .before .before .word4 .result) (c .before .before .word5 .result) (c .before .before .before .word4 .ensures) (c .before .before .word5 .ensures) in
-    let o = inside (partIn (a .program .now) (a .l .now) (a .c)) (wordIn (a .l .now) (a .c) 0) 2 (opens _ 2 (sym (s .pre .5) ∙ c .before .before .before .before .if1 .taken) (λ z. omega arith)) in
+    let bytes = lent-is (a .program .now) (a .words .now) (a .c) (c .before .before .before .word4 .result) (c .before .before .word5 .result) (c .before .before .before .word4 .ensures) (c .before .before .word5 .ensures) in
+    let o = inside (partIn (a .program .now) (a .words .now) (a .c)) (wordIn (a .words .now) (a .c) 0) 2 (opens _ 2 (sym (s .pre .5) ∙ c .before .before .before .before .if1 .taken) (λ z. omega arith)) in
     rw (bytes, c .before .word6 .ensures) o
 
 word-requires : tie.Need-word-requires
@@ -50,14 +50,14 @@ add-end c = search needs
 word-requires-6 : tie.Need-word-requires-6
 word-requires-6 c κs = search needs
 
-sub-p : tie.Need-sub-p
-sub-p c = search needs
+sub-part : tie.Need-sub-part
+sub-part c = search needs
 
-part-p-start : tie.Need-part-p-start
-part-p-start c = search needs
+part-part-start : tie.Need-part-part-start
+part-part-start c = search needs
 
-part-p-end : tie.Need-part-p-end
-part-p-end c = search needs
+part-part-end : tie.Need-part-part-end
+part-part-end c = search needs
 
 add-value : tie.Need-add-value
 add-value c = let w = whole c in search needs
@@ -92,10 +92,10 @@ returns c =
     let s = c .before .before .before .before .before .before .before .before .before .before .before .before .before .before .before .before in
     let a = s .args in
     let x = c .before .before .before .value in
-    let part = partIn (a .program .now) (a .l .now) (a .c) in
-    c .may-by .ensures part (heldIn (a .l .now) (a .c)) (nodeIn (a .l .now) (a .v .now) (a .c))
+    let part = partIn (a .program .now) (a .words .now) (a .c) in
+    c .may-by .ensures part (heldIn (a .words .now) (a .c)) (nodeIn (a .words .now) (a .values .now) (a .c))
     (s .pre .5) (c .before .before .before .before .before .before .before .before .before .before .before .before .before .word .ensures) (c .before .before .before .before .before .before .before .before .before .before .before .half .ensures ∙ rw (c .before .before .before .before .before .before .before .before .before .before .before .before .word2 .ensures)) (ap (λ (x : ℕ). eqb x 1) (c .before .before .before .before .before .before .before .before .before .before .word3 .ensures))
-    (λ z. adds-there (a .program .now) (a .l .now) (a .v .now) (a .c) (c .before .before .before .before .before .before .before .before .word4 .result) (c .before .before .before .before .before .before .before .word5 .result) (c .before .before .before .before .before .before .word6 .result) (x .result) (c .before .adds-in-range .result)
+    (λ z. adds-there (a .program .now) (a .words .now) (a .values .now) (a .c) (c .before .before .before .before .before .before .before .before .word4 .result) (c .before .before .before .before .before .before .before .word5 .result) (c .before .before .before .before .before .before .word6 .result) (x .result) (c .before .adds-in-range .result)
     (c .before .before .before .before .before .before .before .before .word4 .ensures) (c .before .before .before .before .before .before .before .word5 .ensures) (c .before .before .before .before .before .before .word6 .ensures) (x .ensures)
     (c .before .adds-in-range .ensures ∙ rw (toZ-ofZ w16 (x .result) (sfits-of (x .ok)), tail (lent (a .program .now) (c .before .before .before .before .before .before .before .before .word4 .result) (c .before .before .before .before .before .before .before .word5 .result)) (c .before .before .before .before .before .before .word6 .result))))
 
@@ -106,7 +106,7 @@ returns-2 : tie.Need-returns-2
 returns-2 c =
     let s = c .before .before .before .before .before .before .before .before in
     let a = s .args in
-    c .may-by2 .ensures (partIn (a .program .now) (a .l .now) (a .c)) (heldIn (a .l .now) (a .c)) (nodeIn (a .l .now) (a .v .now) (a .c))
+    c .may-by2 .ensures (partIn (a .program .now) (a .words .now) (a .c)) (heldIn (a .words .now) (a .c)) (nodeIn (a .words .now) (a .values .now) (a .c))
     (s .pre .5) (c .before .before .before .before .before .word .ensures) (c .before .before .before .half .ensures ∙ rw (c .before .before .before .before .word2 .ensures)) (ap (λ (x : ℕ). eqb x 1) (c .before .before .word3 .ensures))
     (λ z. absurd (c .before .if1 .left z))
 
@@ -122,9 +122,9 @@ may-finish-spec =
     word-requires-5
     add-end
     word-requires-6
-    sub-p
-    part-p-start
-    part-p-end
+    sub-part
+    part-part-start
+    part-part-end
     add-value
     shared-slice-read-value
     value-requires

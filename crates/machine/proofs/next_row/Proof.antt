@@ -37,14 +37,14 @@ loop-again : tie.Need-loop-again Inv-loop μ-loop
 loop-again c =
     let a = c .before .before .before .before .before .args in
     let l = c .before .before .before .loop in
-    (search needs, own-past (a .rows .now) (a .n) (a .c) (l .i) (search needs) (λ e. c .if1 .left (c .before .index .ensures ∙ e)) ∙ l .inv .1)
+    (search needs, own-past (a .rows .now) (a .passages) (a .c) (l .i) (search needs) (λ e. c .if1 .left (c .before .index .ensures ∙ e)) ∙ l .inv .1)
 
 returns-2 : tie.Need-returns-2 Inv-loop μ-loop
 returns-2 c =
     let a = c .before .before .before .args in
     let l = c .before .loop in
-    let e : l .i ≡ a .n = search needs in
-    (search needs, ap (λ (i : ℕ). own (a .c) (drop i (rowsOf (a .rows .now) (a .n)))) (sym e) ∙ l .inv .1, λ h. absurd (omega arith))
+    let e : l .i ≡ a .passages = search needs in
+    (search needs, ap (λ (i : ℕ). own (a .c) (drop i (rowsOf (a .rows .now) (a .passages)))) (sym e) ∙ l .inv .1, λ h. absurd (omega arith))
 
 pub next-row-spec : {M : Type 1} → statement M
 next-row-spec =

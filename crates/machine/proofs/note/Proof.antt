@@ -50,17 +50,17 @@ returns : tie.Need-returns
 returns c =
     let s = c .before .before .before .before .before .before .before .before .before .before .before .before .before .before .before .before .before .before .before .before .before .before in
     let a = s .args in
-    let pc : c .before .before .before .before .before .before .before .before .before .before .before .before .before .before .before .before .before .before .op-at .result ≡ opIn (drop (wordIn (a .l .now) (a .c) 0) (a .p .now)) = c .before .before .before .before .before .before .before .before .before .before .before .before .before .before .before .before .before .before .op-at .ensures ∙ ap (λ (i : ℕ). opIn (drop i (a .p .now))) (s .pre .4) in
-    let d : c .before .before .before .before .before .before .before .before .before .before .before .before .before .half .result ≡ wordIn (a .l .now) (a .c) 7 % 65536 = c .before .before .before .before .before .before .before .before .before .before .before .before .before .half .ensures ∙ rw (c .before .before .before .before .before .before .before .before .before .before .before .before .before .before .word2 .ensures) in
-    let next : c .before .before .before .before .before .before .before .before .before .before .next-ready .result ≡ readyAt (rowsOf (a .rows .now) (a .n)) (wordIn (a .l .now) (a .c) 25) =
-    c .before .before .before .before .before .before .before .before .before .before .next-ready .ensures ∙ ap (readyAt (rowsOf (a .rows .now) (a .n))) (c .before .before .before .before .before .before .before .before .before .before .before .word3 .ensures) in
+    let pc : c .before .before .before .before .before .before .before .before .before .before .before .before .before .before .before .before .before .before .op-at .result ≡ opIn (drop (wordIn (a .words .now) (a .c) 0) (a .part .now)) = c .before .before .before .before .before .before .before .before .before .before .before .before .before .before .before .before .before .before .op-at .ensures ∙ ap (λ (i : ℕ). opIn (drop i (a .part .now))) (s .pre .4) in
+    let d : c .before .before .before .before .before .before .before .before .before .before .before .before .before .half .result ≡ wordIn (a .words .now) (a .c) 7 % 65536 = c .before .before .before .before .before .before .before .before .before .before .before .before .before .half .ensures ∙ rw (c .before .before .before .before .before .before .before .before .before .before .before .before .before .before .word2 .ensures) in
+    let next : c .before .before .before .before .before .before .before .before .before .before .next-ready .result ≡ readyAt (rowsOf (a .rows .now) (a .passages)) (wordIn (a .words .now) (a .c) 25) =
+    c .before .before .before .before .before .before .before .before .before .before .next-ready .ensures ∙ ap (readyAt (rowsOf (a .rows .now) (a .passages))) (c .before .before .before .before .before .before .before .before .before .before .before .word3 .ensures) in
     record {
       due = c .before .before .before .before .before .before .before .before .before .due-by .result;
       last = c .before .before .before .before .before .before .before .before .last-by .result;
-      dues = λ held v. c .before .before .before .before .before .before .before .before .before .due-by .ensures (a .p .now) held (nodeIn (a .l .now) v (a .c)) pc (c .before .before .before .before .before .before .before .before .before .before .before .before .before .before .before .before .word .ensures) d;
+      dues = λ held v. c .before .before .before .before .before .before .before .before .before .due-by .ensures (a .part .now) held (nodeIn (a .words .now) v (a .c)) pc (c .before .before .before .before .before .before .before .before .before .before .before .before .before .before .before .before .word .ensures) d;
       lasts = λ held v.
-          c .before .before .before .before .before .before .before .before .last-by .ensures (a .p .now) held (nodeIn (a .l .now) v (a .c)) pc (c .before .before .before .before .before .before .before .before .before .before .before .before .before .before .before .before .word .ensures) d
-          ∙ ap (λ (m : ℕ). lastTick (nodeOf (a .p .now) held (nodeIn (a .l .now) v (a .c))) m (standOf (nodeOf (a .p .now) held (nodeIn (a .l .now) v (a .c))))) next;
+          c .before .before .before .before .before .before .before .before .last-by .ensures (a .part .now) held (nodeIn (a .words .now) v (a .c)) pc (c .before .before .before .before .before .before .before .before .before .before .before .before .before .before .before .before .word .ensures) d
+          ∙ ap (λ (m : ℕ). lastTick (nodeOf (a .part .now) held (nodeIn (a .words .now) v (a .c))) m (standOf (nodeOf (a .part .now) held (nodeIn (a .words .now) v (a .c))))) next;
       put = c .before .before .put-word2 .ensures ∙ ap (λ (x : List ℕ). set x (a .c * 32 + 27) (c .before .before .before .before .before .before .before .before .last-by .result)) (c .before .before .before .before .before .before .put-word .ensures);
     }
 

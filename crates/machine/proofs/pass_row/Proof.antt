@@ -27,7 +27,7 @@ returns c =
     let row = c .before .before .before .before .before .before .word in
     let next = c .before .before .before .before .next-row in
     let put = c .before .before .put-word in
-    next-put (a .rows .now) (a .n) (a .l .now) (a .c) (row .result) (next .result) (put .last .0) (pre .0) (pre .2) (row .ensures) (c .before .before .before .before .before .if1 .taken)
+    next-put (a .rows .now) (a .passages) (a .words .now) (a .c) (row .result) (next .result) (put .last .0) (pre .0) (pre .2) (row .ensures) (c .before .before .before .before .before .if1 .taken)
     (next .ensures .0)
     (next .ensures .1)
     (next .ensures .2)
@@ -40,7 +40,7 @@ returns-2 : tie.Need-returns-2
 returns-2 c =
     let a = c .before .before .before .before .before .args in
     let row = c .before .word in
-    none-put (a .rows .now) (a .n) (a .l .now) (a .c) (row .result) (row .ensures) (search needs)
+    none-put (a .rows .now) (a .passages) (a .words .now) (a .c) (row .result) (row .ensures) (search needs)
 
 pub pass-row-spec : {M : Type 1} → statement M
 pass-row-spec =

@@ -21,7 +21,7 @@ add-end c =
     let s = c .before .before .before .before .before .before .before .before .before .before .before .before .before in
     let a = s .args in
     let st = c .before .before .before .before .before .before .before .store in
-    let i = still-inside (a .program .now) (a .l .now) (a .v .now) (a .c) (a .q) (st .last .0) (st .last .1 .0) (st .ensures) (s .pre .3) in
+    let i = still-inside (a .program .now) (a .words .now) (a .values .now) (a .c) (a .next) (st .last .0) (st .last .1 .0) (st .ensures) (s .pre .3) in
     omega (arith, c .word2 .ensures, c .before .before .word .ensures, i .inside)
 
 sub-note : tie.Need-sub-note
@@ -35,7 +35,7 @@ part-note-end c =
     let s = c .before .before .before .before .before .before .before .before .before .before .before .before .before in
     let a = s .args in
     let st = c .before .before .before .before .before .before .before .store in
-    let i = still-inside (a .program .now) (a .l .now) (a .v .now) (a .c) (a .q) (st .last .0) (st .last .1 .0) (st .ensures) (s .pre .3) in
+    let i = still-inside (a .program .now) (a .words .now) (a .values .now) (a .c) (a .next) (st .last .0) (st .last .1 .0) (st .ensures) (s .pre .3) in
     omega (arith, c .word2 .ensures, c .before .before .word .ensures, i .inside)
 
 note-requires : tie.Need-note-requires

@@ -19,13 +19,13 @@ start c = c .before .before .before .before .before .before .before .before .bef
 
 -- the node's words have been read
 loaded : (c : tie.After-word3) → let a = start c .args in
-    Loaded (a .program .now) (a .rows .now) (a .n) (a .l .now) (a .v .now) (a .c) (c .before .before .before .before .word .result) (c .before .before .word2 .result) (heldIn (a .l .now) (a .c)) (nodeIn (a .l .now) (a .v .now) (a .c))
+    Loaded (a .program .now) (a .rows .now) (a .passages) (a .words .now) (a .values .now) (a .c) (c .before .before .before .before .word .result) (c .before .before .word2 .result) (heldIn (a .words .now) (a .c)) (nodeIn (a .words .now) (a .values .now) (a .c))
 loaded c =
     record { begins = c .before .before .before .before .word .ensures; spans = c .before .before .word2 .ensures; counts = refl; node = refl; stands = start c .pre .0 .each (start c .args .c) (start c .pre .1) }
 
 -- the channel
 on-channel : (c : tie.After-byte-at) → let a = start (c .before .before) .args in
-    c .byte-at .result ≡ byte (drop (wordIn (a .l .now) (a .c) 0) (partIn (a .program .now) (a .l .now) (a .c))) 1
+    c .byte-at .result ≡ byte (drop (wordIn (a .words .now) (a .c) 0) (partIn (a .program .now) (a .words .now) (a .c))) 1
 on-channel c =
     let d = c .before .before in
     let a = start d .args in
@@ -77,7 +77,7 @@ returns c H tick written out =
     let d = c .before .before .before .before .before in
     let f = start d in
     let a = f .args in
-    unheard (a .program .now) (a .rows .now) (a .n) H (a .count) tick (a .c) (a .l .now) (a .v .now) out written (f .pre .0 .most) (f .pre .1) (f .pre .2) (c .before .before .before .byte-at .result)
+    unheard (a .program .now) (a .rows .now) (a .passages) H (a .count) tick (a .c) (a .words .now) (a .values .now) out written (f .pre .0 .most) (f .pre .1) (f .pre .2) (c .before .before .before .byte-at .result)
     (on-channel (c .before .before .before))
     (c .before .listener .result)
     (c .if1 .taken)
@@ -118,7 +118,7 @@ returns-2 c H tick written out =
     let a = f .args in
     let k = c .before .before .before .before .before .before .before .before .before .before .before .before .before .before .before .byte-at in
     let i = c .before .before .before .before .before .before .before .before .before .before .before .before .before .listener in
-    taken (a .program .now) (a .rows .now) (a .n) H (a .count) tick (a .c) (a .l .now) (a .v .now) out written (f .pre .0 .most) (f .pre .1) (f .pre .2) (k .result)
+    taken (a .program .now) (a .rows .now) (a .passages) H (a .count) tick (a .c) (a .words .now) (a .values .now) out written (f .pre .0 .most) (f .pre .1) (f .pre .2) (k .result)
     (on-channel (c .before .before .before .before .before .before .before .before .before .before .before .before .before .before .before))
     (i .result)
     (omega (arith, c .before .before .before .before .before .before .before .before .before .before .before .before .if1 .left))

@@ -17,7 +17,7 @@ raised-requires c κs = search needs
 
 returns : tie.Need-returns
 returns c =
-    let h = c .before .before .before .before .before .args .h .now in
+    let h = c .before .before .before .before .before .args .statement .now in
     c .raised .ensures ∙ rw (c .before .before .before .word-at .ensures, eq-eqb (byte h 0) 11 (c .before .if1 .taken))
 
 lowered-requires : tie.Need-lowered-requires
@@ -25,7 +25,7 @@ lowered-requires c κs = search needs
 
 returns-2 : tie.Need-returns-2
 returns-2 c =
-    let h = c .before .before .before .before .before .args .h .now in
+    let h = c .before .before .before .before .before .args .statement .now in
     c .lowered .ensures ∙ rw (c .before .before .before .word-at .ensures, ne-eqb (byte h 0) 11 (c .before .if1 .left))
 
 pub by-clock-spec : {M : Type 1} → statement M

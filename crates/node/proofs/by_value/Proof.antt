@@ -23,7 +23,7 @@ returns c =
     let a = s .args in
     let k = c .before .before .before .signed-at in
     c .met .ensures
-    ∙ rw (toZ-ofZ w16 (k .result) (sfits-of (k .ok)), toZ-ofZ w16 (a .value) (s .fits .value), k .ensures, eq-eqb (byte (a .h .now) 0) 13 (c .before .if1 .taken))
+    ∙ rw (toZ-ofZ w16 (k .result) (sfits-of (k .ok)), toZ-ofZ w16 (a .value) (s .fits .value), k .ensures, eq-eqb (byte (a .statement .now) 0) 13 (c .before .if1 .taken))
 
 met-requires-2 : tie.Need-met-requires-2
 met-requires-2 c κs = search needs
@@ -34,7 +34,7 @@ returns-2 c =
     let a = s .args in
     let k = c .before .before .before .signed-at in
     c .met2 .ensures
-    ∙ rw (toZ-ofZ w16 (k .result) (sfits-of (k .ok)), toZ-ofZ w16 (a .value) (s .fits .value), k .ensures, ne-eqb (byte (a .h .now) 0) 13 (c .before .if1 .left))
+    ∙ rw (toZ-ofZ w16 (k .result) (sfits-of (k .ok)), toZ-ofZ w16 (a .value) (s .fits .value), k .ensures, ne-eqb (byte (a .statement .now) 0) 13 (c .before .if1 .left))
 
 pub by-value-spec : {M : Type 1} → statement M
 by-value-spec =

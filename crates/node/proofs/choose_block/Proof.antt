@@ -13,7 +13,7 @@ block-place-requires c κs = search needs
 
 returns : tie.Need-returns
 returns c =
-    ap (moved (c .before .before .before .args .r)) (c .block-place .ensures ∙ rw (c .before .wide .ensures .0))
+    ap (moved (c .before .before .before .args .registers)) (c .block-place .ensures ∙ rw (c .before .wide .ensures .0))
 
 pub choose-block-spec : {M : Type 1} → statement M
 choose-block-spec = tie.close (tie.spec wide-requires block-place-requires returns)

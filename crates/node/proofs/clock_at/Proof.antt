@@ -18,10 +18,10 @@ array-read-result c = search needs
 returns : tie.Need-returns
 returns c =
     let a = c .before .before .args in
-    rw (c .wide .ensures .0) (sym (getD-take (a .n) (a .t1) (a .i) 0 (c .before .if1 .taken)))
+    rw (c .wide .ensures .0) (sym (getD-take (a .count) (a .t1) (a .i) 0 (c .before .if1 .taken)))
 
 returns-2 : tie.Need-returns-2
-returns-2 c = let a = c .before .args in sym (past (a .n) (a .t1) (a .i) 0 (c .if1 .left))
+returns-2 c = let a = c .before .args in sym (past (a .count) (a .t1) (a .i) 0 (c .if1 .left))
 
 pub clock-at-spec : {M : Type 1} → statement M
 clock-at-spec = tie.close (tie.spec wide-requires mul-result array-read-result returns returns-2)

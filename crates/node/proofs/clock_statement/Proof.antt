@@ -17,7 +17,7 @@ returns : tie.Need-returns
 returns c =
     let s = c .before .before .before .before in
     let a = s .args in
-    no-clock-is (a .h .now) (a .held) (a .r) (s .pre .1) (s .pre .2) (c .if1 .taken)
+    no-clock-is (a .statement .now) (a .held) (a .registers) (s .pre .1) (s .pre .2) (c .if1 .taken)
 
 shared-slice-read-if2 : tie.Need-shared-slice-read-if2
 shared-slice-read-if2 c = search needs
@@ -67,10 +67,10 @@ returns-2 : tie.Need-returns-2
 returns-2 c =
     let s = c .before .before .before .before .before .before .before in
     let a = s .args in
-    let there : byte (a .h .now) 1 < a .held .clocks = omega arith in
+    let there : byte (a .statement .now) 1 < a .held .clocks = omega arith in
     ⊎-elim
-    (λ w. zero-is (a .h .now) (a .held) (a .r) (c .if2 .clocks) there (w .0 .taken) (w .2 ∙ rw (w .1 .ensures .0)))
-    (λ w. aged-is (a .h .now) (a .held) (a .r) (c .if2 .clocks) there (omega (arith, w .0 .left))
+    (λ w. zero-is (a .statement .now) (a .held) (a .registers) (c .if2 .clocks) there (w .0 .taken) (w .2 ∙ rw (w .1 .ensures .0)))
+    (λ w. aged-is (a .statement .now) (a .held) (a .registers) (c .if2 .clocks) there (omega (arith, w .0 .left))
     (w .5 ∙ rw (w .1 .ensures .0, w .2 .ensures .0, w .3 .ensures .0, w .4 .ensures .0)))
     (c .if2 .came)
 

@@ -12,13 +12,13 @@ returns : tie.Need-returns
 returns c =
     let s = c .before .before in
     let a = s .args in
-    enter-is (a .h .now) (a .held) (a .r) true (s .pre .1) (c .if1 .taken)
+    enter-is (a .statement .now) (a .held) (a .registers) true (s .pre .1) (c .if1 .taken)
 
 returns-2 : tie.Need-returns-2
 returns-2 c =
     let s = c .before .before in
     let a = s .args in
-    enter-is (a .h .now) (a .held) (a .r) false (s .pre .1) (c .if1 .left)
+    enter-is (a .statement .now) (a .held) (a .registers) false (s .pre .1) (c .if1 .left)
 
 pub enter-statement-spec : {M : Type 1} → statement M
 enter-statement-spec = tie.close (tie.spec shared-slice-read-to returns returns-2)

@@ -17,7 +17,7 @@ op-at-requires c κs = search needs
 returns : tie.Need-returns
 returns c =
     let a = c .before .before .before .args in
-    sym (after-none (a .p .now) (a .held) (a .r) (sym (c .before .op-at .ensures) ∙ c .if1 .taken))
+    sym (after-none (a .part .now) (a .held) (a .registers) (sym (c .before .op-at .ensures) ∙ c .if1 .taken))
 
 take-edge-requires : tie.Need-take-edge-requires
 take-edge-requires c κs = search needs
@@ -25,7 +25,7 @@ take-edge-requires c κs = search needs
 returns-2 : tie.Need-returns-2
 returns-2 c =
     let a = c .before .before .before .before .before .args in
-    c .take-edge .ensures ∙ sym (after-take (a .p .now) (a .held) (a .r) (sym (c .before .before .before .op-at .ensures) ∙ c .before .if2 .taken))
+    c .take-edge .ensures ∙ sym (after-take (a .part .now) (a .held) (a .registers) (sym (c .before .before .before .op-at .ensures) ∙ c .before .if2 .taken))
 
 choose-block-requires : tie.Need-choose-block-requires
 choose-block-requires c κs = search needs
@@ -33,52 +33,52 @@ choose-block-requires c κs = search needs
 returns-3 : tie.Need-returns-3
 returns-3 c =
     let a = c .before .before .before .before .before .before .args in
-    c .choose-block .ensures ∙ sym (after-choose (a .p .now) (a .held) (a .r) (sym (c .before .before .before .before .op-at .ensures) ∙ c .before .if3 .taken))
+    c .choose-block .ensures ∙ sym (after-choose (a .part .now) (a .held) (a .registers) (sym (c .before .before .before .before .op-at .ensures) ∙ c .before .if3 .taken))
 
 -- the op is known, and its statement stands inside the part
-opened : (c : tie.Else3) → Opens (drop (c .before .before .before .before .before .args .r .pc) (c .before .before .before .before .before .args .p .now)) (c .before .before .before .op-at .result)
+opened : (c : tie.Else3) → Opens (drop (c .before .before .before .before .before .args .registers .pc) (c .before .before .before .before .before .args .part .now)) (c .before .before .before .op-at .result)
 opened c = opens _ _ (sym (c .before .before .before .op-at .ensures)) (c .before .before .if1 .left)
 
 front : (c : tie.Else3)
     → let a = c .before .before .before .before .before .args in
-    let at = a .r .pc in
-    Opens (take (length (a .p .now) - at) (drop at (a .p .now))) (c .before .before .before .op-at .result)
-front c = let a = c .before .before .before .before .before .args in rw (tail (a .p .now) (a .r .pc)) (opened c)
+    let at = a .registers .pc in
+    Opens (take (length (a .part .now) - at) (drop at (a .part .now))) (c .before .before .before .op-at .result)
+front c = let a = c .before .before .before .before .before .args in rw (tail (a .part .now) (a .registers .pc)) (opened c)
 
-placed : (c : tie.Else3) → let a = c .before .before .before .before .before .args in a .r .pc + 4 ≤ length (a .p .now)
-placed c = let a = c .before .before .before .before .before .args in inside (a .p .now) (a .r .pc) (c .before .before .before .op-at .result) (opened c)
+placed : (c : tie.Else3) → let a = c .before .before .before .before .before .args in a .registers .pc + 4 ≤ length (a .part .now)
+placed c = let a = c .before .before .before .before .before .args in inside (a .part .now) (a .registers .pc) (c .before .before .before .op-at .result) (opened c)
 
-sub-h : tie.Need-sub-h
-sub-h c = omega (arith, placed c)
+sub-statement : tie.Need-sub-statement
+sub-statement c = omega (arith, placed c)
 
-part-h-start : tie.Need-part-h-start
-part-h-start c =
+part-statement-start : tie.Need-part-statement-start
+part-statement-start c =
     let a = c .before .before .before .before .before .args in
-    let w : a .r .pc ≤ length (a .p .now) = sub-h c in
+    let w : a .registers .pc ≤ length (a .part .now) = sub-statement c in
     search needs
 
-part-h-end : tie.Need-part-h-end
-part-h-end c = search needs
+part-statement-end : tie.Need-part-statement-end
+part-statement-end c = search needs
 
 statement-length-requires : tie.Need-statement-length-requires
 statement-length-requires c κs = front (c .before) .fits
 
-add-q : tie.Need-add-q
-add-q c = omega (arith, placed (c .before .before), c .statement-length .ensures .1)
+add-next : tie.Need-add-next
+add-next c = omega (arith, placed (c .before .before), c .statement-length .ensures .1)
 
 work-statement-requires : tie.Need-work-statement-requires
 work-statement-requires c κs =
     let e = c .before .before .before in
     let s = e .before .before .before .before .before in
     let o = front e in
-    (o .fits, omega (arith, o .first), s .pre .1, moved-within _ _ _ (s .pre .2), rw (tail (s .args .p .now) (s .args .r .pc)) (record { fits = s .pre .3 .fits }))
+    (o .fits, omega (arith, o .first), s .pre .1, moved-within _ _ _ (s .pre .2), rw (tail (s .args .part .now) (s .args .registers .pc)) (record { fits = s .pre .3 .fits }))
 
 returns-4 : tie.Need-returns-4
 returns-4 c =
     let e = c .before .before .before .before in
     let s = e .before .before .before .before .before in
     let a = s .args in
-    after-by (a .p .now) (a .held) (a .r) _ (tail (a .p .now) (a .r .pc)) (omega (arith, e .before .before .before .op-at .ensures)) (c .before .before .statement-length .result)
+    after-by (a .part .now) (a .held) (a .registers) _ (tail (a .part .now) (a .registers .pc)) (omega (arith, e .before .before .before .op-at .ensures)) (c .before .before .statement-length .result)
     (c .before .before .statement-length .ensures .0)
     (c .work-statement .result)
     (c .work-statement .ensures)
@@ -96,7 +96,7 @@ returns-5 c =
     let s = e .before .before .before .before .before in
     let a = s .args in
     let w = opened e .low in
-    after-by (a .p .now) (a .held) (a .r) _ (tail (a .p .now) (a .r .pc)) (omega (arith, e .before .before .before .op-at .ensures)) (c .before .before .statement-length .result)
+    after-by (a .part .now) (a .held) (a .registers) _ (tail (a .part .now) (a .registers .pc)) (omega (arith, e .before .before .before .op-at .ensures)) (c .before .before .statement-length .result)
     (c .before .before .statement-length .ensures .0)
     (c .try-statement .result)
     (c .try-statement .ensures)
@@ -111,11 +111,11 @@ finish-spec =
     returns-2
     choose-block-requires
     returns-3
-    sub-h
-    part-h-start
-    part-h-end
+    sub-statement
+    part-statement-start
+    part-statement-end
     statement-length-requires
-    add-q
+    add-next
     work-statement-requires
     returns-4
     try-statement-requires

@@ -23,12 +23,12 @@ add-result c = search needs
 
 returns : tie.Need-returns
 returns c =
-    let h = c .before .before .before .before .before .args .h .now in
+    let h = c .before .before .before .before .before .args .statement .now in
     (rw (c .wide .ensures .0, eq-eqb (byte h 0) 5 (c .before .before .if1 .taken)), omega arith)
 
 returns-2 : tie.Need-returns-2
 returns-2 c =
-    let h = c .before .before .before .args .h .now in
+    let h = c .before .before .before .args .statement .now in
     (rw (ne-eqb (byte h 0) 5 (c .if1 .left)), omega arith)
 
 pub statement-length-spec : {M : Type 1} → statement M

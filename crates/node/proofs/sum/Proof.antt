@@ -14,18 +14,18 @@ wide32-requires-2 : tie.Need-wide32-requires-2
 wide32-requires-2 c κs = search needs
 
 add-result : tie.Need-add-result
-add-result c = let s = c .before .before in wide-fits (s .fits .x) (s .fits .z) (c .before .wide32 .ensures) (c .wide322 .ensures)
+add-result c = let s = c .before .before in wide-fits (s .fits .value) (s .fits .addend) (c .before .wide32 .ensures) (c .wide322 .ensures)
 
 cast-result : tie.Need-cast-result
 cast-result c =
     let s = c .before .before in
-    rw (wide-back (s .fits .x) (s .fits .z) (c .before .wide32 .ensures) (c .wide322 .ensures)) (range-fits (s .args .x +ℤ s .args .z) (s .pre))
+    rw (wide-back (s .fits .value) (s .fits .addend) (c .before .wide32 .ensures) (c .wide322 .ensures)) (range-fits (s .args .value +ℤ s .args .addend) (s .pre))
 
 returns : tie.Need-returns
 returns c =
     let s = c .before .before in
-    rw (wide-back (s .fits .x) (s .fits .z) (c .before .wide32 .ensures) (c .wide322 .ensures))
-    (toZ-ofZ w16 (s .args .x +ℤ s .args .z) (range-fits (s .args .x +ℤ s .args .z) (s .pre)))
+    rw (wide-back (s .fits .value) (s .fits .addend) (c .before .wide32 .ensures) (c .wide322 .ensures))
+    (toZ-ofZ w16 (s .args .value +ℤ s .args .addend) (range-fits (s .args .value +ℤ s .args .addend) (s .pre)))
 
 pub sum-spec : {M : Type 1} → statement M
 sum-spec = tie.close (tie.spec wide32-requires wide32-requires-2 add-result cast-result returns)

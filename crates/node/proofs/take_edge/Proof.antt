@@ -11,7 +11,7 @@ use Rattle.node.proofs.take_edge.Tie as tie
 returns : tie.Need-returns
 returns c =
     let a = c .before .before .before .before .args in
-    sym (taken-none (a .p .now) (a .r) (not-true _ (c .if1 .taken)))
+    sym (taken-none (a .part .now) (a .registers) (not-true _ (c .if1 .taken)))
 
 byte-at-requires : tie.Need-byte-at-requires
 byte-at-requires c κs = search needs
@@ -37,14 +37,14 @@ left-of-requires c κs = search needs
 wide64-requires-2 : tie.Need-wide64-requires-2
 wide64-requires-2 c κs = search needs
 
-add-q : tie.Need-add-q
-add-q c = search needs
+add-next : tie.Need-add-next
+add-next c = search needs
 
 wide64-requires-3 : tie.Need-wide64-requires-3
 wide64-requires-3 c κs = search needs
 
-add-q-2 : tie.Need-add-q-2
-add-q-2 c = search needs
+add-next-2 : tie.Need-add-next-2
+add-next-2 c = search needs
 
 returns-2 : tie.Need-returns-2
 returns-2 c =
@@ -54,7 +54,7 @@ returns-2 c =
     let if1 = place .before .before .before .before in
     let a = if1 .before .before .before .before .args in
     sym
-    (taken-some (a .p .now) (a .r) (not-false _ (if1 .if1 .left))
+    (taken-some (a .part .now) (a .registers) (not-false _ (if1 .if1 .left))
     ∙ rw (place .block-place .ensures, place .before .wide2 .ensures .0, place .before .before .wide .ensures .0, place .before .before .before .byte-at .ensures, old .wide642 .ensures .0, c .wide643 .ensures .0, new .left-of .ensures, new .before .wide64 .ensures .0))
 
 pub take-edge-spec : {M : Type 1} → statement M
@@ -70,7 +70,7 @@ take-edge-spec =
     wide64-requires
     left-of-requires
     wide64-requires-2
-    add-q
+    add-next
     wide64-requires-3
-    add-q-2
+    add-next-2
     returns-2)

@@ -21,7 +21,7 @@ returns : tie.Need-returns
 returns c =
     let s = c .before .before .before .before .before .before .before .before in
     let a = s .args in
-    trial-is (a .h .now) (a .held) (a .r) (c .no-trial .result) (c .before .if1 .taken) (c .no-trial .ensures)
+    trial-is (a .statement .now) (a .held) (a .registers) (c .no-trial .result) (c .before .if1 .taken) (c .no-trial .ensures)
 
 clock-at-requires : tie.Need-clock-at-requires
 clock-at-requires c κs = search needs
@@ -32,7 +32,7 @@ by-clock-requires c κs = search needs
 returns-2 : tie.Need-returns-2
 returns-2 c =
     let a = c .before .before .before .before .before .before .before .before .before .before .args in
-    clock-tried-is (a .h .now) (a .held) (a .r) (c .by-clock .result) (c .before .clock-at .result) (omega arith) (omega arith) (c .by-clock .ensures) (c .before .clock-at .ensures)
+    clock-tried-is (a .statement .now) (a .held) (a .registers) (c .by-clock .result) (c .before .clock-at .result) (omega arith) (omega arith) (c .by-clock .ensures) (c .before .clock-at .ensures)
 
 value-at-requires : tie.Need-value-at-requires
 value-at-requires c κs = search needs
@@ -43,7 +43,7 @@ by-value-requires c κs = search needs
 returns-3 : tie.Need-returns-3
 returns-3 c =
     let a = c .before .before .before .before .before .before .before .before .before .before .args in
-    value-tried-is (a .h .now) (a .held) (a .r) (c .by-value .result) _ (omega arith) (omega arith) (c .by-value .ensures)
+    value-tried-is (a .statement .now) (a .held) (a .registers) (c .by-value .result) _ (omega arith) (omega arith) (c .by-value .ensures)
     (toZ-ofZ w16 (c .before .value-at .result) (sfits-of (c .before .value-at .ok)) ∙ c .before .value-at .ensures)
 
 pub tried-spec : {M : Type 1} → statement M

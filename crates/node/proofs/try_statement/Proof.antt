@@ -20,7 +20,7 @@ returns : tie.Need-returns
 returns c =
     let s = c .before .before .before .before .before in
     let a = s .args in
-    keep-is (a .h .now) (a .held) (a .r) (c .keeps .result) (c .before .before .if1 .taken) (c .keeps .ensures)
+    keep-is (a .statement .now) (a .held) (a .registers) (c .keeps .result) (c .before .before .if1 .taken) (c .keeps .ensures)
 
 returns-2 : tie.Need-returns-2
 returns-2 c = c .tried .ensures

@@ -22,7 +22,7 @@ returns : tie.Need-returns
 returns c =
     let s = c .before .before .before .before in
     let a = s .args in
-    no-value-is (a .h .now) (a .held) (a .r) (s .pre .1) (s .pre .2) (c .if1 .taken)
+    no-value-is (a .statement .now) (a .held) (a .registers) (s .pre .1) (s .pre .2) (c .if1 .taken)
 
 signed-at-requires : tie.Need-signed-at-requires
 signed-at-requires c κs = search needs
@@ -54,9 +54,9 @@ sum-requires c κs =
     let s = c .before .before .before .before .before .before .before .before .before .before in
     let a = s .args in
     let i = c .before .wide2 .result in
-    let fits : SFits w16 (getD (a .r .values) i (pos 0)) = search needs in
-    rw (toZ-ofZ w16 (getD (a .r .values) i (pos 0)) fits, toZ-ofZ w16 (z .result) (sfits-of (z .ok)), z .ensures, c .before .wide2 .ensures .0)
-    (added-fits (a .h .now) (a .held) (a .r) (s .pre .0) (omega arith) (omega arith) (s .pre .4))
+    let fits : SFits w16 (getD (a .registers .values) i (pos 0)) = search needs in
+    rw (toZ-ofZ w16 (getD (a .registers .values) i (pos 0)) fits, toZ-ofZ w16 (z .result) (sfits-of (z .ok)), z .ensures, c .before .wide2 .ensures .0)
+    (added-fits (a .statement .now) (a .held) (a .registers) (s .pre .0) (omega arith) (omega arith) (s .pre .4))
 
 wide-requires-3 : tie.Need-wide-requires-3
 wide-requires-3 c κs = search needs
@@ -72,16 +72,16 @@ returns-2 c =
     let z = c .before .before .before .signed-at in
     let s = c .before .before .before .before .before .before .before .before in
     let a = s .args in
-    let there : byte (a .h .now) 1 < a .held .variables = omega arith in
+    let there : byte (a .statement .now) 1 < a .held .variables = omega arith in
     let read = toZ-ofZ w16 (z .result) (sfits-of (z .ok)) in
     ⊎-elim
-    (λ w. set-is (a .h .now) (a .held) (a .r) (c .if2 .values) there (w .0 .taken) (w .2 ∙ rw (w .1 .ensures .0, read, z .ensures)))
+    (λ w. set-is (a .statement .now) (a .held) (a .registers) (c .if2 .values) there (w .0 .taken) (w .2 ∙ rw (w .1 .ensures .0, read, z .ensures)))
     (λ w.
-    let fits : SFits w16 (getD (a .r .values) (w .1 .result) (pos 0)) = search needs in
-    let old = toZ-ofZ w16 (getD (a .r .values) (w .1 .result) (pos 0)) fits in
-    let new : toZ w16 (ofZ w16 (w .3 .result)) ≡ getD (a .r .values) (byte (a .h .now) 1) (pos 0) +ℤ complement (word (a .h .now) 2) =
+    let fits : SFits w16 (getD (a .registers .values) (w .1 .result) (pos 0)) = search needs in
+    let old = toZ-ofZ w16 (getD (a .registers .values) (w .1 .result) (pos 0)) fits in
+    let new : toZ w16 (ofZ w16 (w .3 .result)) ≡ getD (a .registers .values) (byte (a .statement .now) 1) (pos 0) +ℤ complement (word (a .statement .now) 2) =
     toZ-ofZ w16 (w .3 .result) (sfits-of (w .3 .ok)) ∙ w .3 .ensures ∙ rw (old, read, z .ensures, w .1 .ensures .0) in
-    added-is (a .h .now) (a .held) (a .r) (c .if2 .values) there (omega (arith, w .0 .left)) (w .5 ∙ rw (w .4 .ensures .0, new)))
+    added-is (a .statement .now) (a .held) (a .registers) (c .if2 .values) there (omega (arith, w .0 .left)) (w .5 ∙ rw (w .4 .ensures .0, new)))
     (c .if2 .came)
 
 pub update-statement-spec : {M : Type 1} → statement M

@@ -25,10 +25,10 @@ returns c =
     let a = c .before .before .before .args in
     let i = c .before .wide .result in
     let fits : SFits w16 (getD (a .t1) i (pos 0)) = search needs in
-    rw (toZ-ofZ w16 (getD (a .t1) i (pos 0)) fits, c .before .wide .ensures .0) (sym (getD-take (a .n) (a .t1) (a .i) (pos 0) (c .before .before .if1 .taken)))
+    rw (toZ-ofZ w16 (getD (a .t1) i (pos 0)) fits, c .before .wide .ensures .0) (sym (getD-take (a .count) (a .t1) (a .i) (pos 0) (c .before .before .if1 .taken)))
 
 returns-2 : tie.Need-returns-2
-returns-2 c = let a = c .before .args in sym (past (a .n) (a .t1) (a .i) (pos 0) (c .if1 .left))
+returns-2 c = let a = c .before .args in sym (past (a .count) (a .t1) (a .i) (pos 0) (c .if1 .left))
 
 pub value-at-spec : {M : Type 1} → statement M
 value-at-spec =

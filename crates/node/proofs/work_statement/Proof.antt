@@ -8,14 +8,14 @@ use Rattle.node.proofs.work_statement.Tie as tie
 shared-slice-read-op : tie.Need-shared-slice-read-op
 shared-slice-read-op c = search needs
 
-add-q : tie.Need-add-q
-add-q c = search needs
+add-next : tie.Need-add-next
+add-next c = search needs
 
 returns : tie.Need-returns
 returns c =
     let s = c .before .before .before .before in
     let a = s .args in
-    sleep-is (a .h .now) (a .held) (a .r) (c .before .if1 .taken)
+    sleep-is (a .statement .now) (a .held) (a .registers) (c .before .if1 .taken)
 
 update-statement-requires : tie.Need-update-statement-requires
 update-statement-requires c κs = search needs
@@ -27,7 +27,7 @@ returns-3 : tie.Need-returns-3
 returns-3 c =
     let s = c .before .before .before .before .before in
     let a = s .args in
-    idle-is (a .h .now) (a .held) (a .r) (omega arith) (omega arith)
+    idle-is (a .statement .now) (a .held) (a .registers) (omega arith) (omega arith)
 
 clock-statement-requires : tie.Need-clock-statement-requires
 clock-statement-requires c κs = search needs
@@ -46,7 +46,7 @@ work-statement-spec =
     tie.close
     (tie.spec
     shared-slice-read-op
-    add-q
+    add-next
     returns
     update-statement-requires
     returns-2

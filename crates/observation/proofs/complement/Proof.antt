@@ -41,26 +41,26 @@ itself : (z : ℤ) → ltZ z (pos 0) ≡ false → z ≡ pos (unsigned z)
 itself (pos n) h = refl
 itself (negsuc n) h = let z : _≡_ {A = ℕ} 0 1 = cc in absurd (omega arith)
 
-below : (c : tie.Then1) → ltZ (c .before .args .z) (pos 0) ≡ true
-below c = let s = c .before in rw (← toZ-ofZ w16 (s .args .z) (s .fits .z)) (c .if1 .taken)
+below : (c : tie.Then1) → ltZ (c .before .args .value) (pos 0) ≡ true
+below c = let s = c .before in rw (← toZ-ofZ w16 (s .args .value) (s .fits .value)) (c .if1 .taken)
 
-above : (c : tie.Else1) → ltZ (c .before .args .z) (pos 0) ≡ false
-above c = let s = c .before in rw (← toZ-ofZ w16 (s .args .z) (s .fits .z)) (c .if1 .left)
+above : (c : tie.Else1) → ltZ (c .before .args .value) (pos 0) ≡ false
+above c = let s = c .before in rw (← toZ-ofZ w16 (s .args .value) (s .fits .value)) (c .if1 .left)
 
-sum : (c : tie.Then1) → toZ w32 (ofZ w32 (toZ w16 (ofZ w16 (c .before .args .z)))) +ℤ pos 65536 ≡ pos (unsigned (c .before .args .z))
-sum c = let s = c .before in rw (same (s .fits .z)) (lifted (s .args .z) (s .fits .z) (below c))
+sum : (c : tie.Then1) → toZ w32 (ofZ w32 (toZ w16 (ofZ w16 (c .before .args .value)))) +ℤ pos 65536 ≡ pos (unsigned (c .before .args .value))
+sum c = let s = c .before in rw (same (s .fits .value)) (lifted (s .args .value) (s .fits .value) (below c))
 
-whole : (c : tie.Then1) → toZ w32 (ofZ w32 (toZ w32 (ofZ w32 (toZ w16 (ofZ w16 (c .before .args .z)))) +ℤ pos 65536)) ≡ pos (unsigned (c .before .args .z))
-whole c = let s = c .before in rw (sum c) (toZ-ofZ w32 (pos (unsigned (s .args .z))) (fits (s .args .z) (s .fits .z)))
+whole : (c : tie.Then1) → toZ w32 (ofZ w32 (toZ w32 (ofZ w32 (toZ w16 (ofZ w16 (c .before .args .value)))) +ℤ pos 65536)) ≡ pos (unsigned (c .before .args .value))
+whole c = let s = c .before in rw (sum c) (toZ-ofZ w32 (pos (unsigned (s .args .value))) (fits (s .args .value) (s .fits .value)))
 
 cast-result : tie.Need-cast-result
-cast-result c = let s = c .before in rw (toZ-ofZ w16 (s .args .z) (s .fits .z)) (more (s .fits .z))
+cast-result c = let s = c .before in rw (toZ-ofZ w16 (s .args .value) (s .fits .value)) (more (s .fits .value))
 
 add-result : tie.Need-add-result
-add-result c = let s = c .before in rw (sum c) (fits (s .args .z) (s .fits .z))
+add-result c = let s = c .before in rw (sum c) (fits (s .args .value) (s .fits .value))
 
 cast-result-2 : tie.Need-cast-result-2
-cast-result-2 c = let s = c .before in rw (whole c) (tt, omega (arith, small (s .args .z) (s .fits .z)))
+cast-result-2 c = let s = c .before in rw (whole c) (tt, omega (arith, small (s .args .value) (s .fits .value)))
 
 returns : tie.Need-returns
 returns c = rw (whole c)
@@ -68,12 +68,12 @@ returns c = rw (whole c)
 cast-result-3 : tie.Need-cast-result-3
 cast-result-3 c =
     let s = c .before in
-    rw (toZ-ofZ w16 (s .args .z) (s .fits .z), itself (s .args .z) (above c)) (tt, omega (arith, small (s .args .z) (s .fits .z)))
+    rw (toZ-ofZ w16 (s .args .value) (s .fits .value), itself (s .args .value) (above c)) (tt, omega (arith, small (s .args .value) (s .fits .value)))
 
 returns-2 : tie.Need-returns-2
 returns-2 c =
     let s = c .before in
-    rw (toZ-ofZ w16 (s .args .z) (s .fits .z), itself (s .args .z) (above c))
+    rw (toZ-ofZ w16 (s .args .value) (s .fits .value), itself (s .args .value) (above c))
 
 pub complement-spec : {M : Type 1} → statement M
 complement-spec =

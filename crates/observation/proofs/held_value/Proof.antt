@@ -12,7 +12,7 @@ complement-requires c κs = search needs
 returns : tie.Need-returns
 returns c =
     let s = c .before .before in
-    c .complement .ensures ∙ rw (toZ-ofZ w16 (s .args .z) (s .fits .z), c .before .if1 .taken)
+    c .complement .ensures ∙ rw (toZ-ofZ w16 (s .args .value) (s .fits .value), c .before .if1 .taken)
 
 returns-2 : tie.Need-returns-2
 returns-2 c = search needs

@@ -59,7 +59,7 @@ returns c =
     let a = c .before .before .before .before .before .before .before .before .before .before .before .before .before .before .before .before .before .before .before .before .before .args in
     let h = c .before .before .before .before .before .before .before .before .before .before .before .before .before .before .before .before .before .before .before .before .before .pre in
     let long : length (a .t1) ≡ 4 = search needs in
-    clocks-put (a .out .now) (a .at) (a .n) (a .k) (a .t1) (h .1) long (c .before .before .before .before .before .before .before .before .before .before .before .before .before .before .before .before .before .before .grown .ensures) (c .before .before .before .before .before .before .before .before .before .before .before .before .before .grown2 .ensures) (c .before .before .before .before .before .before .before .before .grown3 .ensures) (c .before .before .before .grown4 .ensures)
+    clocks-put (a .out .now) (a .at) (a .delay) (a .count) (a .t1) (h .1) long (c .before .before .before .before .before .before .before .before .before .before .before .before .before .before .before .before .before .before .grown .ensures) (c .before .before .before .before .before .before .before .before .before .before .before .before .before .grown2 .ensures) (c .before .before .before .before .before .before .before .before .grown3 .ensures) (c .before .before .before .grown4 .ensures)
     (c .before .before .before .before .before .before .before .before .before .before .before .before .before .before .before .before .before .put32 .ensures) (c .before .before .before .before .before .before .before .before .before .before .before .before .put322 .ensures) (c .before .before .before .before .before .before .before .put323 .ensures) (c .before .before .put324 .ensures)
 
 pub put-clocks-spec : {M : Type 1} → statement M

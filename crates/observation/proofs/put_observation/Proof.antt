@@ -33,7 +33,7 @@ same-length c = search needs
 returns : tie.Need-returns
 returns c p =
     let a = c .before .before .before .before .before .before .before .before .before .before .before .before .before .before .before .before .before .before .before .args in
-    observation-put (a .out .now) (a .at) (observes (a .c) (a .tick) (nodeOf p (a .held) (a .r))) (c .before .before .before .before .before .before .before .before .before .before .before .before .before .before .put-quad .ensures) (c .before .before .before .before .before .before .before .before .before .before .put32 .ensures) (c .before .before .before .before .before .before .put-clocks .ensures) (c .before .before .put-values .ensures)
+    observation-put (a .out .now) (a .at) (observes (a .c) (a .tick) (nodeOf p (a .held) (a .registers))) (c .before .before .before .before .before .before .before .before .before .before .before .before .before .before .put-quad .ensures) (c .before .before .before .before .before .before .before .before .before .before .put32 .ensures) (c .before .before .before .before .before .before .put-clocks .ensures) (c .before .before .put-values .ensures)
 
 pub put-observation-spec : {M : Type 1} → statement M
 put-observation-spec =

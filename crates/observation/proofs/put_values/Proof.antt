@@ -67,7 +67,7 @@ returns c =
     let f₁ : SFits w16 (getD (a .t1) 1 (pos 0)) = search needs in
     let f₂ : SFits w16 (getD (a .t1) 2 (pos 0)) = search needs in
     let f₃ : SFits w16 (getD (a .t1) 3 (pos 0)) = search needs in
-    values-put (a .out .now) (a .at) (a .k) (a .t1) (h .1) long (toZ-ofZ w16 _ f₀) (toZ-ofZ w16 _ f₁) (toZ-ofZ w16 _ f₂) (toZ-ofZ w16 _ f₃)
+    values-put (a .out .now) (a .at) (a .count) (a .t1) (h .1) long (toZ-ofZ w16 _ f₀) (toZ-ofZ w16 _ f₁) (toZ-ofZ w16 _ f₂) (toZ-ofZ w16 _ f₃)
     (c .before .before .before .before .before .before .before .before .before .before .before .before .before .before .before .before .before .before .before .before .before .held-value .ensures) (c .before .before .before .before .before .before .before .before .before .before .before .before .before .before .before .held-value2 .ensures) (c .before .before .before .before .before .before .before .before .before .held-value3 .ensures) (c .before .before .before .held-value4 .ensures)
     (c .before .before .before .before .before .before .before .before .before .before .before .before .before .before .before .before .before .before .before .before .put16 .ensures) (c .before .before .before .before .before .before .before .before .before .before .before .before .before .before .put162 .ensures) (c .before .before .before .before .before .before .before .before .put163 .ensures) (c .before .before .put164 .ensures)
 

@@ -26,15 +26,15 @@ returns : tie.Need-returns
 returns c =
     let s = c .before .before .before .before .before .before in
     let a = s .args in
-    let n : c .before .before .before .small .result ≡ heldIn (a .l .now) (a .c) .clocks = c .before .before .before .small .ensures ∙ rw (c .before .before .before .before .word .ensures) in
-    c .word2 .ensures ∙ rw (c .before .wide .ensures .0) (clock-read (a .l .now) (a .c) (heldIn (a .l .now) (a .c) .clocks) (a .a) (s .pre .2 .clocks) (omega (arith, n, c .before .before .if1 .taken)))
+    let n : c .before .before .before .small .result ≡ heldIn (a .words .now) (a .c) .clocks = c .before .before .before .small .ensures ∙ rw (c .before .before .before .before .word .ensures) in
+    c .word2 .ensures ∙ rw (c .before .wide .ensures .0) (clock-read (a .words .now) (a .c) (heldIn (a .words .now) (a .c) .clocks) (a .a) (s .pre .2 .clocks) (omega (arith, n, c .before .before .if1 .taken)))
 
 returns-2 : tie.Need-returns-2
 returns-2 c =
     let s = c .before .before .before .before in
     let a = s .args in
-    let n : c .before .small .result ≡ heldIn (a .l .now) (a .c) .clocks = c .before .small .ensures ∙ rw (c .before .before .word .ensures) in
-    clock-none (a .l .now) (a .c) (heldIn (a .l .now) (a .c) .clocks) (a .a) (omega (arith, n, c .if1 .left))
+    let n : c .before .small .result ≡ heldIn (a .words .now) (a .c) .clocks = c .before .small .ensures ∙ rw (c .before .before .word .ensures) in
+    clock-none (a .words .now) (a .c) (heldIn (a .words .now) (a .c) .clocks) (a .a) (omega (arith, n, c .if1 .left))
 
 pub clock-spec : {M : Type 1} → statement M
 clock-spec =

@@ -49,7 +49,7 @@ shared-slice-copy-out-t18 c = search needs
 returns : tie.Need-returns
 returns c =
     let s = c .before .before .before .before in
-    let v = s .args .v .now in
+    let v = s .args .values .now in
     let at = s .args .c * 4 in
     let a : SFits w16 (getD v at (pos 0)) = search needs in
     let b : SFits w16 (getD v (at + 1) (pos 0)) = search needs in

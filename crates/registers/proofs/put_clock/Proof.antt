@@ -21,7 +21,7 @@ returns : tie.Need-returns
 returns c v =
     let s = c .before .before .before .before .before .before in
     let a = s .args in
-    clock-stored (a .l .now) (a .c) (a .a) (a .x) (c .before .before .put-word .ensures ∙ rw (c .before .before .before .wide .ensures .0)) (s .pre .0) (s .pre .1) (s .pre .2) v
+    clock-stored (a .words .now) (a .c) (a .a) (a .ticks) (c .before .before .put-word .ensures ∙ rw (c .before .before .before .wide .ensures .0)) (s .pre .0) (s .pre .1) (s .pre .2) v
 
 pub put-clock-spec : {M : Type 1} → statement M
 put-clock-spec =

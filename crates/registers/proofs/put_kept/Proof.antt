@@ -20,7 +20,7 @@ returns : tie.Need-returns
 returns c v =
     let s = c .before .before .before .before .before in
     let a = s .args in
-    kept-stored (a .l .now) (a .c) (a .k) (c .before .before .store-kept .ensures) (s .pre .0) (s .pre .1) (search needs) (search needs) (search needs) v
+    kept-stored (a .words .now) (a .c) (a .kept) (c .before .before .store-kept .ensures) (s .pre .0) (s .pre .1) (search needs) (search needs) (search needs) v
 
 pub put-kept-spec : {M : Type 1} → statement M
 put-kept-spec =

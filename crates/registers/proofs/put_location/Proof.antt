@@ -17,7 +17,7 @@ returns : tie.Need-returns
 returns c v =
     let s = c .before .before .before .before .before .before .before .before .before in
     let a = s .args in
-    location-stored (a .l .now) (a .c) (a .location) (c .before .before .before .before .before .before .put-word .ensures) (c .before .before .put-word2 .ensures) (s .pre .0) (s .pre .1) v (search needs)
+    location-stored (a .words .now) (a .c) (a .location) (c .before .before .before .before .before .before .put-word .ensures) (c .before .before .put-word2 .ensures) (s .pre .0) (s .pre .1) v (search needs)
 
 pub put-location-spec : {M : Type 1} → statement M
 put-location-spec = tie.close (tie.spec put-word-requires put-word-requires-2 same-length returns)

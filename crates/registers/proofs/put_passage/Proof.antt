@@ -23,7 +23,7 @@ returns : tie.Need-returns
 returns c v =
     let s = c .before .before .before .before .before .before .before .before .before .before .before .before .before .before .before .before .before in
     let a = s .args in
-    passage-stored (a .l .now) (a .c) (a .edge) (a .t) (a .n) (a .d) (c .before .before .before .before .before .before .before .before .before .before .before .before .before .before .put-word .ensures) (c .before .before .before .before .before .before .before .before .before .before .put-word2 .ensures) (c .before .before .before .before .before .before .put-word3 .ensures) (c .before .before .put-word4 .ensures)
+    passage-stored (a .words .now) (a .c) (a .edge) (a .ready) (a .delay) (a .window) (c .before .before .before .before .before .before .before .before .before .before .before .before .before .before .put-word .ensures) (c .before .before .before .before .before .before .before .before .before .before .put-word2 .ensures) (c .before .before .before .before .before .before .put-word3 .ensures) (c .before .before .put-word4 .ensures)
     (s .pre .0) (s .pre .1) (search needs) (search needs) (search needs) v
 
 pub put-passage-spec : {M : Type 1} → statement M

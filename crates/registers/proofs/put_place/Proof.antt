@@ -14,7 +14,7 @@ returns : tie.Need-returns
 returns c v =
     let s = c .before .before .before .before .before in
     let a = s .args in
-    place-stored (a .l .now) (a .c) (a .pc) (c .before .before .put-word .ensures) (s .pre .0) (s .pre .1) v
+    place-stored (a .words .now) (a .c) (a .pc) (c .before .before .put-word .ensures) (s .pre .0) (s .pre .1) v
 
 pub put-place-spec : {M : Type 1} → statement M
 put-place-spec = tie.close (tie.spec put-word-requires same-length returns)

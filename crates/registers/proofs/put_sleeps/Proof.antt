@@ -14,7 +14,7 @@ returns : tie.Need-returns
 returns c v =
     let s = c .before .before .before .before .before in
     let a = s .args in
-    sleeps-stored (a .l .now) (a .c) (a .sleeps) (c .before .before .put-word .ensures) (s .pre .0) (s .pre .1) v
+    sleeps-stored (a .words .now) (a .c) (a .sleeps) (c .before .before .put-word .ensures) (s .pre .0) (s .pre .1) v
 
 pub put-sleeps-spec : {M : Type 1} → statement M
 put-sleeps-spec = tie.close (tie.spec put-word-requires same-length returns)

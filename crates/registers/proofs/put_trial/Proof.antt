@@ -20,7 +20,7 @@ returns : tie.Need-returns
 returns c v =
     let s = c .before .before .before .before .before in
     let a = s .args in
-    trial-stored (a .l .now) (a .c) (a .x) (c .before .before .store-trial .ensures) (s .pre .0) (s .pre .1) (search needs) (search needs) v
+    trial-stored (a .words .now) (a .c) (a .trial) (c .before .before .store-trial .ensures) (s .pre .0) (s .pre .1) (search needs) (search needs) v
 
 pub put-trial-spec : {M : Type 1} → statement M
 put-trial-spec =

@@ -5,7 +5,7 @@ use Rattle.registers.proofs.Written.{Sized, written, still-long}
 use Rattle.registers.proofs.store.Statement.{statement}
 use Rattle.registers.proofs.store.Tie as tie
 
-sized : (s : tie.Start) → Sized (s .args .r)
+sized : (s : tie.Start) → Sized (s .args .registers)
 sized s =
     record {
       location = search needs;
@@ -46,14 +46,14 @@ add-store-kept c = search needs
 store-kept-requires : tie.Need-store-kept-requires
 store-kept-requires c κs = search needs
 
-add-l : tie.Need-add-l
-add-l c = search needs
+add-words : tie.Need-add-words
+add-words c = search needs
 
-mul-l : tie.Need-mul-l
-mul-l c = search needs
+mul-words : tie.Need-mul-words
+mul-words c = search needs
 
-slice-write-l : tie.Need-slice-write-l
-slice-write-l c =
+slice-write-words : tie.Need-slice-write-words
+slice-write-words c =
     let k = c .before .before in
     let t = k .before .before .before .before in
     let p = t .before .before .before .before in
@@ -82,7 +82,7 @@ same-length c =
     let p = t .before .before .before .before in
     let q = p .before .before .before .before in
     let s = q .before .before .before .before .before .before .before in
-    still-long (s .args .l .now) (q .store-times .last .0) (p .store-place .last .0) (t .store-trial .last .0) (k .store-kept .last .0) _ _
+    still-long (s .args .words .now) (q .store-times .last .0) (p .store-place .last .0) (t .store-trial .last .0) (k .store-kept .last .0) _ _
     (q .store-times .kept .0) (p .store-place .kept .0) (t .store-trial .kept .0) (k .store-kept .kept .0)
 
 same-length-2 : tie.Need-same-length-2
@@ -95,7 +95,7 @@ returns c =
     let p = t .before .before .before .before in
     let q = p .before .before .before .before in
     let s = q .before .before .before .before .before .before .before in
-    written (s .args .l .now) (s .args .v .now) (s .args .c) (s .args .r) (q .store-times .last .0) (p .store-place .last .0) (t .store-trial .last .0) (k .store-kept .last .0)
+    written (s .args .words .now) (s .args .values .now) (s .args .c) (s .args .registers) (q .store-times .last .0) (p .store-place .last .0) (t .store-trial .last .0) (k .store-kept .last .0)
     (c .before .store-values .last .0) (s .pre .0) (s .pre .1) (sized s)
     (q .store-times .ensures) (p .store-place .ensures) (t .store-trial .ensures) (k .store-kept .ensures) (c .before .store-values .ensures)
 
@@ -111,9 +111,9 @@ store-spec =
     store-trial-requires
     add-store-kept
     store-kept-requires
-    add-l
-    mul-l
-    slice-write-l
+    add-words
+    mul-words
+    slice-write-words
     mul-store-values
     store-values-requires
     same-length

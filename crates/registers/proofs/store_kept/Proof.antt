@@ -9,47 +9,47 @@ use Rattle.registers.proofs.store_kept.Tie as tie
 flag-requires : tie.Need-flag-requires
 flag-requires c κs = search needs
 
-mul-l : tie.Need-mul-l
-mul-l c = search needs
+mul-words : tie.Need-mul-words
+mul-words c = search needs
 
-slice-write-l : tie.Need-slice-write-l
-slice-write-l c = search needs
+slice-write-words : tie.Need-slice-write-words
+slice-write-words c = search needs
 
-cast-l : tie.Need-cast-l
-cast-l c = search needs
+cast-words : tie.Need-cast-words
+cast-words c = search needs
 
-add-l : tie.Need-add-l
-add-l c = search needs
+add-words : tie.Need-add-words
+add-words c = search needs
 
-mul-l-2 : tie.Need-mul-l-2
-mul-l-2 c = search needs
+mul-words-2 : tie.Need-mul-words-2
+mul-words-2 c = search needs
 
-slice-write-l-2 : tie.Need-slice-write-l-2
-slice-write-l-2 c = simp length-set (omega arith)
+slice-write-words-2 : tie.Need-slice-write-words-2
+slice-write-words-2 c = simp length-set (omega arith)
 
-cast-l-2 : tie.Need-cast-l-2
-cast-l-2 c = search needs
+cast-words-2 : tie.Need-cast-words-2
+cast-words-2 c = search needs
 
-add-l-2 : tie.Need-add-l-2
-add-l-2 c = search needs
+add-words-2 : tie.Need-add-words-2
+add-words-2 c = search needs
 
-mul-l-3 : tie.Need-mul-l-3
-mul-l-3 c = search needs
+mul-words-3 : tie.Need-mul-words-3
+mul-words-3 c = search needs
 
-slice-write-l-3 : tie.Need-slice-write-l-3
-slice-write-l-3 c = simp length-set (omega arith)
+slice-write-words-3 : tie.Need-slice-write-words-3
+slice-write-words-3 c = simp length-set (omega arith)
 
-cast-l-3 : tie.Need-cast-l-3
-cast-l-3 c = search needs
+cast-words-3 : tie.Need-cast-words-3
+cast-words-3 c = search needs
 
-add-l-3 : tie.Need-add-l-3
-add-l-3 c = search needs
+add-words-3 : tie.Need-add-words-3
+add-words-3 c = search needs
 
-mul-l-4 : tie.Need-mul-l-4
-mul-l-4 c = search needs
+mul-words-4 : tie.Need-mul-words-4
+mul-words-4 c = search needs
 
-slice-write-l-4 : tie.Need-slice-write-l-4
-slice-write-l-4 c = simp length-set (omega arith)
+slice-write-words-4 : tie.Need-slice-write-words-4
+slice-write-words-4 c = simp length-set (omega arith)
 
 same-length : tie.Need-same-length
 same-length c = search needs
@@ -62,19 +62,19 @@ store-kept-spec =
     tie.close
     (tie.spec
     flag-requires
-    mul-l
-    slice-write-l
-    cast-l
-    add-l
-    mul-l-2
-    slice-write-l-2
-    cast-l-2
-    add-l-2
-    mul-l-3
-    slice-write-l-3
-    cast-l-3
-    add-l-3
-    mul-l-4
-    slice-write-l-4
+    mul-words
+    slice-write-words
+    cast-words
+    add-words
+    mul-words-2
+    slice-write-words-2
+    cast-words-2
+    add-words-2
+    mul-words-3
+    slice-write-words-3
+    cast-words-3
+    add-words-3
+    mul-words-4
+    slice-write-words-4
     same-length
     returns)

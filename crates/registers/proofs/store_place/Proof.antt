@@ -6,59 +6,59 @@ use lib.ListN.{length-set}
 use Rattle.registers.proofs.store_place.Statement.{statement}
 use Rattle.registers.proofs.store_place.Tie as tie
 
-mul-l : tie.Need-mul-l
-mul-l c = search needs
+mul-words : tie.Need-mul-words
+mul-words c = search needs
 
-slice-write-l : tie.Need-slice-write-l
-slice-write-l c = search needs
+slice-write-words : tie.Need-slice-write-words
+slice-write-words c = search needs
 
-add-l : tie.Need-add-l
-add-l c = search needs
+add-words : tie.Need-add-words
+add-words c = search needs
 
-mul-l-2 : tie.Need-mul-l-2
-mul-l-2 c = search needs
+mul-words-2 : tie.Need-mul-words-2
+mul-words-2 c = search needs
 
-slice-write-l-2 : tie.Need-slice-write-l-2
-slice-write-l-2 c = simp length-set (omega arith)
+slice-write-words-2 : tie.Need-slice-write-words-2
+slice-write-words-2 c = simp length-set (omega arith)
 
-add-l-2 : tie.Need-add-l-2
-add-l-2 c = search needs
+add-words-2 : tie.Need-add-words-2
+add-words-2 c = search needs
 
-mul-l-3 : tie.Need-mul-l-3
-mul-l-3 c = search needs
+mul-words-3 : tie.Need-mul-words-3
+mul-words-3 c = search needs
 
-slice-write-l-3 : tie.Need-slice-write-l-3
-slice-write-l-3 c = simp length-set (omega arith)
+slice-write-words-3 : tie.Need-slice-write-words-3
+slice-write-words-3 c = simp length-set (omega arith)
 
-add-l-3 : tie.Need-add-l-3
-add-l-3 c = search needs
+add-words-3 : tie.Need-add-words-3
+add-words-3 c = search needs
 
-mul-l-4 : tie.Need-mul-l-4
-mul-l-4 c = search needs
+mul-words-4 : tie.Need-mul-words-4
+mul-words-4 c = search needs
 
-slice-write-l-4 : tie.Need-slice-write-l-4
-slice-write-l-4 c = simp length-set (omega arith)
+slice-write-words-4 : tie.Need-slice-write-words-4
+slice-write-words-4 c = simp length-set (omega arith)
 
 flag-requires : tie.Need-flag-requires
 flag-requires c κs = search needs
 
-add-l-4 : tie.Need-add-l-4
-add-l-4 c = search needs
+add-words-4 : tie.Need-add-words-4
+add-words-4 c = search needs
 
-mul-l-5 : tie.Need-mul-l-5
-mul-l-5 c = search needs
+mul-words-5 : tie.Need-mul-words-5
+mul-words-5 c = search needs
 
-slice-write-l-5 : tie.Need-slice-write-l-5
-slice-write-l-5 c = simp length-set (omega arith)
+slice-write-words-5 : tie.Need-slice-write-words-5
+slice-write-words-5 c = simp length-set (omega arith)
 
-add-l-5 : tie.Need-add-l-5
-add-l-5 c = search needs
+add-words-5 : tie.Need-add-words-5
+add-words-5 c = search needs
 
-mul-l-6 : tie.Need-mul-l-6
-mul-l-6 c = search needs
+mul-words-6 : tie.Need-mul-words-6
+mul-words-6 c = search needs
 
-slice-write-l-6 : tie.Need-slice-write-l-6
-slice-write-l-6 c = simp length-set (omega arith)
+slice-write-words-6 : tie.Need-slice-write-words-6
+slice-write-words-6 c = simp length-set (omega arith)
 
 same-length : tie.Need-same-length
 same-length c = search needs
@@ -70,23 +70,23 @@ pub store-place-spec : {M : Type 1} → statement M
 store-place-spec =
     tie.close
     (tie.spec
-    mul-l
-    slice-write-l
-    add-l
-    mul-l-2
-    slice-write-l-2
-    add-l-2
-    mul-l-3
-    slice-write-l-3
-    add-l-3
-    mul-l-4
-    slice-write-l-4
+    mul-words
+    slice-write-words
+    add-words
+    mul-words-2
+    slice-write-words-2
+    add-words-2
+    mul-words-3
+    slice-write-words-3
+    add-words-3
+    mul-words-4
+    slice-write-words-4
     flag-requires
-    add-l-4
-    mul-l-5
-    slice-write-l-5
-    add-l-5
-    mul-l-6
-    slice-write-l-6
+    add-words-4
+    mul-words-5
+    slice-write-words-5
+    add-words-5
+    mul-words-6
+    slice-write-words-6
     same-length
     returns)

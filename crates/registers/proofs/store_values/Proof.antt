@@ -10,41 +10,41 @@ use lib.ListN.{getD, length-set}
 use Rattle.registers.proofs.store_values.Statement.{statement}
 use Rattle.registers.proofs.store_values.Tie as tie
 
-array-copy-out-v : tie.Need-array-copy-out-v
-array-copy-out-v c = search needs
+array-copy-out-values : tie.Need-array-copy-out-values
+array-copy-out-values c = search needs
 
-mul-v : tie.Need-mul-v
-mul-v c = search needs
+mul-values : tie.Need-mul-values
+mul-values c = search needs
 
-slice-set-from-v : tie.Need-slice-set-from-v
-slice-set-from-v c = search needs
+slice-set-from-values : tie.Need-slice-set-from-values
+slice-set-from-values c = search needs
 
-array-copy-out-v-2 : tie.Need-array-copy-out-v-2
-array-copy-out-v-2 c = search needs
+array-copy-out-values-2 : tie.Need-array-copy-out-values-2
+array-copy-out-values-2 c = search needs
 
-add-v : tie.Need-add-v
-add-v c = search needs
+add-values : tie.Need-add-values
+add-values c = search needs
 
-mul-v-2 : tie.Need-mul-v-2
-mul-v-2 c = search needs
+mul-values-2 : tie.Need-mul-values-2
+mul-values-2 c = search needs
 
-slice-set-from-v-2 : tie.Need-slice-set-from-v-2
-slice-set-from-v-2 c = simp length-set (omega arith)
+slice-set-from-values-2 : tie.Need-slice-set-from-values-2
+slice-set-from-values-2 c = simp length-set (omega arith)
 
-array-copy-out-v-3 : tie.Need-array-copy-out-v-3
-array-copy-out-v-3 c = search needs
+array-copy-out-values-3 : tie.Need-array-copy-out-values-3
+array-copy-out-values-3 c = search needs
 
-add-v-2 : tie.Need-add-v-2
-add-v-2 c = search needs
+add-values-2 : tie.Need-add-values-2
+add-values-2 c = search needs
 
-mul-v-3 : tie.Need-mul-v-3
-mul-v-3 c = search needs
+mul-values-3 : tie.Need-mul-values-3
+mul-values-3 c = search needs
 
-slice-set-from-v-3 : tie.Need-slice-set-from-v-3
-slice-set-from-v-3 c = simp length-set (omega arith)
+slice-set-from-values-3 : tie.Need-slice-set-from-values-3
+slice-set-from-values-3 c = simp length-set (omega arith)
 
-array-copy-out-v-4 : tie.Need-array-copy-out-v-4
-array-copy-out-v-4 c = search needs
+array-copy-out-values-4 : tie.Need-array-copy-out-values-4
+array-copy-out-values-4 c = search needs
 
 add-t8 : tie.Need-add-t8
 add-t8 c = search needs
@@ -52,8 +52,8 @@ add-t8 c = search needs
 mul-t12 : tie.Need-mul-t12
 mul-t12 c = search needs
 
-slice-set-from-v-4 : tie.Need-slice-set-from-v-4
-slice-set-from-v-4 c = simp length-set (omega arith)
+slice-set-from-values-4 : tie.Need-slice-set-from-values-4
+slice-set-from-values-4 c = simp length-set (omega arith)
 
 same-length : tie.Need-same-length
 same-length c = search needs
@@ -71,20 +71,20 @@ pub store-values-spec : {M : Type 1} → statement M
 store-values-spec =
     tie.close
     (tie.spec
-    array-copy-out-v
-    mul-v
-    slice-set-from-v
-    array-copy-out-v-2
-    add-v
-    mul-v-2
-    slice-set-from-v-2
-    array-copy-out-v-3
-    add-v-2
-    mul-v-3
-    slice-set-from-v-3
-    array-copy-out-v-4
+    array-copy-out-values
+    mul-values
+    slice-set-from-values
+    array-copy-out-values-2
+    add-values
+    mul-values-2
+    slice-set-from-values-2
+    array-copy-out-values-3
+    add-values-2
+    mul-values-3
+    slice-set-from-values-3
+    array-copy-out-values-4
     add-t8
     mul-t12
-    slice-set-from-v-4
+    slice-set-from-values-4
     same-length
     returns)

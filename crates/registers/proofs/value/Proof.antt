@@ -38,16 +38,16 @@ returns : tie.Need-returns
 returns c =
     let s = c .before .before .before .before .before .before in
     let a = s .args in
-    let n : c .before .before .before .small .result ≡ heldIn (a .l .now) (a .c) .variables = c .before .before .before .small .ensures ∙ rw (c .before .before .before .before .word .ensures) in
-    let fits : SFits w16 (getD (a .v .now) (a .c * 4 + c .before .wide .result) (pos 0)) = search needs in
-    rw (toZ-ofZ w16 (getD (a .v .now) (a .c * 4 + c .before .wide .result) (pos 0)) fits, c .before .wide .ensures .0) (value-read (a .v .now) (a .c) (heldIn (a .l .now) (a .c) .variables) (a .a) (s .pre .2 .variables) (omega (arith, n, c .before .before .if1 .taken)))
+    let n : c .before .before .before .small .result ≡ heldIn (a .words .now) (a .c) .variables = c .before .before .before .small .ensures ∙ rw (c .before .before .before .before .word .ensures) in
+    let fits : SFits w16 (getD (a .values .now) (a .c * 4 + c .before .wide .result) (pos 0)) = search needs in
+    rw (toZ-ofZ w16 (getD (a .values .now) (a .c * 4 + c .before .wide .result) (pos 0)) fits, c .before .wide .ensures .0) (value-read (a .values .now) (a .c) (heldIn (a .words .now) (a .c) .variables) (a .a) (s .pre .2 .variables) (omega (arith, n, c .before .before .if1 .taken)))
 
 returns-2 : tie.Need-returns-2
 returns-2 c =
     let s = c .before .before .before .before in
     let a = s .args in
-    let n : c .before .small .result ≡ heldIn (a .l .now) (a .c) .variables = c .before .small .ensures ∙ rw (c .before .before .word .ensures) in
-    value-none (a .v .now) (a .c) (heldIn (a .l .now) (a .c) .variables) (a .a) (omega (arith, n, c .if1 .left))
+    let n : c .before .small .result ≡ heldIn (a .words .now) (a .c) .variables = c .before .small .ensures ∙ rw (c .before .before .word .ensures) in
+    value-none (a .values .now) (a .c) (heldIn (a .words .now) (a .c) .variables) (a .a) (omega (arith, n, c .if1 .left))
 
 pub value-spec : {M : Type 1} → statement M
 value-spec =

@@ -44,7 +44,7 @@ loop-less c = search needs
 loop-again : tie.Need-loop-again Inv-loop μ-loop
 loop-again c =
     let l = c .before .before .before .before .before .loop in
-    let w = c .before .before .before .before .before .before .before .before .args .l .now in
+    let w = c .before .before .before .before .before .before .before .before .args .words .now in
     let least = c .before .lesser .ensures in
     let less = c .lesser2 .ensures in (
       omega (arith, c .before .before .before .before .loop-test .taken),

@@ -22,10 +22,10 @@ loop-holds : tie.Need-loop-holds Inv-loop μ-loop
 loop-holds c =
     let e = c .before .before .before .before .before in
     let a = e .args in
-    (first-stage (a .program .now) (a .horizon) (a .rows .now) (a .n) (a .count) (a .l .now) (a .choices .now) (a .out .now) (a .v .now) (e .pre .0), omega arith, refl, refl, refl)
+    (first-stage (a .program .now) (a .horizon) (a .rows .now) (a .passages) (a .count) (a .words .now) (a .choices .now) (a .out .now) (a .values .now) (e .pre .0), omega arith, refl, refl, refl)
 
-shared-slice-read-b : tie.Need-shared-slice-read-b Inv-loop μ-loop
-shared-slice-read-b c = search needs
+shared-slice-read-choice : tie.Need-shared-slice-read-choice Inv-loop μ-loop
+shared-slice-read-choice c = search needs
 
 calm-until-requires : tie.Need-calm-until-requires Inv-loop μ-loop
 calm-until-requires c κs = search needs
@@ -205,7 +205,7 @@ carry-out-spec =
     Inv-loop
     μ-loop
     loop-holds
-    shared-slice-read-b
+    shared-slice-read-choice
     calm-until-requires
     sub-ticks-in-a-row
     ticks-in-a-row-requires

@@ -32,7 +32,7 @@ loop-again : tie.Need-loop-again Inv-loop μ-loop
 loop-again c =
     let a = c .before .before .before .before .before .args in
     let l = c .before .before .before .loop in
-    (search needs, one-more-timely (a .l .now) (l .c) (a .tick) (l .inv .1) (omega (arith, c .before .word .ensures, c .if1 .left)))
+    (search needs, one-more-timely (a .words .now) (l .c) (a .tick) (l .inv .1) (omega (arith, c .before .word .ensures, c .if1 .left)))
 
 returns-2 : tie.Need-returns-2 Inv-loop μ-loop
 returns-2 c = let l = c .before .loop in record { among = search needs; before = λ i h. l .inv .1 i (search needs); there = λ h. absurd (omega arith) }

@@ -26,7 +26,7 @@ abbrev μ-loop : tie.MeasureT-loop
 loop-holds : tie.Need-loop-holds Inv-loop μ-loop
 loop-holds c =
     let a = c .before .args in
-    (search needs, looked-none (isDue (a .l .now) (a .tick)) (a .count))
+    (search needs, looked-none (isDue (a .words .now) (a .tick)) (a .count))
 
 word-requires : tie.Need-word-requires Inv-loop μ-loop
 word-requires c κs = search needs
@@ -35,7 +35,7 @@ returns : tie.Need-returns Inv-loop μ-loop
 returns c =
     let a = c .before .before .before .before .before .args in
     let l = c .before .before .before .loop in
-    sym (looked-found (isDue (a .l .now) (a .tick)) (l .c) (a .count) _ (search needs) (eq-eqb _ _ (sym (c .before .word .ensures) ∙ c .if1 .taken)) (l .inv .1))
+    sym (looked-found (isDue (a .words .now) (a .tick)) (l .c) (a .count) _ (search needs) (eq-eqb _ _ (sym (c .before .word .ensures) ∙ c .if1 .taken)) (l .inv .1))
 
 add-c : tie.Need-add-c Inv-loop μ-loop
 add-c c = search needs
@@ -47,13 +47,13 @@ loop-again : tie.Need-loop-again Inv-loop μ-loop
 loop-again c =
     let a = c .before .before .before .before .before .args in
     let l = c .before .before .before .loop in
-    (search needs, looked-on (isDue (a .l .now) (a .tick)) (l .c) (a .count) _ (search needs) (ne-eqb _ _ (λ e. c .if1 .left (c .before .word .ensures ∙ e))) (l .inv .1))
+    (search needs, looked-on (isDue (a .words .now) (a .tick)) (l .c) (a .count) _ (search needs) (ne-eqb _ _ (λ e. c .if1 .left (c .before .word .ensures ∙ e))) (l .inv .1))
 
 returns-2 : tie.Need-returns-2 Inv-loop μ-loop
 returns-2 c =
     let a = c .before .before .before .args in
     let l = c .before .loop in
-    sym (looked-all (isDue (a .l .now) (a .tick)) (l .c) (a .count) _ (search needs) (l .inv .1))
+    sym (looked-all (isDue (a .words .now) (a .tick)) (l .c) (a .count) _ (search needs) (l .inv .1))
 
 pub some-due-spec : {M : Type 1} → statement M
 some-due-spec =

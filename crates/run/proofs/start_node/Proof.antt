@@ -65,7 +65,7 @@ returns c =
     let known = c .before .before .before .before .before .before .before .before .before .before .before .before .before .before .before .before .before .before .shared-slice-known2 .given in
     let span = c .before .before .before .before .before .before .before .before .before .before .before .before .before .before .before .span-of .ensures in
     let put = c .before .before .before .before .before .before .before .before .before .before .put-fixed .ensures in
-    node-started program known span put (s .args .rows .now) (s .args .n) (s .pre .4) (s .pre .5) (c .before .before .before .before .before .before .start-node .ensures) (c .before .before .before .before .before .before .before .before .before .before .before .before .before .before .next-row .ensures) (c .before .before .before .put-node .ensures)
+    node-started program known span put (s .args .rows .now) (s .args .passages) (s .pre .4) (s .pre .5) (c .before .before .before .before .before .before .start-node .ensures) (c .before .before .before .before .before .before .before .before .before .before .before .before .before .before .next-row .ensures) (c .before .before .before .put-node .ensures)
 
 pub start-node-spec : {M : Type 1} → statement M
 start-node-spec =

@@ -19,7 +19,7 @@ add-result c = search needs
 
 returns-2 : tie.Need-returns-2
 returns-2 c p held r eo et ed =
-    let e : c .before .before .before .args .t + c .wide64 .result ≡ r .t + r .d = rw (c .wide64 .ensures .0, et, ed) in
+    let e : c .before .before .before .args .ready + c .wide64 .result ≡ r .t + r .d = rw (c .wide64 .ensures .0, et, ed) in
     e ∙ sym (ap (dueTick (nodeOf p held r)) (stand-at p (r .pc) eo 5 (c .before .if2 .taken)))
 
 returns-3 : tie.Need-returns-3

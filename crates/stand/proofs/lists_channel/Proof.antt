@@ -25,7 +25,7 @@ returns : tie.Need-returns Inv-loop μ-loop
 returns c =
     let a = c .before .before .before .before .before .args in
     let l = c .before .before .before .loop in
-    sym (found (a .p .now) (a .k) (l .at) (l .i) (c .before .before .loop-test .taken) (sym (c .before .byte-at .ensures) ∙ c .if1 .taken)) ∙ l .inv .1
+    sym (found (a .part .now) (a .channel) (l .at) (l .i) (c .before .before .loop-test .taken) (sym (c .before .byte-at .ensures) ∙ c .if1 .taken)) ∙ l .inv .1
 
 add-at : tie.Need-add-at Inv-loop μ-loop
 add-at c = search needs
@@ -40,13 +40,13 @@ loop-again : tie.Need-loop-again Inv-loop μ-loop
 loop-again c =
     let a = c .before .before .before .before .before .args in
     let l = c .before .before .before .loop in
-    (search needs, sym (passed (a .p .now) (a .k) (l .at) (l .i) (c .before .before .loop-test .taken) (λ e. c .if1 .left (c .before .byte-at .ensures ∙ e))) ∙ l .inv .1)
+    (search needs, sym (passed (a .part .now) (a .channel) (l .at) (l .i) (c .before .before .loop-test .taken) (λ e. c .if1 .left (c .before .byte-at .ensures ∙ e))) ∙ l .inv .1)
 
 returns-2 : tie.Need-returns-2 Inv-loop μ-loop
 returns-2 c =
     let a = c .before .before .before .args in
     let l = c .before .loop in
-    sym (none-listed (a .p .now) (a .k) (l .at) (l .i) (c .loop-test .left)) ∙ l .inv .1
+    sym (none-listed (a .part .now) (a .channel) (l .at) (l .i) (c .loop-test .left)) ∙ l .inv .1
 
 pub lists-channel-spec : {M : Type 1} → statement M
 lists-channel-spec =

@@ -20,7 +20,7 @@ add-result c = search needs
 
 returns-2 : tie.Need-returns-2
 returns-2 c p held r eo et ed ek ef =
-    let e : c .before .before .before .args .t + c .wide64 .result ≡ r .t + r .d = rw (c .wide64 .ensures .0, et, ed) in
+    let e : c .before .before .before .args .ready + c .wide64 .result ≡ r .t + r .d = rw (c .wide64 .ensures .0, et, ed) in
     ap (eqb (c .before .before .before .args .tick)) e ∙ sym (ap (mayFinish (c .before .before .before .args .tick) (nodeOf p held r)) (stand-at p (r .pc) eo 5 (c .before .if2 .taken)))
 
 returns-3 : tie.Need-returns-3

@@ -13,10 +13,10 @@ use Rattle.stand.proofs.may_finish.Statement.{statement}
 use Rattle.stand.proofs.may_finish.Tie as tie
 
 -- the addition's four bytes are there
-whole : (c : tie.Then1) → c .before .before .before .before .args .r .pc + 4 ≤ length (c .before .before .before .before .args .p .now)
+whole : (c : tie.Then1) → c .before .before .before .before .args .registers .pc + 4 ≤ length (c .before .before .before .before .args .part .now)
 whole c =
     let a = c .before .before .before .before .args in
-    stands-whole (a .p .now) (a .r .pc) (c .before .before .op-at .ensures) 2 (c .if1 .taken) (omega arith)
+    stands-whole (a .part .now) (a .registers .pc) (c .before .before .op-at .ensures) 2 (c .if1 .taken) (omega arith)
 
 op-at-requires : tie.Need-op-at-requires
 op-at-requires c κs = search needs
@@ -43,7 +43,7 @@ adds-in-range-requires : tie.Need-adds-in-range-requires
 adds-in-range-requires c κs =
     let a = c .before .before .before .before .before .before .before .before .args in
     let h = whole (c .before .before .before .before) in
-    rw (tail (a .p .now) (a .r .pc)) (simp length-drop (omega arith))
+    rw (tail (a .part .now) (a .registers .pc)) (simp length-drop (omega arith))
 
 may-by-requires : tie.Need-may-by-requires
 may-by-requires c κs = search needs
@@ -53,8 +53,8 @@ returns c =
     let s = c .before .before .before .before .before .before .before .before .before .before in
     let a = s .args in
     let v = c .before .before .before .value-at in
-    c .may-by .ensures (a .p .now) (a .held) (a .r) (c .before .before .before .before .before .before .before .before .op-at .ensures) refl refl refl
-    (λ z. c .before .adds-in-range .ensures ∙ rw (tail (a .p .now) (a .r .pc), toZ-ofZ w16 (v .result) (sfits-of (v .ok)), v .ensures, getD-drop (a .r .pc) (a .p .now) 1 0))
+    c .may-by .ensures (a .part .now) (a .held) (a .registers) (c .before .before .before .before .before .before .before .before .op-at .ensures) refl refl refl
+    (λ z. c .before .adds-in-range .ensures ∙ rw (tail (a .part .now) (a .registers .pc), toZ-ofZ w16 (v .result) (sfits-of (v .ok)), v .ensures, getD-drop (a .registers .pc) (a .part .now) 1 0))
 
 may-by-requires-2 : tie.Need-may-by-requires-2
 may-by-requires-2 c κs = search needs
@@ -62,7 +62,7 @@ may-by-requires-2 c κs = search needs
 returns-2 : tie.Need-returns-2
 returns-2 c =
     let a = c .before .before .before .before .before .args in
-    c .may-by2 .ensures (a .p .now) (a .held) (a .r) (c .before .before .before .op-at .ensures) refl refl refl (λ z. absurd (c .before .if1 .left z))
+    c .may-by2 .ensures (a .part .now) (a .held) (a .registers) (c .before .before .before .op-at .ensures) refl refl refl (λ z. absurd (c .before .if1 .left z))
 
 pub may-finish-spec : {M : Type 1} → statement M
 may-finish-spec =

@@ -13,10 +13,10 @@ op-at-requires : tie.Need-op-at-requires
 op-at-requires c κs = search needs
 
 -- the listen's own four bytes are there
-whole : (c : tie.Then1) → c .before .before .before .args .at + 4 ≤ length (c .before .before .before .args .p .now)
+whole : (c : tie.Then1) → c .before .before .before .args .at + 4 ≤ length (c .before .before .before .args .part .now)
 whole c =
     let a = c .before .before .before .args in
-    stands-whole (a .p .now) (a .at) (c .before .op-at .ensures) 5 (c .if1 .taken) (omega arith)
+    stands-whole (a .part .now) (a .at) (c .before .op-at .ensures) 5 (c .if1 .taken) (omega arith)
 
 add-lists-channel : tie.Need-add-lists-channel
 add-lists-channel c = let h = whole c in search needs
@@ -34,12 +34,12 @@ returns : tie.Need-returns
 returns c =
     let a = c .before .before .before .before .before .args in
     c .lists-channel .ensures
-    ∙ sym (ap (names (a .k)) (listens-at (a .p .now) (a .at) (c .before .before .before .op-at .ensures) (c .before .before .if1 .taken)))
+    ∙ sym (ap (names (a .channel)) (listens-at (a .part .now) (a .at) (c .before .before .before .op-at .ensures) (c .before .before .if1 .taken)))
 
 returns-2 : tie.Need-returns-2
 returns-2 c =
     let a = c .before .before .before .args in
-    unnamed (a .k) (sort-is (a .p .now) (a .at) _ (c .before .op-at .ensures)) (c .if1 .left)
+    unnamed (a .channel) (sort-is (a .part .now) (a .at) _ (c .before .op-at .ensures)) (c .if1 .left)
 
 pub names-spec : {M : Type 1} → statement M
 names-spec =

@@ -32,7 +32,7 @@ returns c =
     let a = c .before .before .before .before .before .before .args in
     let l = c .before .before .before .before .loop in
     c .byte-at2 .ensures
-    ∙ sym (location-found (a .p .now) (a .k) (l .at) (l .i) (c .before .before .before .loop-test .taken) (sym (c .before .before .byte-at .ensures) ∙ c .before .if1 .taken))
+    ∙ sym (location-found (a .part .now) (a .channel) (l .at) (l .i) (c .before .before .before .loop-test .taken) (sym (c .before .before .byte-at .ensures) ∙ c .before .if1 .taken))
     ∙ l .inv .1
 
 add-at : tie.Need-add-at Inv-loop μ-loop
@@ -48,13 +48,13 @@ loop-again : tie.Need-loop-again Inv-loop μ-loop
 loop-again c =
     let a = c .before .before .before .before .before .args in
     let l = c .before .before .before .loop in
-    (search needs, sym (location-passed (a .p .now) (a .k) (l .at) (l .i) (c .before .before .loop-test .taken) (λ e. c .if1 .left (c .before .byte-at .ensures ∙ e))) ∙ l .inv .1)
+    (search needs, sym (location-passed (a .part .now) (a .channel) (l .at) (l .i) (c .before .before .loop-test .taken) (λ e. c .if1 .left (c .before .byte-at .ensures ∙ e))) ∙ l .inv .1)
 
 returns-2 : tie.Need-returns-2 Inv-loop μ-loop
 returns-2 c =
     let a = c .before .before .before .args in
     let l = c .before .loop in
-    sym (no-location (a .p .now) (a .k) (l .at) (l .i) (c .loop-test .left)) ∙ l .inv .1
+    sym (no-location (a .part .now) (a .channel) (l .at) (l .i) (c .loop-test .left)) ∙ l .inv .1
 
 pub paired-location-spec : {M : Type 1} → statement M
 paired-location-spec =

@@ -11,8 +11,8 @@ use Rattle.stand.proofs.take_message.Statement.{statement}
 use Rattle.stand.proofs.take_message.Tie as tie
 
 -- the listen's own four bytes are there
-whole : (s : tie.Start) → s .args .r .pc + 4 ≤ length (s .args .p .now)
-whole s = stands-whole (s .args .p .now) (s .args .r .pc) (sym (s .pre .1)) 5 refl (omega arith)
+whole : (s : tie.Start) → s .args .registers .pc + 4 ≤ length (s .args .part .now)
+whole s = stands-whole (s .args .part .now) (s .args .registers .pc) (sym (s .pre .1)) 5 refl (omega arith)
 
 add-paired-location : tie.Need-add-paired-location
 add-paired-location c = let h = whole (c .before) in search needs
@@ -39,17 +39,17 @@ statement-length-requires : tie.Need-statement-length-requires
 statement-length-requires c κs =
     let s = c .before .before .before .before in
     let h = whole s in
-    rw (tail (s .args .p .now) (s .args .r .pc)) (simp length-drop (omega arith))
+    rw (tail (s .args .part .now) (s .args .registers .pc)) (simp length-drop (omega arith))
 
-add-q : tie.Need-add-q
-add-q c = let h = whole (c .before .before .before .before .before) in omega (arith, c .statement-length .ensures .1)
+add-next : tie.Need-add-next
+add-next c = let h = whole (c .before .before .before .before .before) in omega (arith, c .statement-length .ensures .1)
 
 returns : tie.Need-returns
 returns c =
     let s = c .before .before .before .before .before in
     let a = s .args in
     let n = c .statement-length in
-    listened-is (a .p .now) (a .k) (a .r) (s .pre .1) _ (n .result) (c .before .before .paired-location .result) (tail (a .p .now) (a .r .pc)) (n .ensures .0) (c .before .before .paired-location .ensures)
+    listened-is (a .part .now) (a .channel) (a .registers) (s .pre .1) _ (n .result) (c .before .before .paired-location .result) (tail (a .part .now) (a .registers .pc)) (n .ensures .0) (c .before .before .paired-location .ensures)
 
 pub take-message-spec : {M : Type 1} → statement M
 take-message-spec =
@@ -63,5 +63,5 @@ take-message-spec =
     part-statement-length-start
     part-statement-length-end
     statement-length-requires
-    add-q
+    add-next
     returns)

@@ -28,7 +28,7 @@ returns c v =
     let s = c .before .before .before .before .before .before .before .before .before .before .before in
     let a = s .args in
     let p = s .pre in
-    finished-chosen (a .p .now) (a .l .now) v (a .c) (c .before .before .before .before .block-place .result) (p .2)
+    finished-chosen (a .part .now) (a .words .now) v (a .c) (c .before .before .before .before .block-place .result) (p .2)
     (c .before .before .before .before .block-place .ensures ∙ rw (c .before .before .before .before .before .wide .ensures .0, c .before .before .before .before .before .before .small .ensures, c .before .before .before .before .before .before .before .word .ensures))
     (c .before .before .put-place .ensures v)
 

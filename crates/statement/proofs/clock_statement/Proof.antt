@@ -29,8 +29,8 @@ returns c v =
     let s = c .before .before .before .before .before .before .before in
     let a = s .args in
     let p = s .pre in
-    let n : c .before .small .result ≡ heldIn (a .l .now) (a .c) .clocks = c .before .small .ensures ∙ rw (c .before .before .word .ensures) in
-    carried-same (a .h .now) (a .l .now) v (a .c) (p .0) (clocks-past (a .h .now) (heldIn (a .l .now) (a .c)) (nodeIn (a .l .now) v (a .c)) (p .0) (p .1) (p .2) (omega (arith, n, c .if1 .taken)))
+    let n : c .before .small .result ≡ heldIn (a .words .now) (a .c) .clocks = c .before .small .ensures ∙ rw (c .before .before .word .ensures) in
+    carried-same (a .statement .now) (a .words .now) v (a .c) (p .0) (clocks-past (a .statement .now) (heldIn (a .words .now) (a .c)) (nodeIn (a .words .now) v (a .c)) (p .0) (p .1) (p .2) (omega (arith, n, c .if1 .taken)))
 
 shared-slice-read-if2 : tie.Need-shared-slice-read-if2
 shared-slice-read-if2 c = search needs
@@ -67,8 +67,8 @@ add-put-clock-2 c =
     let s = c .before .before .before .before .before .before .before .before .before .before .before .before .before .before .before .before .before .before .before .before in
     let a = s .args in
     let p = s .pre in
-    let n : c .before .before .before .before .before .before .before .before .before .before .before .before .before .before .small .result ≡ heldIn (a .l .now) (a .c) .clocks = c .before .before .before .before .before .before .before .before .before .before .before .before .before .before .small .ensures ∙ rw (c .before .before .before .before .before .before .before .before .before .before .before .before .before .before .before .word .ensures) in
-    let x = clock-within 4000000000000000000 (heldIn (a .l .now) (a .c) .clocks) (clocksIn (a .l .now) (a .c)) (byte (a .h .now) 1) (c .before .before .before .clock .result) (p .6) (omega (arith, n, c .before .before .before .before .before .before .before .before .before .before .before .before .before .if1 .left)) (c .before .before .before .clock .ensures) in
+    let n : c .before .before .before .before .before .before .before .before .before .before .before .before .before .before .small .result ≡ heldIn (a .words .now) (a .c) .clocks = c .before .before .before .before .before .before .before .before .before .before .before .before .before .before .small .ensures ∙ rw (c .before .before .before .before .before .before .before .before .before .before .before .before .before .before .before .word .ensures) in
+    let x = clock-within 4000000000000000000 (heldIn (a .words .now) (a .c) .clocks) (clocksIn (a .words .now) (a .c)) (byte (a .statement .now) 1) (c .before .before .before .clock .result) (p .6) (omega (arith, n, c .before .before .before .before .before .before .before .before .before .before .before .before .before .if1 .left)) (c .before .before .before .clock .ensures) in
     omega (arith, x, c .before .wide64 .ensures .1, c .wide642 .ensures .1)
 
 put-clock-requires-2 : tie.Need-put-clock-requires-2
@@ -82,10 +82,10 @@ returns-2 c v =
     let s = c .before .before .before .before .before .before .before .before .before .before .before .before .before in
     let a = s .args in
     let p = s .pre in
-    let n : c .before .before .before .before .before .before .before .small .result ≡ heldIn (a .l .now) (a .c) .clocks = c .before .before .before .before .before .before .before .small .ensures ∙ rw (c .before .before .before .before .before .before .before .before .word .ensures) in
-    let there : byte (a .h .now) 1 < heldIn (a .l .now) (a .c) .clocks = omega (arith, n, c .before .before .before .before .before .before .if1 .left) in
-    carried-clocks (a .h .now) (a .l .now) v (a .c) (p .0) (set (clocksIn (a .l .now) (a .c)) (byte (a .h .now) 1) 0)
-    (clock-zero (a .h .now) (heldIn (a .l .now) (a .c)) (nodeIn (a .l .now) v (a .c)) (p .0) (set (clocksIn (a .l .now) (a .c)) (byte (a .h .now) 1) 0) there (c .before .before .before .before .if2 .taken) refl)
+    let n : c .before .before .before .before .before .before .before .small .result ≡ heldIn (a .words .now) (a .c) .clocks = c .before .before .before .before .before .before .before .small .ensures ∙ rw (c .before .before .before .before .before .before .before .before .word .ensures) in
+    let there : byte (a .statement .now) 1 < heldIn (a .words .now) (a .c) .clocks = omega (arith, n, c .before .before .before .before .before .before .if1 .left) in
+    carried-clocks (a .statement .now) (a .words .now) v (a .c) (p .0) (set (clocksIn (a .words .now) (a .c)) (byte (a .statement .now) 1) 0)
+    (clock-zero (a .statement .now) (heldIn (a .words .now) (a .c)) (nodeIn (a .words .now) v (a .c)) (p .0) (set (clocksIn (a .words .now) (a .c)) (byte (a .statement .now) 1) 0) there (c .before .before .before .before .if2 .taken) refl)
     (c .before .before .put-clock .ensures v)
 
 same-length-3 : tie.Need-same-length-3
@@ -96,15 +96,15 @@ returns-3 c v =
     let s = c .before .before .before .before .before .before .before .before .before .before .before .before .before .before .before .before .before .before .before .before .before .before .before in
     let a = s .args in
     let p = s .pre in
-    let n : c .before .before .before .before .before .before .before .before .before .before .before .before .before .before .before .before .before .small .result ≡ heldIn (a .l .now) (a .c) .clocks = c .before .before .before .before .before .before .before .before .before .before .before .before .before .before .before .before .before .small .ensures ∙ rw (c .before .before .before .before .before .before .before .before .before .before .before .before .before .before .before .before .before .before .word .ensures) in
-    let there : byte (a .h .now) 1 < heldIn (a .l .now) (a .c) .clocks = omega (arith, n, c .before .before .before .before .before .before .before .before .before .before .before .before .before .before .before .before .if1 .left) in
+    let n : c .before .before .before .before .before .before .before .before .before .before .before .before .before .before .before .before .before .small .result ≡ heldIn (a .words .now) (a .c) .clocks = c .before .before .before .before .before .before .before .before .before .before .before .before .before .before .before .before .before .small .ensures ∙ rw (c .before .before .before .before .before .before .before .before .before .before .before .before .before .before .before .before .before .before .word .ensures) in
+    let there : byte (a .statement .now) 1 < heldIn (a .words .now) (a .c) .clocks = omega (arith, n, c .before .before .before .before .before .before .before .before .before .before .before .before .before .before .before .before .if1 .left) in
     let x = c .before .before .before .before .before .before .clock .result + (c .before .before .before .before .wide64 .result + c .before .before .before .wide642 .result) in
-    let xs = set (clocksIn (a .l .now) (a .c)) (byte (a .h .now) 1) x in
-    let e₁ : c .before .before .before .before .wide64 .result ≡ wordIn (a .l .now) (a .c) 6 % 65536 = c .before .before .before .before .wide64 .ensures .0 ∙ (c .before .before .before .before .before .before .before .before .before .before .before .half .ensures ∙ rw (c .before .before .before .before .before .before .before .before .before .before .before .before .word2 .ensures)) in
-    let e₂ : c .before .before .before .wide642 .result ≡ wordIn (a .l .now) (a .c) 7 % 65536 = c .before .before .before .wide642 .ensures .0 ∙ (c .before .before .before .before .before .before .before .before .half2 .ensures ∙ rw (c .before .before .before .before .before .before .before .before .before .word3 .ensures)) in
-    let e₃ : c .before .before .before .before .before .before .clock .result ≡ getD (clocksIn (a .l .now) (a .c)) (byte (a .h .now) 1) 0 = c .before .before .before .before .before .before .clock .ensures ∙ getD-take (heldIn (a .l .now) (a .c) .clocks) (clocksIn (a .l .now) (a .c)) (byte (a .h .now) 1) 0 there in
-    carried-clocks (a .h .now) (a .l .now) v (a .c) (p .0) xs
-    (clock-aged (a .h .now) (heldIn (a .l .now) (a .c)) (nodeIn (a .l .now) v (a .c)) (p .0) xs there (omega (arith, p .1, p .2, c .before .before .before .before .before .before .before .before .before .before .before .before .before .before .if2 .left)) (omega arith) (omega arith) (rw (e₁, e₂, e₃)))
+    let xs = set (clocksIn (a .words .now) (a .c)) (byte (a .statement .now) 1) x in
+    let e₁ : c .before .before .before .before .wide64 .result ≡ wordIn (a .words .now) (a .c) 6 % 65536 = c .before .before .before .before .wide64 .ensures .0 ∙ (c .before .before .before .before .before .before .before .before .before .before .before .half .ensures ∙ rw (c .before .before .before .before .before .before .before .before .before .before .before .before .word2 .ensures)) in
+    let e₂ : c .before .before .before .wide642 .result ≡ wordIn (a .words .now) (a .c) 7 % 65536 = c .before .before .before .wide642 .ensures .0 ∙ (c .before .before .before .before .before .before .before .before .half2 .ensures ∙ rw (c .before .before .before .before .before .before .before .before .before .word3 .ensures)) in
+    let e₃ : c .before .before .before .before .before .before .clock .result ≡ getD (clocksIn (a .words .now) (a .c)) (byte (a .statement .now) 1) 0 = c .before .before .before .before .before .before .clock .ensures ∙ getD-take (heldIn (a .words .now) (a .c) .clocks) (clocksIn (a .words .now) (a .c)) (byte (a .statement .now) 1) 0 there in
+    carried-clocks (a .statement .now) (a .words .now) v (a .c) (p .0) xs
+    (clock-aged (a .statement .now) (heldIn (a .words .now) (a .c)) (nodeIn (a .words .now) v (a .c)) (p .0) xs there (omega (arith, p .1, p .2, c .before .before .before .before .before .before .before .before .before .before .before .before .before .before .if2 .left)) (omega arith) (omega arith) (rw (e₁, e₂, e₃)))
     (c .before .before .put-clock2 .ensures v)
 
 pub clock-statement-spec : {M : Type 1} → statement M

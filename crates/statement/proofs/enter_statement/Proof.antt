@@ -37,9 +37,9 @@ returns c v =
     let a = s .args in
     let p = s .pre in
     let x = c .before .before .before .before .small in
-    let e : x .result ≡ wordIn (a .l .now) (a .c) 11 % 256 = x .ensures ∙ rw (c .before .before .before .before .before .word2 .ensures) in
-    carried-entered (a .h .now) (a .l .now) v (a .c) (p .0) (wordIn (a .l .now) (a .c) 11 % 256)
-    (enters-paired (a .h .now) (heldIn (a .l .now) (a .c)) (nodeIn (a .l .now) v (a .c)) (p .0) (p .1) (eq-eqb (wordIn (a .l .now) (a .c) 10) 1 (sym (c .before .before .before .before .before .before .before .before .word .ensures) ∙ c .before .before .before .before .before .before .before .if1 .taken)))
+    let e : x .result ≡ wordIn (a .words .now) (a .c) 11 % 256 = x .ensures ∙ rw (c .before .before .before .before .before .word2 .ensures) in
+    carried-entered (a .statement .now) (a .words .now) v (a .c) (p .0) (wordIn (a .words .now) (a .c) 11 % 256)
+    (enters-paired (a .statement .now) (heldIn (a .words .now) (a .c)) (nodeIn (a .words .now) v (a .c)) (p .0) (p .1) (eq-eqb (wordIn (a .words .now) (a .c) 10) 1 (sym (c .before .before .before .before .before .before .before .before .word .ensures) ∙ c .before .before .before .before .before .before .before .if1 .taken)))
     (rw e at (c .before .before .put-location .ensures v))
 
 same-length-2 : tie.Need-same-length-2
@@ -50,8 +50,8 @@ returns-2 c v =
     let s = c .before .before .before .before .before .before .before .before .before .before in
     let a = s .args in
     let p = s .pre in
-    carried-entered (a .h .now) (a .l .now) v (a .c) (p .0) (byte (a .h .now) 3)
-    (enters (a .h .now) (heldIn (a .l .now) (a .c)) (nodeIn (a .l .now) v (a .c)) (p .0) (p .1) (ne-eqb (wordIn (a .l .now) (a .c) 10) 1 (λ z. c .before .before .before .before .before .if1 .left (c .before .before .before .before .before .before .word .ensures ∙ z))))
+    carried-entered (a .statement .now) (a .words .now) v (a .c) (p .0) (byte (a .statement .now) 3)
+    (enters (a .statement .now) (heldIn (a .words .now) (a .c)) (nodeIn (a .words .now) v (a .c)) (p .0) (p .1) (ne-eqb (wordIn (a .words .now) (a .c) 10) 1 (λ z. c .before .before .before .before .before .if1 .left (c .before .before .before .before .before .before .word .ensures ∙ z))))
     (c .before .before .put-location2 .ensures v)
 
 pub enter-statement-spec : {M : Type 1} → statement M

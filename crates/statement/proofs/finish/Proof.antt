@@ -17,25 +17,25 @@ use Rattle.statement.proofs.finish.Statement.{statement}
 use Rattle.statement.proofs.finish.Tie as tie
 
 -- the op is known, and its statement stands inside the part
-opened : (c : tie.Else3) → let a = c .before .before .before .before .before .before .before .args in Opens (drop (wordIn (a .l .now) (a .c) 0) (a .p .now)) (a .op)
+opened : (c : tie.Else3) → let a = c .before .before .before .before .before .before .before .args in Opens (drop (wordIn (a .words .now) (a .c) 0) (a .part .now)) (a .op)
 opened c = opens _ _ (sym (c .before .before .before .before .before .before .before .pre .6)) (c .before .before .if1 .left)
 
 -- the bytes from the program counter on
 there : (c : tie.Else3) → let a = c .before .before .before .before .before .before .before .args in let at = c .before .before .before .word .result in
-    take (length (a .p .now) - at) (drop at (a .p .now)) ≡ drop (wordIn (a .l .now) (a .c) 0) (a .p .now)
-there c = let a = c .before .before .before .before .before .before .before .args in tail (a .p .now) (c .before .before .before .word .result) ∙ ap (λ (i : ℕ). drop i (a .p .now)) (c .before .before .before .word .ensures)
+    take (length (a .part .now) - at) (drop at (a .part .now)) ≡ drop (wordIn (a .words .now) (a .c) 0) (a .part .now)
+there c = let a = c .before .before .before .before .before .before .before .args in tail (a .part .now) (c .before .before .before .word .result) ∙ ap (λ (i : ℕ). drop i (a .part .now)) (c .before .before .before .word .ensures)
 
 abbrev bytes : (c : tie.Else3) → List ℕ
-bytes c = let a = c .before .before .before .before .before .before .before .args in let at = c .before .before .before .word .result in take (length (a .p .now) - at) (drop at (a .p .now))
+bytes c = let a = c .before .before .before .before .before .before .before .args in let at = c .before .before .before .word .result in take (length (a .part .now) - at) (drop at (a .part .now))
 
 front : (c : tie.Else3) → let a = c .before .before .before .before .before .before .before .args in let at = c .before .before .before .word .result in
-    Opens (take (length (a .p .now) - at) (drop at (a .p .now))) (a .op)
+    Opens (take (length (a .part .now) - at) (drop at (a .part .now))) (a .op)
 front c = subst (λ (x : List ℕ). Opens x (c .before .before .before .before .before .before .before .args .op)) (sym (there c)) (opened c)
 
-placed : (c : tie.Else3) → c .before .before .before .word .result + 4 ≤ length (c .before .before .before .before .before .before .before .args .p .now)
+placed : (c : tie.Else3) → c .before .before .before .word .result + 4 ≤ length (c .before .before .before .before .before .before .before .args .part .now)
 placed c =
     let a = c .before .before .before .before .before .before .before .args in
-    omega (arith, c .before .before .before .word .ensures, inside (a .p .now) (wordIn (a .l .now) (a .c) 0) (a .op) (opened c))
+    omega (arith, c .before .before .before .word .ensures, inside (a .part .now) (wordIn (a .words .now) (a .c) 0) (a .op) (opened c))
 
 word-requires : tie.Need-word-requires
 word-requires c κs = search needs
@@ -47,8 +47,8 @@ returns : tie.Need-returns
 returns c =
     let s = c .before .before .before .before .before in
     let a = s .args in
-    subst (λ (i : ℕ). Finished (a .p .now) (a .l .now) (a .v .now) (a .c) i (a .l .now) (a .v .now)) (sym (c .before .word .ensures))
-    (finished-none (a .p .now) (a .l .now) (a .v .now) (a .c) (sym (s .pre .6) ∙ c .if1 .taken))
+    subst (λ (i : ℕ). Finished (a .part .now) (a .words .now) (a .values .now) (a .c) i (a .words .now) (a .values .now)) (sym (c .before .word .ensures))
+    (finished-none (a .part .now) (a .words .now) (a .values .now) (a .c) (sym (s .pre .6) ∙ c .if1 .taken))
 
 take-edge-requires : tie.Need-take-edge-requires
 take-edge-requires c κs = search needs
@@ -57,7 +57,7 @@ same-length-2 : tie.Need-same-length-2
 same-length-2 c = search needs
 
 returns-2 : tie.Need-returns-2
-returns-2 c = c .before .before .take-edge .ensures (c .before .before .before .before .before .before .before .before .before .before .args .v .now)
+returns-2 c = c .before .before .take-edge .ensures (c .before .before .before .before .before .before .before .before .before .before .args .values .now)
 
 choose-block-requires : tie.Need-choose-block-requires
 choose-block-requires c κs = search needs
@@ -66,18 +66,18 @@ same-length-3 : tie.Need-same-length-3
 same-length-3 c = search needs
 
 returns-3 : tie.Need-returns-3
-returns-3 c = c .before .before .choose-block .ensures (c .before .before .before .before .before .before .before .before .before .before .before .args .v .now)
+returns-3 c = c .before .before .choose-block .ensures (c .before .before .before .before .before .before .before .before .before .before .before .args .values .now)
 
-sub-h : tie.Need-sub-h
-sub-h c = omega (arith, placed c)
+sub-statement : tie.Need-sub-statement
+sub-statement c = omega (arith, placed c)
 
-part-h-start : tie.Need-part-h-start
-part-h-start c =
-    let w : c .before .before .before .word .result ≤ length (c .before .before .before .before .before .before .before .args .p .now) = sub-h c in
+part-statement-start : tie.Need-part-statement-start
+part-statement-start c =
+    let w : c .before .before .before .word .result ≤ length (c .before .before .before .before .before .before .before .args .part .now) = sub-statement c in
     search needs
 
-part-h-end : tie.Need-part-h-end
-part-h-end c = search needs
+part-statement-end : tie.Need-part-statement-end
+part-statement-end c = search needs
 
 statement-length-requires : tie.Need-statement-length-requires
 statement-length-requires c κs = front (c .before .before) .fits
@@ -95,15 +95,15 @@ work-statement-requires c κs =
     let a = s .args in
     let put = c .before .before .before .before .put-place in
     let o = front e in
-    let st = put .ensures (a .v .now) in
+    let st = put .ensures (a .values .now) in
     let to = c .before .before .before .before .before .before .before .before .before .before .before .before .word .result + c .before .before .before .before .before .before .statement-length .result in (
       o .fits,
       omega (arith, o .first, c .before .before .before .before .before .before .before .if4 .taken),
-      eight-still (a .l .now) (a .v .now) (a .c) to (put .last .0) st (s .pre .1),
+      eight-still (a .words .now) (a .values .now) (a .c) to (put .last .0) st (s .pre .1),
       s .pre .2,
-      held-still (a .l .now) (a .v .now) (a .c) to (put .last .0) st (s .pre .3),
-      within-still (a .l .now) (a .v .now) (a .c) to (put .last .0) st 4000000000000000000 (s .pre .4),
-      addable-still (a .l .now) (a .v .now) (a .c) to (put .last .0) st _ (subst (λ (x : List ℕ). Addable x (heldIn (a .l .now) (a .c)) (nodeIn (a .l .now) (a .v .now) (a .c))) (sym (there e)) (s .pre .5)),
+      held-still (a .words .now) (a .values .now) (a .c) to (put .last .0) st (s .pre .3),
+      within-still (a .words .now) (a .values .now) (a .c) to (put .last .0) st 4000000000000000000 (s .pre .4),
+      addable-still (a .words .now) (a .values .now) (a .c) to (put .last .0) st _ (subst (λ (x : List ℕ). Addable x (heldIn (a .words .now) (a .c)) (nodeIn (a .words .now) (a .values .now) (a .c))) (sym (there e)) (s .pre .5)),
     )
 
 same-length-4 : tie.Need-same-length-4
@@ -119,9 +119,9 @@ returns-4 c =
     let a = s .args in
     let put = c .before .before .before .before .before .before .before .before .put-place in
     let o = front e in
-    let st = put .ensures (a .v .now) in
+    let st = put .ensures (a .values .now) in
     let to = c .before .before .before .before .before .before .before .before .before .before .before .before .before .before .before .before .word .result + c .before .before .before .before .before .before .before .before .before .before .statement-length .result in
-    finished-on (a .l .now) (a .v .now) (a .c) to (put .last .0) st (a .p .now) _ (there e) (a .op) (sym (s .pre .6))
+    finished-on (a .words .now) (a .values .now) (a .c) to (put .last .0) st (a .part .now) _ (there e) (a .op) (sym (s .pre .6))
     (omega (arith, c .before .before .before .before .before .before .before .before .before .before .before .if4 .taken)) (c .before .before .before .before .before .before .before .before .before .before .statement-length .result) (c .before .before .before .before .before .before .before .before .before .before .statement-length .ensures .0)
     (ap (λ (i : ℕ). i + c .before .before .before .before .before .before .before .before .before .before .statement-length .result) (c .before .before .before .before .before .before .before .before .before .before .before .before .before .before .before .before .word .ensures))
     (c .before .before .before .work-statement .ensures)
@@ -139,14 +139,14 @@ try-statement-requires c κs =
     let a = s .args in
     let put = c .before .before .before .before .put-place2 in
     let o = front e in
-    let st = put .ensures (a .v .now) in
+    let st = put .ensures (a .values .now) in
     let to = c .before .before .before .before .before .before .before .before .before .before .before .word .result + 4 in (
       o .fits,
       omega (arith, o .first, c .before .before .before .before .before .before .if4 .left),
       below-ends _ _ o (c .before .before .before .before .before .before .before .before .before .if2 .left) (c .before .before .before .before .before .before .before .before .if3 .left),
-      eight-still (a .l .now) (a .v .now) (a .c) to (put .last .0) st (s .pre .1),
+      eight-still (a .words .now) (a .values .now) (a .c) to (put .last .0) st (s .pre .1),
       s .pre .2,
-      held-still (a .l .now) (a .v .now) (a .c) to (put .last .0) st (s .pre .3),
+      held-still (a .words .now) (a .values .now) (a .c) to (put .last .0) st (s .pre .3),
     )
 
 same-length-6 : tie.Need-same-length-6
@@ -162,9 +162,9 @@ returns-5 c =
     let a = s .args in
     let put = c .before .before .before .before .before .before .before .put-place2 in
     let o = front e in
-    let st = put .ensures (a .v .now) in
+    let st = put .ensures (a .values .now) in
     let to = c .before .before .before .before .before .before .before .before .before .before .before .before .before .before .word .result + 4 in
-    finished-on (a .l .now) (a .v .now) (a .c) to (put .last .0) st (a .p .now) _ (there e) (a .op) (sym (s .pre .6))
+    finished-on (a .words .now) (a .values .now) (a .c) to (put .last .0) st (a .part .now) _ (there e) (a .op) (sym (s .pre .6))
     (omega (arith, o .first, below-ends _ _ o (c .before .before .before .before .before .before .before .before .before .before .before .before .if2 .left) (c .before .before .before .before .before .before .before .before .before .before .before .if3 .left))) 4 (four-bytes (bytes e) (omega (arith, o .first, c .before .before .before .before .before .before .before .before .before .if4 .left)))
     (ap (λ (i : ℕ). i + 4) (c .before .before .before .before .before .before .before .before .before .before .before .before .before .before .word .ensures))
     (c .before .before .try-statement .ensures)
@@ -182,9 +182,9 @@ finish-spec =
     choose-block-requires
     same-length-3
     returns-3
-    sub-h
-    part-h-start
-    part-h-end
+    sub-statement
+    part-statement-start
+    part-statement-end
     statement-length-requires
     add-to
     put-place-requires

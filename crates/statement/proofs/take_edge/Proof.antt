@@ -22,7 +22,7 @@ returns c v =
     let s = c .before .before .before .before .before .before .before .before .before .before in
     let a = s .args in
     let p = s .pre in
-    finished-nowhere (a .p .now) (a .l .now) v (a .c) (c .before .before .before .before .before .before .load-kept .result) (c .before .before .before .before .before .before .load-kept .ensures) (p .2) (not-true _ (c .before .before .before .before .if1 .taken)) (c .before .before .put-place .ensures v)
+    finished-nowhere (a .part .now) (a .words .now) v (a .c) (c .before .before .before .before .before .before .load-kept .result) (c .before .before .before .before .before .before .load-kept .ensures) (p .2) (not-true _ (c .before .before .before .before .if1 .taken)) (c .before .before .put-place .ensures v)
 
 byte-at-requires : tie.Need-byte-at-requires
 byte-at-requires c κs = search needs
@@ -57,14 +57,14 @@ word-requires-2 c κs = search needs
 wide64-requires-2 : tie.Need-wide64-requires-2
 wide64-requires-2 c κs = search needs
 
-add-t : tie.Need-add-t
-add-t c = search needs
+add-ready : tie.Need-add-ready
+add-ready c = search needs
 
 wide64-requires-3 : tie.Need-wide64-requires-3
 wide64-requires-3 c κs = search needs
 
-add-t-2 : tie.Need-add-t-2
-add-t-2 c = search needs
+add-ready-2 : tie.Need-add-ready-2
+add-ready-2 c = search needs
 
 put-place-requires-2 : tie.Need-put-place-requires-2
 put-place-requires-2 c κs = search needs
@@ -88,7 +88,7 @@ returns-2 c v =
     let a = s .args in
     let p = s .pre in
     let k = c .before .before .before .before .before .before .before .before .before .before .before .before .before .before .before .before .before .before .before .before .before .before .before .before .before .before .before .load-kept in
-    finished-taken (a .p .now) (a .l .now) v (a .c) (k .result) (c .before .before .before .before .before .before .before .before .before .before .before .before .before .before .before .before .before .before .before .before .before .block-place .result) (c .before .before .before .before .before .before .before .before .before .before .before .before .before .before .word2 .result + c .before .before .before .before .before .before .before .before .before .before .before .before .before .wide642 .result + c .before .before .before .before .before .before .before .before .before .before .before .before .wide643 .result) (c .before .before .before .before .before .before .before .before .before .before .before .before .before .before .before .before .before .before .before .left-of .result)
+    finished-taken (a .part .now) (a .words .now) v (a .c) (k .result) (c .before .before .before .before .before .before .before .before .before .before .before .before .before .before .before .before .before .before .before .before .before .block-place .result) (c .before .before .before .before .before .before .before .before .before .before .before .before .before .before .word2 .result + c .before .before .before .before .before .before .before .before .before .before .before .before .before .wide642 .result + c .before .before .before .before .before .before .before .before .before .before .before .before .wide643 .result) (c .before .before .before .before .before .before .before .before .before .before .before .before .before .before .before .before .before .before .before .left-of .result)
     (k .ensures) (p .2) (not-false _ (c .before .before .before .before .before .before .before .before .before .before .before .before .before .before .before .before .before .before .before .before .before .before .before .before .before .if1 .left))
     (c .before .before .before .before .before .before .before .before .before .before .before .before .before .before .before .before .before .before .before .before .before .block-place .ensures ∙ rw (c .before .before .before .before .before .before .before .before .before .before .before .before .before .before .before .before .before .before .before .before .before .before .wide2 .ensures .0, c .before .before .before .before .before .before .before .before .before .before .before .before .before .before .before .before .before .before .before .before .before .before .before .wide .ensures .0, c .before .before .before .before .before .before .before .before .before .before .before .before .before .before .before .before .before .before .before .before .before .before .before .before .byte-at .ensures))
     (rw (c .before .before .before .before .before .before .before .before .before .before .before .before .before .before .word2 .ensures, c .before .before .before .before .before .before .before .before .before .before .before .before .before .wide642 .ensures .0, c .before .before .before .before .before .before .before .before .before .before .before .before .before .before .before .before .half .ensures, c .before .before .before .before .before .before .before .before .before .before .before .before .before .before .before .before .before .word .ensures, c .before .before .before .before .before .before .before .before .before .before .before .before .wide643 .ensures .0))
@@ -116,9 +116,9 @@ take-edge-spec =
     half-requires
     word-requires-2
     wide64-requires-2
-    add-t
+    add-ready
     wide64-requires-3
-    add-t-2
+    add-ready-2
     put-place-requires-2
     put-passage-requires
     put-kept-requires

@@ -38,9 +38,9 @@ returns c =
     let s = c .before .before .before .before .before .before .before .before .before .before .before .before .before .before in
     let a = s .args in
     let p = s .pre in
-    carried-kept (a .h .now) (a .l .now) (a .v .now) (a .c) (p .0) (c .before .before .before .before .before .before .before .before .load-trial .result) (c .before .before .before .before .before .before .load-kept .result) (c .before .before .before .before .keeps .result)
+    carried-kept (a .statement .now) (a .words .now) (a .values .now) (a .c) (p .0) (c .before .before .before .before .before .before .before .before .load-trial .result) (c .before .before .before .before .before .before .load-kept .result) (c .before .before .before .before .keeps .result)
     (c .before .before .before .before .before .before .before .before .load-trial .ensures) (c .before .before .before .before .before .before .load-kept .ensures) (c .before .before .before .before .before .before .before .before .before .before .if1 .taken) (c .before .before .before .before .keeps .ensures)
-    (c .before .before .put-kept .ensures (a .v .now))
+    (c .before .before .put-kept .ensures (a .values .now))
 
 no-trial-requires : tie.Need-no-trial-requires
 no-trial-requires c κs = search needs
@@ -56,9 +56,9 @@ returns-2 c =
     let s = c .before .before .before .before .before .before .before .before .before .before in
     let a = s .args in
     let p = s .pre in
-    carried-trial (a .h .now) (a .l .now) (a .v .now) (a .c) (p .0) (c .before .before .before .before .no-trial .result)
-    (trial-new (a .h .now) (heldIn (a .l .now) (a .c)) (nodeIn (a .l .now) (a .v .now) (a .c)) (p .0) (c .before .before .before .before .no-trial .result) (c .before .before .before .before .before .if2 .taken) (ap trialOf (c .before .before .before .before .no-trial .ensures)))
-    (c .before .before .put-trial .ensures (a .v .now))
+    carried-trial (a .statement .now) (a .words .now) (a .values .now) (a .c) (p .0) (c .before .before .before .before .no-trial .result)
+    (trial-new (a .statement .now) (heldIn (a .words .now) (a .c)) (nodeIn (a .words .now) (a .values .now) (a .c)) (p .0) (c .before .before .before .before .no-trial .result) (c .before .before .before .before .before .if2 .taken) (ap trialOf (c .before .before .before .before .no-trial .ensures)))
+    (c .before .before .put-trial .ensures (a .values .now))
 
 load-trial-requires-2 : tie.Need-load-trial-requires-2
 load-trial-requires-2 c κs = search needs
@@ -83,9 +83,9 @@ returns-3 c =
     let s = c .before .before .before .before .before .before .before .before .before .before .before .before .before .before .before .before in
     let a = s .args in
     let p = s .pre in
-    carried-trial (a .h .now) (a .l .now) (a .v .now) (a .c) (p .0) (c .before .before .before .before .by-clock .result)
-    (clock-tries (a .h .now) (heldIn (a .l .now) (a .c)) (nodeIn (a .l .now) (a .v .now) (a .c)) (p .0) _ _ _ (omega arith) (omega arith) (c .before .before .before .before .by-clock .ensures) (c .before .before .before .before .before .before .before .before .before .load-trial2 .ensures) (c .before .before .before .before .before .clock .ensures))
-    (c .before .before .put-trial2 .ensures (a .v .now))
+    carried-trial (a .statement .now) (a .words .now) (a .values .now) (a .c) (p .0) (c .before .before .before .before .by-clock .result)
+    (clock-tries (a .statement .now) (heldIn (a .words .now) (a .c)) (nodeIn (a .words .now) (a .values .now) (a .c)) (p .0) _ _ _ (omega arith) (omega arith) (c .before .before .before .before .by-clock .ensures) (c .before .before .before .before .before .before .before .before .before .load-trial2 .ensures) (c .before .before .before .before .before .clock .ensures))
+    (c .before .before .put-trial2 .ensures (a .values .now))
 
 shared-slice-read-value : tie.Need-shared-slice-read-value
 shared-slice-read-value c = search needs
@@ -108,10 +108,10 @@ returns-4 c =
     let a = s .args in
     let p = s .pre in
     let x = c .before .before .before .before .before .value in
-    carried-trial (a .h .now) (a .l .now) (a .v .now) (a .c) (p .0) (c .before .before .before .before .by-value .result)
-    (value-tries (a .h .now) (heldIn (a .l .now) (a .c)) (nodeIn (a .l .now) (a .v .now) (a .c)) (p .0) _ _ _ (omega arith) (omega arith) (c .before .before .before .before .by-value .ensures) (c .before .before .before .before .before .before .before .before .before .load-trial2 .ensures)
+    carried-trial (a .statement .now) (a .words .now) (a .values .now) (a .c) (p .0) (c .before .before .before .before .by-value .result)
+    (value-tries (a .statement .now) (heldIn (a .words .now) (a .c)) (nodeIn (a .words .now) (a .values .now) (a .c)) (p .0) _ _ _ (omega arith) (omega arith) (c .before .before .before .before .by-value .ensures) (c .before .before .before .before .before .before .before .before .before .load-trial2 .ensures)
     (toZ-ofZ w16 (x .result) (sfits-of (x .ok)) ∙ x .ensures))
-    (c .before .before .put-trial3 .ensures (a .v .now))
+    (c .before .before .put-trial3 .ensures (a .values .now))
 
 pub try-statement-spec : {M : Type 1} → statement M
 try-statement-spec =

@@ -30,8 +30,8 @@ returns c =
     let s = c .before .before .before .before .before .before in
     let a = s .args in
     let p = s .pre in
-    let n : c .before .small .result ≡ heldIn (a .l .now) (a .c) .variables = c .before .small .ensures ∙ rw (c .before .before .word .ensures) in
-    carried-same (a .h .now) (a .l .now) (a .v .now) (a .c) (p .0) (values-past (a .h .now) (heldIn (a .l .now) (a .c)) (nodeIn (a .l .now) (a .v .now) (a .c)) (p .0) (p .1) (p .2) (omega (arith, n, c .if1 .taken)))
+    let n : c .before .small .result ≡ heldIn (a .words .now) (a .c) .variables = c .before .small .ensures ∙ rw (c .before .before .word .ensures) in
+    carried-same (a .statement .now) (a .words .now) (a .values .now) (a .c) (p .0) (values-past (a .statement .now) (heldIn (a .words .now) (a .c)) (nodeIn (a .words .now) (a .values .now) (a .c)) (p .0) (p .1) (p .2) (omega (arith, n, c .if1 .taken)))
 
 signed-at-requires : tie.Need-signed-at-requires
 signed-at-requires c κs = search needs
@@ -50,12 +50,12 @@ sum-requires c κs =
     let s = c .before .before .before .before .before .before .before .before .before .before .before in
     let a = s .args in
     let p = s .pre in
-    let n : c .before .before .before .before .before .before .small .result ≡ heldIn (a .l .now) (a .c) .variables = c .before .before .before .before .before .before .small .ensures ∙ rw (c .before .before .before .before .before .before .before .word .ensures) in
-    let there : byte (a .h .now) 1 < heldIn (a .l .now) (a .c) .variables = omega (arith, n, c .before .before .before .before .before .if1 .left) in
+    let n : c .before .before .before .before .before .before .small .result ≡ heldIn (a .words .now) (a .c) .variables = c .before .before .before .before .before .before .small .ensures ∙ rw (c .before .before .before .before .before .before .before .word .ensures) in
+    let there : byte (a .statement .now) 1 < heldIn (a .words .now) (a .c) .variables = omega (arith, n, c .before .before .before .before .before .if1 .left) in
     let x = c .value in
     let z = c .before .before .before .before .signed-at in
-    rw (toZ-ofZ w16 (x .result) (sfits-of (x .ok)), toZ-ofZ w16 (z .result) (sfits-of (z .ok)), z .ensures, x .ensures, getD-take (heldIn (a .l .now) (a .c) .variables) (valuesIn (a .v .now) (a .c)) (byte (a .h .now) 1) (pos 0) there)
-    (added-fits (a .h .now) (heldIn (a .l .now) (a .c)) (nodeIn (a .l .now) (a .v .now) (a .c)) (p .0) (omega (arith, p .1, p .2, c .before .before .if2 .left)) there (p .6))
+    rw (toZ-ofZ w16 (x .result) (sfits-of (x .ok)), toZ-ofZ w16 (z .result) (sfits-of (z .ok)), z .ensures, x .ensures, getD-take (heldIn (a .words .now) (a .c) .variables) (valuesIn (a .values .now) (a .c)) (byte (a .statement .now) 1) (pos 0) there)
+    (added-fits (a .statement .now) (heldIn (a .words .now) (a .c)) (nodeIn (a .words .now) (a .values .now) (a .c)) (p .0) (omega (arith, p .1, p .2, c .before .before .if2 .left)) there (p .6))
 
 put-value-requires-2 : tie.Need-put-value-requires-2
 put-value-requires-2 c κs = search needs
@@ -68,13 +68,13 @@ returns-2 c =
     let s = c .before .before .before .before .before .before .before .before .before .before .before .before in
     let a = s .args in
     let p = s .pre in
-    let n : c .before .before .before .before .before .before .before .small .result ≡ heldIn (a .l .now) (a .c) .variables = c .before .before .before .before .before .before .before .small .ensures ∙ rw (c .before .before .before .before .before .before .before .before .word .ensures) in
-    let there : byte (a .h .now) 1 < heldIn (a .l .now) (a .c) .variables = omega (arith, n, c .before .before .before .before .before .before .if1 .left) in
+    let n : c .before .before .before .before .before .before .before .small .result ≡ heldIn (a .words .now) (a .c) .variables = c .before .before .before .before .before .before .before .small .ensures ∙ rw (c .before .before .before .before .before .before .before .before .word .ensures) in
+    let there : byte (a .statement .now) 1 < heldIn (a .words .now) (a .c) .variables = omega (arith, n, c .before .before .before .before .before .before .if1 .left) in
     let z = c .before .before .before .before .before .signed-at in
-    let e : toZ w16 (ofZ w16 (z .result)) ≡ complement (word (a .h .now) 2) = toZ-ofZ w16 (z .result) (sfits-of (z .ok)) ∙ z .ensures in
-    let xs = set (valuesIn (a .v .now) (a .c)) (byte (a .h .now) 1) (complement (word (a .h .now) 2)) in
-    carried-values (a .h .now) (a .l .now) (a .v .now) (a .c) (p .0) xs (value-set (a .h .now) (heldIn (a .l .now) (a .c)) (nodeIn (a .l .now) (a .v .now) (a .c)) (p .0) xs there (c .before .before .before .if2 .taken) refl)
-    (rw e at (c .before .put-value .ensures (a .l .now)))
+    let e : toZ w16 (ofZ w16 (z .result)) ≡ complement (word (a .statement .now) 2) = toZ-ofZ w16 (z .result) (sfits-of (z .ok)) ∙ z .ensures in
+    let xs = set (valuesIn (a .values .now) (a .c)) (byte (a .statement .now) 1) (complement (word (a .statement .now) 2)) in
+    carried-values (a .statement .now) (a .words .now) (a .values .now) (a .c) (p .0) xs (value-set (a .statement .now) (heldIn (a .words .now) (a .c)) (nodeIn (a .words .now) (a .values .now) (a .c)) (p .0) xs there (c .before .before .before .if2 .taken) refl)
+    (rw e at (c .before .put-value .ensures (a .words .now)))
 
 same-length-2 : tie.Need-same-length-2
 same-length-2 c = search needs
@@ -84,16 +84,16 @@ returns-3 c =
     let s = c .before .before .before .before .before .before .before .before .before .before .before .before .before .before .before in
     let a = s .args in
     let p = s .pre in
-    let n : c .before .before .before .before .before .before .before .before .before .before .small .result ≡ heldIn (a .l .now) (a .c) .variables = c .before .before .before .before .before .before .before .before .before .before .small .ensures ∙ rw (c .before .before .before .before .before .before .before .before .before .before .before .word .ensures) in
-    let there : byte (a .h .now) 1 < heldIn (a .l .now) (a .c) .variables = omega (arith, n, c .before .before .before .before .before .before .before .before .before .if1 .left) in
+    let n : c .before .before .before .before .before .before .before .before .before .before .small .result ≡ heldIn (a .words .now) (a .c) .variables = c .before .before .before .before .before .before .before .before .before .before .small .ensures ∙ rw (c .before .before .before .before .before .before .before .before .before .before .before .word .ensures) in
+    let there : byte (a .statement .now) 1 < heldIn (a .words .now) (a .c) .variables = omega (arith, n, c .before .before .before .before .before .before .before .before .before .if1 .left) in
     let z = c .before .before .before .before .before .before .before .before .signed-at in
     let x = c .before .before .before .before .value in
     let y = c .before .before .before .sum in
-    let e : toZ w16 (ofZ w16 (y .result)) ≡ getD (valuesIn (a .v .now) (a .c)) (byte (a .h .now) 1) (pos 0) +ℤ complement (word (a .h .now) 2) =
-    toZ-ofZ w16 (y .result) (sfits-of (y .ok)) ∙ (y .ensures ∙ rw (toZ-ofZ w16 (x .result) (sfits-of (x .ok)), toZ-ofZ w16 (z .result) (sfits-of (z .ok)), z .ensures, x .ensures, getD-take (heldIn (a .l .now) (a .c) .variables) (valuesIn (a .v .now) (a .c)) (byte (a .h .now) 1) (pos 0) there)) in
-    let xs = set (valuesIn (a .v .now) (a .c)) (byte (a .h .now) 1) (getD (valuesIn (a .v .now) (a .c)) (byte (a .h .now) 1) (pos 0) +ℤ complement (word (a .h .now) 2)) in
-    carried-values (a .h .now) (a .l .now) (a .v .now) (a .c) (p .0) xs (value-added (a .h .now) (heldIn (a .l .now) (a .c)) (nodeIn (a .l .now) (a .v .now) (a .c)) (p .0) xs there (omega (arith, p .1, p .2, c .before .before .before .before .before .before .if2 .left)) refl)
-    (rw e at (c .before .put-value2 .ensures (a .l .now)))
+    let e : toZ w16 (ofZ w16 (y .result)) ≡ getD (valuesIn (a .values .now) (a .c)) (byte (a .statement .now) 1) (pos 0) +ℤ complement (word (a .statement .now) 2) =
+    toZ-ofZ w16 (y .result) (sfits-of (y .ok)) ∙ (y .ensures ∙ rw (toZ-ofZ w16 (x .result) (sfits-of (x .ok)), toZ-ofZ w16 (z .result) (sfits-of (z .ok)), z .ensures, x .ensures, getD-take (heldIn (a .words .now) (a .c) .variables) (valuesIn (a .values .now) (a .c)) (byte (a .statement .now) 1) (pos 0) there)) in
+    let xs = set (valuesIn (a .values .now) (a .c)) (byte (a .statement .now) 1) (getD (valuesIn (a .values .now) (a .c)) (byte (a .statement .now) 1) (pos 0) +ℤ complement (word (a .statement .now) 2)) in
+    carried-values (a .statement .now) (a .words .now) (a .values .now) (a .c) (p .0) xs (value-added (a .statement .now) (heldIn (a .words .now) (a .c)) (nodeIn (a .words .now) (a .values .now) (a .c)) (p .0) xs there (omega (arith, p .1, p .2, c .before .before .before .before .before .before .if2 .left)) refl)
+    (rw e at (c .before .put-value2 .ensures (a .words .now)))
 
 pub update-statement-spec : {M : Type 1} → statement M
 update-statement-spec =

@@ -15,7 +15,7 @@ same-length : tie.Need-same-length
 same-length c = search needs
 
 returns : tie.Need-returns
-returns c = let a = c .before .before .before .before .before .before .before .before .args in c .before .before .enter-statement .ensures (a .v .now)
+returns c = let a = c .before .before .before .before .before .before .before .before .args in c .before .before .enter-statement .ensures (a .values .now)
 
 word-requires : tie.Need-word-requires
 word-requires c κs = search needs
@@ -34,7 +34,7 @@ returns-2 c =
     let s = c .before .before .before .before .before .before .before .before .before .before .before in
     let a = s .args in
     let p = s .pre in
-    carried-slept (a .h .now) (a .l .now) (a .v .now) (a .c) (p .0) (c .before .before .before .before .before .before .if2 .taken) (c .before .before .before .before .word .result) (c .before .before .before .before .word .ensures) (c .before .before .put-sleeps .ensures (a .v .now))
+    carried-slept (a .statement .now) (a .words .now) (a .values .now) (a .c) (p .0) (c .before .before .before .before .before .before .if2 .taken) (c .before .before .before .before .word .result) (c .before .before .before .before .word .ensures) (c .before .before .put-sleeps .ensures (a .values .now))
 
 update-statement-requires : tie.Need-update-statement-requires
 update-statement-requires c κs = search needs
@@ -53,7 +53,7 @@ returns-4 c =
     let s = c .before .before .before .before .before .before .before in
     let a = s .args in
     let p = s .pre in
-    carried-idle (a .h .now) (a .l .now) (a .v .now) (a .c) (p .0) (omega (arith, c .before .if3 .left)) (omega (arith, c .if4 .taken))
+    carried-idle (a .statement .now) (a .words .now) (a .values .now) (a .c) (p .0) (omega (arith, c .before .if3 .left)) (omega (arith, c .if4 .taken))
 
 clock-statement-requires : tie.Need-clock-statement-requires
 clock-statement-requires c κs = search needs
@@ -62,7 +62,7 @@ same-length-5 : tie.Need-same-length-5
 same-length-5 c = search needs
 
 returns-5 : tie.Need-returns-5
-returns-5 c = let a = c .before .before .before .before .before .before .before .before .before .before .before .args in c .before .before .clock-statement .ensures (a .v .now)
+returns-5 c = let a = c .before .before .before .before .before .before .before .before .before .before .before .args in c .before .before .clock-statement .ensures (a .values .now)
 
 pub work-statement-spec : {M : Type 1} → statement M
 work-statement-spec =

@@ -8,18 +8,18 @@ use Rattle.node.proofs.candidate.keeps.Statement.{statement}
 use Rattle.node.proofs.candidate.keeps.Tie as tie
 
 returns : tie.Need-returns
-returns c = let a = c .before .before .args in sym (keep-open (a .x) (a .e) (a .k) (not-true _ (c .if1 .taken)))
+returns c = let a = c .before .before .args in sym (keep-open (a .trial) (a .edge) (a .kept) (not-true _ (c .if1 .taken)))
 
 returns-2 : tie.Need-returns-2
 returns-2 c =
     let a = c .before .before .before .before .args in
-    sym (keep-bad (a .x) (a .e) (a .k) (not-false _ (c .before .before .if1 .left)) (not-true _ (c .if2 .taken)))
+    sym (keep-bad (a .trial) (a .edge) (a .kept) (not-false _ (c .before .before .if1 .left)) (not-true _ (c .if2 .taken)))
 
 returns-3 : tie.Need-returns-3
 returns-3 c =
     let s = c .before .before .before .before in
     let a = s .before .before .args in
-    sym (keep-narrow (a .x) (a .e) (a .k) (not-false _ (s .if1 .left)) (not-false _ (c .before .before .if2 .left)) (c .if3 .taken))
+    sym (keep-narrow (a .trial) (a .edge) (a .kept) (not-false _ (s .if1 .left)) (not-false _ (c .before .before .if2 .left)) (c .if3 .taken))
 
 both-requires : tie.Need-both-requires
 both-requires c κs = search needs
@@ -29,14 +29,14 @@ returns-4 c =
     let t = c .before .before .before in
     let s = t .before .before .before .before .before in
     let a = s .before .before .args in
-    sym (keep-later (a .x) (a .e) (a .k) (not-false _ (s .if1 .left)) (not-false _ (t .before .before .before .if2 .left)) (omega arith) (sym (c .before .both .ensures) ∙ c .if4 .taken))
+    sym (keep-later (a .trial) (a .edge) (a .kept) (not-false _ (s .if1 .left)) (not-false _ (t .before .before .before .if2 .left)) (omega arith) (sym (c .before .both .ensures) ∙ c .if4 .taken))
 
 returns-5 : tie.Need-returns-5
 returns-5 c =
     let t = c .before .before .before in
     let s = t .before .before .before .before .before in
     let a = s .before .before .args in
-    sym (keep-new (a .x) (a .e) (a .k) (not-false _ (s .if1 .left)) (not-false _ (t .before .before .before .if2 .left)) (omega arith) (sym (c .before .both .ensures) ∙ c .if4 .left))
+    sym (keep-new (a .trial) (a .edge) (a .kept) (not-false _ (s .if1 .left)) (not-false _ (t .before .before .before .if2 .left)) (omega arith) (sym (c .before .both .ensures) ∙ c .if4 .left))
 
 pub keeps-spec : {M : Type 1} → statement M
 keeps-spec = tie.close (tie.spec returns returns-2 returns-3 both-requires returns-4 returns-5)
