@@ -12,8 +12,8 @@ use lib.Seq.{getD-set-same, getD-set-other}
 use Rattle.model.specs.Table.{Table}
 use Rattle.model.specs.Window.{listens, channelOf}
 use Rattle.model.specs.Places.{readOf}
-use Rattle.model.specs.Schedule.{Passage, passageArc, heardBy, endsSooner, sooner, earliest, carried, messageIn, withMessage}
-use Rattle.rows.specs.Rows.{num, messageOf, rowPassage, rowsFrom, rowsOf, RowPlaced, RowsPlaced, MessagesPut}
+use Rattle.model.specs.Schedule.{Passage, passageArc, heardBy, endsSooner, sooner, earliest, carried, messageIn, bare}
+use Rattle.rows.specs.Rows.{num, messageOf, rowPassage, rowsFrom, rowsOf, RowPlaced, RowsPlaced, Told, MessagesPut}
 
 -- ## What a search reads: component, edge, ready and end
 
@@ -66,16 +66,13 @@ module _ (f : Passage → Passage) (k : Keeps f) where
       rw (kept-arc T v) (ap (λ (o : Option ℕ). cond (listens (passageArc T v)) o (channelOf (passageArc T v))) found)
 
 -- without the message
-abbrev bare : Passage → Passage
-bare v = withMessage v none
-
-bare-message : (T : Table) (H : ℕ) (vs : List Passage) (v : Passage) → messageIn T H (map bare vs) (bare v) ≡ messageIn T H vs v
+pub bare-message : (T : Table) (H : ℕ) (vs : List Passage) (v : Passage) → messageIn T H (map bare vs) (bare v) ≡ messageIn T H vs v
 bare-message = kept-message bare (record { component = λ v. refl; edge = λ v. refl; ready = λ v. refl; end = λ v. refl })
 
 -- ## Rows that agree in all but the message
 
 module _ (l k : List ℕ) (n : ℕ) (agree : (i m : ℕ) → i < n → m < 9 → (m ≡ 6 → ⊥) → num k i m ≡ num l i m) where
-  row-bare : (i : ℕ) → i < n → bare (rowPassage k i) ≡ bare (rowPassage l i)
+  pub row-bare : (i : ℕ) → i < n → bare (rowPassage k i) ≡ bare (rowPassage l i)
   row-bare i h =
       rw (
         agree i 0 h (omega arith) (λ e. omega arith),
@@ -86,7 +83,7 @@ module _ (l k : List ℕ) (n : ℕ) (agree : (i m : ℕ) → i < n → m < 9 →
         agree i 5 h (omega arith) (λ e. omega arith),
       )
 
-  rows-bare : (i m : ℕ) → i + m ≤ n → map bare (rowsFrom k i m) ≡ map bare (rowsFrom l i m)
+  pub rows-bare : (i m : ℕ) → i + m ≤ n → map bare (rowsFrom k i m) ≡ map bare (rowsFrom l i m)
   unfolding rowsFrom
   rows-bare i zero h = refl
   rows-bare i (suc m) h = ap₂ (λ (v : Passage) (vs : List Passage). v ∷ vs) (row-bare i (omega arith)) (rows-bare (suc i) m (omega arith))
@@ -137,11 +134,12 @@ pub record PutBelow (bs : List ℕ) (H n : ℕ) (before after : List ℕ) (i : �
   pub same : length after ≡ length before
   pub message : (j : ℕ) → j < i → messageOf (num after j 6) ≡ messageIn (readOf bs .table) H (rowsOf before n) (rowPassage before j)
   pub rest : (j k : ℕ) → j < n → k < 9 → (k ≡ 6 → ⊥) → num after j k ≡ num before j k
+  pub later : (j : ℕ) → i ≤ j → num after j 6 ≡ num before j 6
   pub past : (j : ℕ) → n * 9 ≤ j → getD after j 0 ≡ getD before j 0
 
 pub put-none : (bs : List ℕ) (H n : ℕ) (l : List ℕ) → PutBelow bs H n l l 0
 put-none bs H n l =
-    record { same = refl; message = λ j h. absurd (omega arith); rest = λ j k h b d. refl; past = λ j h. refl }
+    record { same = refl; message = λ j h. absurd (omega arith); rest = λ j k h b d. refl; later = λ j h. refl; past = λ j h. refl }
 
 module _ (bs : List ℕ) (H n : ℕ) (l k : List ℕ) (i : ℕ) (r : RowsPlaced bs l n) (p : PutBelow bs H n l k i) where
   -- the rows are still a schedule's
@@ -159,6 +157,7 @@ module _ (bs : List ℕ) (H n : ℕ) (l k : List ℕ) (i : ℕ) (r : RowsPlaced 
         same = length-set k (i * 9 + 6) m ∙ p .same;
         message = λ j b. at-row j b (eqb j i) refl;
         rest = λ j c a b d. getD-set-other k (i * 9 + 6) (j * 9 + c) m 0 (λ q. d (omega arith)) ∙ p .rest j c a b d;
+        later = λ j a. getD-set-other k (i * 9 + 6) (j * 9 + 6) m 0 (λ q. omega arith) ∙ p .later j (omega arith);
         past = λ j a. getD-set-other k (i * 9 + 6) j m 0 (λ q. omega arith) ∙ p .past j a;
       }
     where
@@ -171,6 +170,13 @@ module _ (bs : List ℕ) (H n : ℕ) (l k : List ℕ) (i : ℕ) (r : RowsPlaced 
           let d = eqb-false j i q in
           let c : j < i = omega arith in
           rw (getD-set-other k (i * 9 + 6) (j * 9 + 6) m 0 (λ q. d (omega arith))) (p .message j c)
+
+  -- the next row has its message if it had it
+  pub still-told : i < n → (num l i 5 < H → Told bs H l n i) → num k i 5 < H → Told bs H k n i
+  still-told h t e =
+      ap messageOf (p .later i (omega arith))
+      ∙ t (omega (arith, p .rest i 5 h (omega arith) (λ q. omega arith)))
+      ∙ sym (same-message l k n (p .rest) (readOf bs .table) H i h)
 
   pub put-all : n ≤ i → MessagesPut bs H n l k
   put-all h = record { same = p .same; message = λ j a. p .message j (omega arith); rest = p .rest; past = p .past }

@@ -66,6 +66,10 @@ pub record RowsPlaced (bs l : List ℕ) (n : ℕ) : Type 0 where
   pub back : (j : ℕ) → j < n → num l j 8 ≤ j
   pub skips : (j i : ℕ) → j < n → num l j 8 ≤ i → i < j → num l i 5 ≤ num l j 5
 
+-- row i has the message that is found among n rows
+abbrev pub Told : List ℕ → ℕ → List ℕ → ℕ → ℕ → Type 0
+Told bs H l n i = messageOf (num l i 6) ≡ messageIn (readOf bs .table) H (rowsOf l n) (rowPassage l i)
+
 -- after: each of n rows has the message that is found among the rows before, all else stays
 pub record MessagesPut (bs : List ℕ) (H n : ℕ) (before after : List ℕ) : Type 0 where
   pub same : length after ≡ length before

@@ -3,12 +3,12 @@ ghost use mathlib.Core.Path.{_≡_};
 ghost use mathlib.Core.Option.{none};
 ghost use mathlib.Core.List.{[], _∷_};
 ghost use Prim.Native.Nat.{ℕ, _+_, _*_, _≤_, _<_};
-ghost use lib.ListN.{length};
+ghost use lib.ListN.{length, set};
 ghost use lib.Seq.{sets};
 ghost use Rattle.model.specs.Window.{channelOf, listens};
 ghost use Rattle.model.specs.Places.{arcAt, readOf};
 ghost use Rattle.model.specs.Schedule.{passageArc, names, heardBy, endsSooner, sooner, earliest, messageIn};
-ghost use Rattle.rows.specs.Rows.{num, messageOf, rowPassage, rowsOf, RowsPlaced, MessagesPut, EdgeStands, RowKnown, Linked, inTime, bestOf, heardRow, soonerFirst, heardFirst};
+ghost use Rattle.rows.specs.Rows.{num, messageOf, rowPassage, rowsOf, RowsPlaced, Told, MessagesPut, EdgeStands, RowKnown, Linked, inTime, bestOf, heardRow, soonerFirst, heardFirst};
 use model::Action;
 
 // The numbers of a row: a passage's seven fields, the place of its edge in the table, and the row that a walk backward goes on with.
@@ -301,15 +301,34 @@ pub fn message(s: &[u8], l: &[u32], n: usize, i: usize, h: u32) -> u8
     255
 }
 
-// Gives each of n rows its message. (The other numbers stay.)
+// Gives row i that message.
+pub fn put_message(l: &mut [u32], i: usize, message: u8)
+    requires { ⌜ (i * 9 + 9 ≤ length (now l)) × (i ≤ 1024) ⌝ }
+    ensures { λ _. ⌜ now (l .exit) ≡ set (now (l .entry)) (i * 9 + 6) message ⌝ }
+{
+    l[i * WIDTH + MESSAGE] = wide(message);
+}
+
+// The message of the passage of row i among n rows (255: none), which the row has if it ends before the tick h.
+fn message_then(s: &[u8], l: &[u32], n: usize, i: usize, h: u32) -> u32
+    requires { ⌜ RowsPlaced (now s) (now l) n × (i < n) × (num (now l) i 5 < h → Told (now s) h (now l) n i) ⌝ }
+    ensures { λ r. ⌜ messageOf r ≡ messageIn (readOf (now (s .entry)) .table) h (rowsOf (now (l .entry)) n) (rowPassage (now (l .entry)) i) ⌝ }
+{
+    if number(l, i, END) < h {
+        return number(l, i, MESSAGE);
+    }
+    wide(message(s, l, n, i, h))
+}
+
+// Gives each of n rows its message; those that end before the tick h have theirs. (The other numbers stay.)
 pub fn put_messages(s: &[u8], l: &mut [u32], n: usize, h: u32)
-    requires { ⌜ RowsPlaced (now s) (now l) n ⌝ }
+    requires { ⌜ RowsPlaced (now s) (now l) n × ((i : ℕ) → i < n → num (now l) i 5 < h → Told (now s) h (now l) n i) ⌝ }
     ensures { λ _. ⌜ MessagesPut (now (s .entry)) h n (now (l .entry)) (now (l .exit)) ⌝ }
 {
     let mut i: usize = 0;
     while i < n {
-        let m = message(s, l, n, i, h);
-        l[i * WIDTH + MESSAGE] = wide(m);
+        let m = message_then(s, l, n, i, h);
+        l[i * WIDTH + MESSAGE] = m;
         i += 1;
     }
 }

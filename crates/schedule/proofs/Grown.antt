@@ -106,7 +106,7 @@ module _ (bs l : List ℕ) (n back c : ℕ) (at : Entry) (t : TakenEdge) (fits :
     pub new-end : num l′ n 5 ≡ at .tick + t .end
     new-end = new 5 (omega arith)
 
-    same-passage : (j : ℕ) → j < n → rowPassage l′ j ≡ rowPassage l j
+    pub same-passage : (j : ℕ) → j < n → rowPassage l′ j ≡ rowPassage l j
     same-passage j h =
         rw (
           same j 0 h (omega arith),
@@ -126,7 +126,7 @@ module _ (bs l : List ℕ) (n back c : ℕ) (at : Entry) (t : TakenEdge) (fits :
           entry = o .entry;
           end = o .end;
           row = omega (arith, o .row);
-          shown = same-passage (node .row) (o .row) ∙ o .shown;
+          shown = ap bare (same-passage (node .row) (o .row)) ∙ o .shown;
           place = same (node .row) 7 (o .row) (omega arith) ∙ o .place;
           young = o .young;
         }
@@ -143,15 +143,19 @@ module _ (bs l : List ℕ) (n back c : ℕ) (at : Entry) (t : TakenEdge) (fits :
           entry = refl;
           end = refl;
           row = omega arith;
-          shown = new-passage;
+          shown = ap bare new-passage;
           place = new 7 (omega arith);
           young = y;
         }
 
-    -- the rows are the passages
-    pub rows-now : (vs : List Passage) → rowsOf l n ≡ map bare vs → rowsOf l′ (n + 1) ≡ map bare (snoc vs (made bs c at t))
+    -- the rows, and that they are the passages
+    pub rows-more : rowsOf l′ (n + 1) ≡ snoc (rowsOf l n) (bare (made bs c at t))
+    rows-more = rw is (rows-added l n c (t .edge) (at .location) (at .tick) (at .tick + t .ready) (at .tick + t .end) (t .place) back fits)
+
+    pub rows-now : (vs : List Passage) → map bare (rowsOf l n) ≡ map bare vs → map bare (rowsOf l′ (n + 1)) ≡ map bare (snoc vs (made bs c at t))
     rows-now vs e =
-        rw is (rows-added l n c (t .edge) (at .location) (at .tick) (at .tick + t .ready) (at .tick + t .end) (t .place) back fits)
+        ap (map bare) rows-more
+        ∙ map-snoc bare (rowsOf l n) (bare (made bs c at t))
         ∙ ap (λ xs. snoc xs (bare (made bs c at t))) e
         ∙ sym (map-snoc bare vs (made bs c at t))
 

@@ -6,6 +6,7 @@ pub mod Least
 pub mod Fields
 pub mod Leads
 pub mod Tables
+pub mod Told
 pub mod Turns
 pub mod Whole
 pub mod Edges

@@ -1,14 +1,17 @@
 -- The two loops of the schedule, turn by turn. Assumes nothing.
 use mathlib.Core.Path.{_≡_, refl, sym, ap, ap₂, subst, _∙_}
+use mathlib.Core.Logic.{by-cases}
 use mathlib.Core.List.{List, [], _∷_, map}
 use mathlib.Core.Option.{Option}
 use Prim.Native.Nat.{ℕ, zero, suc, _+_, _-_, _*_, _≤_, _<_}
 use native.Mathlib.Omega.{arith}
+use native.Mathlib.Decide.{ℕ-discrete}
 use mir.Val.{Fits}
 use mir.Syntax.{w8}
 use lib.IntN.{pos}
-use lib.ListN.{length, getD, drop, replicate, length-map}
-use lib.Seq.{sets}
+use borrow.Author.Count.{below-more}
+use lib.ListN.{length, getD, set, drop, replicate, length-map}
+use lib.Seq.{sets, length-sets, getD-set-same, getD-set-other}
 use Rattle.model.specs.declared.Verdict.the-variants.{Accepted, Refused}
 use Rattle.model.specs.Lists.{All, empty, more, snoc, Answer, accepted, refused, _after_}
 use Rattle.model.specs.Table.{Component, size, arcOf}
@@ -23,15 +26,16 @@ use Rattle.window.specs.declared.Opening.{Opening}
 use Rattle.window.specs.declared.Opening.the-variants.{Opens, Fails}
 use Rattle.window.specs.declared.TakenEdge.{TakenEdge}
 use Rattle.window.specs.Views.{entryOf, openingOf, Placed}
-use Rattle.rows.specs.Rows.{num, rowPassage, rowsFrom, rowsOf, RowsPlaced}
+use Rattle.rows.specs.Rows.{num, rowPassage, rowsFrom, rowsOf, RowsPlaced, Told}
 use Rattle.schedule.specs.declared.Node.{Node}
 use Rattle.schedule.specs.declared.Turn.{Turn}
 use Rattle.schedule.specs.declared.Scheduled.{Scheduled}
-use Rattle.schedule.specs.Going.{cut, Soonest, Stands, Turned, Open, blank, Going, fresh, begun, Started, unfinished, Listed}
+use Rattle.schedule.specs.Going.{cut, keptOf, Soonest, Stands, Turned, Open, blank, Going, fresh, begun, Started, unfinished, Listed}
 use Rattle.schedule.proofs.Cut.{leaves-cut, start-cut}
 use Rattle.schedule.proofs.Bare.{message-of-bare}
 use Rattle.schedule.proofs.Closing.{begin-turn, begin-fails, begin-done, stops, no-room, fails, goes}
-use Rattle.schedule.proofs.Grown.{made, opens-made, opens-not, length-rows, no-rows, stands, keeps, until, begun-on, first-on, going-on}
+use Rattle.schedule.proofs.Grown.{made, opens-made, opens-not, length-rows, no-rows, stands, same, same-passage, rows-more, keeps, until, begun-on, first-on, going-on}
+use Rattle.schedule.proofs.Told.{relabelled, stays, going-still, told-now, told-still}
 use Rattle.schedule.proofs.Tables.{few-components, horizon-small, limits-of}
 
 -- ## The openings at tick 0
@@ -46,6 +50,7 @@ pub record Beginning (bs l : List ℕ) (c : ℕ) (nodes : List Node) (ends : Lis
   pub begins : begin (1024 - c) c (drop c (readOf bs .table .components)) first ≡ begun bs
   pub going : Going bs l c c nodes ends (fresh first)
   pub zero : (j : ℕ) → j < c → num l j 3 ≡ 0
+  pub own : (j : ℕ) → j < c → getD nodes j blank .row ≡ j
 
 pub begin-first : (bs l : List ℕ) (nodes : List Node) (ends : List ℕ) → Valid bs → Beginning bs l 0 nodes ends
 unfolding rowsFrom
@@ -71,6 +76,7 @@ begin-first bs l nodes ends v =
             entered = λ i c h k. absurd (omega arith);
           };
       zero = λ j h. absurd (omega arith);
+      own = λ j h. absurd (omega arith);
     }
 
 module _ (bs l : List ℕ) (b : (j : ℕ) → Fits w8 (getD bs j 0)) (c : ℕ) (nodes : List Node) (ends : List ℕ) (g : Beginning bs l c nodes ends) where
@@ -85,6 +91,7 @@ module _ (bs l : List ℕ) (b : (j : ℕ) → Fits w8 (getD bs j 0)) (c : ℕ) (
         first = g .first;
         begins = begin-done (readOf bs .table .components) (1024 - c) c (g .first) (begun bs) (g .begins) h;
         going = subst (λ n. Going bs l n n nodes ends (fresh (g .first))) e (g .going);
+        own = λ d a. g .own d (omega arith);
       }
 
   module _ (there : c < size (readOf bs .table)) (at : Entry) (location : at .location ≡ componentIn bs c .initial) (tick : at .tick ≡ 0)
@@ -122,15 +129,24 @@ module _ (bs l : List ℕ) (b : (j : ℕ) → Fits w8 (getD bs j 0)) (c : ℕ) (
                 (ap (opening c (componentIn bs c)) starts ∙ o));
             going = begun-on bs l c c c at t fits l′ is o there p′ (omega arith) (omega (arith, few-components bs b valid)) young nodes ends h k (g .first) (g .going) refl refl tick (g .zero);
             zero = first-on bs l c c c at t fits l′ is o there p′ (omega arith) (omega (arith, few-components bs b valid)) young nodes ends h k tick (g .zero);
+            own = below-more (λ j. getD (keeps nodes c c at t) j blank .row ≡ j) c
+                (λ j a. ap (λ (x : Node). x .row) (getD-set-other nodes c j (keptOf at t c) blank (λ q. omega arith)) ∙ g .own j a)
+                (ap (λ (x : Node). x .row) (getD-set-same nodes c (keptOf at t c) blank h));
           }
 
 -- ## The passages that close below the horizon
 
--- so many passages have opened
+-- the passage of row i has closed: it ends no later than the open ones, and has its message
+pub record Closed (bs l : List ℕ) (n : ℕ) (ends : List ℕ) (i : ℕ) : Type 0 where
+  pub ended : (c : ℕ) → c < size (readOf bs .table) → num l i 5 ≤ getD ends c 0
+  pub told : Told bs (readOf bs .horizon) l n i
+
+-- so many passages have opened; a row is that of an open passage, or its passage has closed
 pub record Progress (bs l : List ℕ) (n : ℕ) (nodes : List Node) (ends : List ℕ) : Type 0 where
   pub soFar : OpenedSoFar
   pub same : goOn (readOf bs .table) (readOf bs .horizon) (1024 - n) soFar ≡ unfinished bs
   pub going : Going bs l n (size (readOf bs .table)) nodes ends soFar
+  pub closed : (i : ℕ) → i < n → ((c : ℕ) → c < size (readOf bs .table) → getD nodes c blank .row ≡ i → ⊥) → Closed bs l n ends i
 
 pub progress-first : (bs l : List ℕ) (n : ℕ) (nodes : List Node) (ends : List ℕ) → Started bs l nodes ends → n ≡ size (readOf bs .table) → Progress bs l n nodes ends
 progress-first bs l n nodes ends s e =
@@ -138,6 +154,7 @@ progress-first bs l n nodes ends s e =
       soFar = fresh (s .first);
       same = rw e (sym (ap (λ a. a after λ vs. goOn (readOf bs .table) (readOf bs .horizon) (1024 - size (readOf bs .table)) (fresh vs)) (s .begins)));
       going = subst (λ m. Going bs l m (size (readOf bs .table)) nodes ends (fresh (s .first))) (sym e) (s .going);
+      closed = λ i h o. absurd (o i (omega arith) (s .own i (omega arith)));
     }
 
 -- the entry of what opens is at the tick where the passage ends
@@ -149,14 +166,15 @@ pub listed-is : (r : Scheduled) (n : ℕ) → r .verdict ≡ Accepted → r .cou
 listed-is r n p q = rw (← p, ← q)
 
 -- the answer of a loop that ends
-pub listed-accepted : {bs l : List ℕ} {n : ℕ} {a : Answer (List Passage)} (S : List Passage) → a ≡ accepted S → rowsOf l n ≡ map bare S → RowsPlaced bs l n
-    → Listed bs a (record { verdict = Accepted; count = n }) l
-listed-accepted {bs} {l} {n} {a} S e r p =
+pub listed-accepted : {bs l : List ℕ} {n : ℕ} {a : Answer (List Passage)} (S : List Passage) → a ≡ accepted S → map bare (rowsOf l n) ≡ map bare S → RowsPlaced bs l n
+    → ((i : ℕ) → i < n → num l i 5 < readOf bs .horizon → Told bs (readOf bs .horizon) l n i) → Listed bs a (record { verdict = Accepted; count = n }) l
+listed-accepted {bs} {l} {n} {a} S e r p told =
     record {
       verdict = sym (ap verdictOf e);
-      count = λ W q. sym (length-rows l 0 n) ∙ ap length r ∙ length-map S bare ∙ ap length (same-list q);
+      count = λ W q. sym (length-rows l 0 n) ∙ sym (length-map (rowsOf l n) bare) ∙ ap length r ∙ length-map S bare ∙ ap length (same-list q);
       rows = λ W q. r ∙ ap (map bare) (same-list q);
       placed = p;
+      told = told;
       none = λ k c q. (let z : _≡_ {A = ℕ} 0 1 = cc in absurd (omega arith));
     }
   where
@@ -171,6 +189,7 @@ listed-refused {bs} {l} {n} {a} r k c e p v z =
       count = λ W q. (let z : _≡_ {A = ℕ} 0 1 = cc in absurd (omega arith));
       rows = λ W q. (let z : _≡_ {A = ℕ} 0 1 = cc in absurd (omega arith));
       placed = rw z (no-rows p);
+      told = λ i h. absurd (omega arith);
       none = λ k c q. z;
     }
 
@@ -199,10 +218,15 @@ module _ (bs l : List ℕ) (b : (j : ℕ) → Fits w8 (getD bs j 0)) (n : ℕ) (
   pub node-stands : Stands l n c (getD nodes c blank) (getD ends c 0)
   node-stands = stands open-now
 
+  -- the row of an open passage ends where that ends
+  row-end : (d : ℕ) → d < size T → num l (getD nodes d blank .row) 5 ≡ getD ends d 0
+  row-end d h = stands (g .going .each d h) .end
+
   -- it reaches the horizon
   pub loop-stops : H ≤ getD ends c 0 → Listed bs (unfinished bs) (record { verdict = Accepted; count = n }) l
   loop-stops h =
       listed-accepted (g .soFar .listed) (sym (g .same) ∙ stops T H (g .soFar) ends c s (g .going .full) ends-are (1024 - n) h) (g .going .rows) (g .going .placed)
+      (λ i a k. g .closed i a (λ d b q. omega (arith, s .least d b, row-end d b, ap (λ j. num l j 5) q)) .told)
 
   module _ (below : getD ends c 0 < H) where
     -- 7
@@ -221,7 +245,10 @@ module _ (bs l : List ℕ) (b : (j : ℕ) → Fits w8 (getD bs j 0)) (n : ℕ) (
           (subst (λ e. e < length (componentIn bs (num l i 0) .arcs)) (ap (λ (x : Passage). x .edge) (open-now .shown)) (g .going .placed .row i (open-now .row) .there))
 
       message-is : messageIn T H (rowsOf l n) (rowPassage l (getD nodes c blank .row)) ≡ messageIn T H (g .soFar .listed) v
-      message-is = ap₂ (messageIn T H) (g .going .rows) (open-now .shown) ∙ message-of-bare T H (g .soFar .listed) v
+      message-is =
+          sym (message-of-bare T H (rowsOf l n) (rowPassage l (getD nodes c blank .row)))
+          ∙ ap₂ (messageIn T H) (g .going .rows) (open-now .shown)
+          ∙ message-of-bare T H (g .soFar .listed) v
 
       entry-is : entryOf (t .at) ≡ leaves (arcOf C (v .edge)) (messageIn T H (g .soFar .listed) v) (getD ends c 0) (entryOf (getD nodes c blank .entry))
       entry-is =
@@ -252,22 +279,77 @@ module _ (bs l : List ℕ) (b : (j : ℕ) → Fits w8 (getD bs j 0)) (n : ℕ) (
           (ap (opening c C) leads ∙ opens-not bs c (limits-of bs b (g .going .placed .valid) c present) (t .at) (u .there) (t .opening) (u .opens) q))
           (g .going .placed) p z
 
-      -- it opens
-      pub loop-on : {e : TakenEdge} → t .opening ≡ Opens e → n * 9 + 9 ≤ length l → (back : ℕ) → back ≤ n
-          → ((i : ℕ) → back ≤ i → i < n → num l i 5 ≤ t .at .tick + e .end) → (l′ : List ℕ)
-          → l′ ≡ sets l (n * 9) (c ∷ e .edge ∷ t .at .location ∷ t .at .tick ∷ (t .at .tick + e .ready) ∷ (t .at .tick + e .end) ∷ 255 ∷ e .place ∷ back ∷ [])
-          → c < length nodes → c < length ends → Progress bs l′ (n + 1) (keeps nodes n c (t .at) e) (until ends c (t .at) e)
-      loop-on {e} q fits back among skips l′ is h k =
-          let o = opens-made bs c (limits-of bs b (g .going .placed .valid) c present) (t .at) (u .there) (t .opening) (u .opens) q in
-          let p : Placed bs (startOf bs c) c (Opens e) = subst (Placed bs (startOf bs c) c) q (u .placed) in
-          let w = made bs c (t .at) e in
-          let m : 1024 - n - 1 ≡ 1024 - (n + 1) = omega arith in
-          record {
-            soFar = put (g .soFar) w;
-            same =
-                ap (λ r. goOn T H r (put (g .soFar) w)) (sym m)
-                ∙ sym (goes T H (g .soFar) ends c s (g .going .full) ends-are below (1024 - n) (omega arith) w (ap (opening c C) leads ∙ o))
-                ∙ g .same;
-            going = going-on bs l n back c (t .at) e fits l′ is o present p (omega (arith, horizon-small bs b (g .going .placed .valid), tick-is)) room
-                (rw tick-is (u .young)) nodes ends h k (g .going) s tick-is among skips;
-          }
+      -- it opens, and the passage that closed gets its message
+      module _ {e : TakenEdge} (q : t .opening ≡ Opens e) (fits : n * 9 + 9 ≤ length l) (back : ℕ) (among : back ≤ n)
+          (skips : (i : ℕ) → back ≤ i → i < n → num l i 5 ≤ t .at .tick + e .end) (l′ : List ℕ)
+          (is : l′ ≡ sets l (n * 9) (c ∷ e .edge ∷ t .at .location ∷ t .at .tick ∷ (t .at .tick + e .ready) ∷ (t .at .tick + e .end) ∷ 255 ∷ e .place ∷ back ∷ []))
+          (in-nodes : c < length nodes) (in-ends : c < length ends) where
+        abbrev w : Passage
+        w = made bs c (t .at) e
+
+        opens : opening c C (cut C (entryOf (t .at))) ≡ accepted w
+        opens = opens-made bs c (limits-of bs b (g .going .placed .valid) c present) (t .at) (u .there) (t .opening) (u .opens) q
+
+        opened-going : Going bs l′ (n + 1) (size T) (keeps nodes n c (t .at) e) (until ends c (t .at) e) (put (g .soFar) w)
+        opened-going =
+            let p : Placed bs (startOf bs c) c (Opens e) = subst (Placed bs (startOf bs c) c) q (u .placed) in
+            going-on bs l n back c (t .at) e fits l′ is opens present p (omega (arith, horizon-small bs b (g .going .placed .valid), tick-is)) room
+            (rw tick-is (u .young)) nodes ends in-nodes in-ends (g .going) s tick-is among skips
+
+        same-going : goOn T H (1024 - (n + 1)) (put (g .soFar) w) ≡ unfinished bs
+        same-going =
+            let m : 1024 - n - 1 ≡ 1024 - (n + 1) = omega arith in
+            ap (λ r. goOn T H r (put (g .soFar) w)) (sym m)
+            ∙ sym (goes T H (g .soFar) ends c s (g .going .full) ends-are below (1024 - n) (omega arith) w (ap (opening c C) leads ∙ opens))
+            ∙ g .same
+
+        -- the row of the passage that closed, and the rows with its message
+        abbrev closer : ℕ
+        closer = getD nodes c blank .row
+
+        abbrev l″ : List ℕ
+        l″ = relabelled l′ (n + 1) closer (t .message)
+
+        -- the next row's passage is open, so row i is an earlier one
+        module _ (i : ℕ) (h : i < n + 1) (shut : (d : ℕ) → d < size T → getD (keeps nodes n c (t .at) e) d blank .row ≡ i → ⊥) where
+          earlier : i < n
+          earlier =
+              let z : i ≡ n → ⊥ = λ z. shut c present (ap (λ (x : Node). x .row) (getD-set-same nodes c (keptOf (t .at) e n) blank in-nodes) ∙ sym z) in
+              omega arith
+
+          -- it closed before, unless it closes now
+          before : (i ≡ closer → ⊥) → Closed bs l n ends i
+          before z = g .closed i earlier
+              (λ d a y. by-cases (ℕ-discrete d c)
+              (λ x. z (sym y ∙ ap (λ j. getD nodes j blank .row) x))
+              (λ x. shut d a (ap (λ (k : Node). k .row) (getD-set-other nodes c d (keptOf (t .at) e n) blank x) ∙ y)))
+
+          ended : (d : ℕ) → d < size T → num l i 5 ≤ getD ends d 0
+          ended d a = by-cases (ℕ-discrete i closer)
+              (λ z. omega (arith, s .least d a, row-end c present, ap (λ j. num l j 5) z))
+              (λ z. before z .ended d a)
+
+          ended-then : (d : ℕ) → d < size T → num l″ i 5 ≤ getD (until ends c (t .at) e) d 0
+          ended-then d a =
+              let x : num l″ i 5 ≡ num l i 5 = stays l′ (n + 1) closer (t .message) i 5 h (omega arith) (λ y. omega arith) ∙ same bs l n back c (t .at) e fits l′ is i 5 earlier (omega arith) in
+              by-cases (ℕ-discrete d c)
+              (λ z. rw (z, getD-set-same ends c (t .at .tick + e .end) 0 in-ends) (omega (arith, x, tick-is, ended c present)))
+              (λ z. rw (getD-set-other ends c d (t .at .tick + e .end) 0 z) (omega (arith, x, ended d a)))
+
+          told : Told bs H l″ (n + 1) i
+          told =
+              let x = same-passage bs l n back c (t .at) e fits l′ is i earlier in
+              let y = rows-more bs l n back c (t .at) e fits l′ is in
+              let f : num l i 5 ≤ t .at .tick + e .end = omega (arith, tick-is, ended c present) in
+              by-cases (ℕ-discrete i closer)
+              (λ z. told-now bs l l′ n closer (t .message) (bare w) y H i earlier x f z (omega (arith, ap length is, length-sets l (n * 9) (c ∷ e .edge ∷ t .at .location ∷ t .at .tick ∷ (t .at .tick + e .ready) ∷ (t .at .tick + e .end) ∷ 255 ∷ e .place ∷ back ∷ []))) (u .message ∙ ap (λ j. messageIn T H (rowsOf l n) (rowPassage l j)) (sym z)))
+              (λ z. told-still bs l l′ n closer (t .message) (bare w) y H i earlier x f z (before z .told))
+
+        pub loop-on : Progress bs l″ (n + 1) (keeps nodes n c (t .at) e) (until ends c (t .at) e)
+        loop-on =
+            record {
+              soFar = put (g .soFar) w;
+              same = same-going;
+              going = going-still l′ (n + 1) closer (t .message) bs opened-going;
+              closed = λ i h shut. record { ended = ended-then i h shut; told = told i h shut };
+            }

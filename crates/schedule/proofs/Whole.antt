@@ -1,7 +1,7 @@
 -- The whole schedule: its messages are put in when all passages are listed. Assumes nothing.
 use mathlib.Core.Path.{_≡_, refl, sym, ap, subst, _∙_}
-use mathlib.Core.List.{List, map}
-use Prim.Native.Nat.{ℕ, _-_}
+use mathlib.Core.List.{List, _∷_, map}
+use Prim.Native.Nat.{ℕ, zero, suc, _-_, _<_}
 use native.Mathlib.Omega.{arith}
 use lib.ListN.{length, length-map}
 use Rattle.model.specs.declared.Verdict.{Verdict}
@@ -14,12 +14,18 @@ use Rattle.model.specs.Checks.{limit, checked, acceptedSchedule}
 use Rattle.model.specs.Calls.{verdictOf}
 use Rattle.model.proofs.Checks.Heard.{checked-is}
 use Rattle.table.proofs.Answered.{verdict-accepted}
-use Rattle.rows.specs.Rows.{rowsOf, RowsPlaced, MessagesPut}
+use Rattle.rows.specs.Rows.{num, rowPassage, rowsFrom, rowsOf, RowsPlaced, Told, MessagesPut}
 use Rattle.rows.proofs.Grown.{put-placed, rows-finished}
 use Rattle.schedule.specs.declared.Scheduled.{Scheduled}
 use Rattle.schedule.specs.Filled.{Filled, scheduleOf, acceptedScheduleIn}
 use Rattle.schedule.specs.Going.{fresh, begun, unfinished, Listed}
 use Rattle.schedule.proofs.Bare.{finished-bare, checked-light}
+
+-- rows keep no clocks and variables
+rows-light : (l : List ℕ) (i n : ℕ) → rowsFrom l i n ≡ map light (rowsFrom l i n)
+unfolding rowsFrom
+rows-light l i zero = refl
+rows-light l i (suc n) = ap (λ vs. rowPassage l i ∷ vs) (rows-light l (suc i) n)
 
 -- one after the other
 after-after : {A B D : Type 0} (a : Answer A) (f : A → Answer B) (g : B → Answer D) → (a after λ x. f x after g) ≡ ((a after f) after g)
@@ -72,6 +78,11 @@ module _ (bs : List ℕ) where
       same-list : {W : List Passage} → a ≡ accepted W → S ≡ W
       same-list q = cc
 
+  -- the rows that end before the horizon have their messages
+  pub told-at : {a : Answer (List Passage)} (r : Scheduled) (l : List ℕ) (H : ℕ) → H ≡ readOf bs .horizon → Listed bs a r l
+      → (i : ℕ) → i < r .count → num l i 5 < H → Told bs H l (r .count) i
+  told-at r l H h g = subst (λ k. (i : ℕ) → i < r .count → num l i 5 < k → Told bs k l (r .count) i) (sym h) (g .told)
+
   -- the loops end, and the messages are put in
   pub filled-put : (r : Scheduled) (l l′ : List ℕ) (H : ℕ) → H ≡ readOf bs .horizon → Listed bs (unfinished bs) r l → MessagesPut bs H (r .count) l l′ → Filled bs (scheduleOf bs) r l′
   unfolding finished
@@ -84,7 +95,8 @@ module _ (bs : List ℕ) where
           let S = finished (readOf bs .table) (readOf bs .horizon) ws in
           filled-accepted r l′ S (schedule-is ∙ ap (λ a. a after λ ws. accepted (finished (readOf bs .table) (readOf bs .horizon) ws)) e) (g .verdict ∙ ap verdictOf e)
           (g .count ws e ∙ sym (length-map ws (λ v. withMessage v (messageIn (readOf bs .table) (readOf bs .horizon) ws v))))
-          (rows-finished bs H (r .count) l l′ p ∙ ap (finished (readOf bs .table) H) (g .rows ws e) ∙ finished-bare (readOf bs .table) H ws
+          (rows-light l′ 0 (r .count) ∙ ap (map light) (rows-finished bs H (r .count) l l′ p)
+          ∙ sym (finished-bare (readOf bs .table) H (rowsOf l (r .count))) ∙ ap (finished (readOf bs .table) H) (g .rows ws e) ∙ finished-bare (readOf bs .table) H ws
           ∙ ap (λ k. map light (finished (readOf bs .table) k ws)) h)
           (put-placed bs H (r .count) l l′ p (g .placed))
 

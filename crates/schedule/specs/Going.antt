@@ -14,7 +14,7 @@ use Rattle.model.specs.declared.Verdict.the-variants.{Accepted}
 use Rattle.window.specs.declared.TakenEdge.{TakenEdge}
 use Rattle.window.specs.Views.{entryOf, openingOf, Placed}
 use Rattle.window.specs.Indexed.{Indexed}
-use Rattle.rows.specs.Rows.{num, rowPassage, rowsOf, RowsPlaced}
+use Rattle.rows.specs.Rows.{num, messageOf, rowPassage, rowsOf, RowsPlaced, Told}
 use Rattle.schedule.specs.declared.Node.{Node}
 use Rattle.schedule.specs.declared.Turn.{Turn}
 use Rattle.schedule.specs.declared.Opened.{Opened}
@@ -45,8 +45,9 @@ pub record Stands (l : List ℕ) (n c : ℕ) (node : Node) (until : ℕ) : Type 
   pub end : num l (node .row) 5 ≡ until
   pub young : All (λ x. x ≤ node .entry .tick) (node .entry .clocks)
 
--- the entry that the passage leads to, and what opens there
+-- the passage's message, the entry that it leads to, and what opens there
 pub record Turned (bs l : List ℕ) (n c H : ℕ) (node : Node) (end : ℕ) (t : Turn) : Type 0 where
+  pub message : messageOf (t .message) ≡ messageIn (readOf bs .table) H (rowsOf l n) (rowPassage l (node .row))
   pub leads : entryOf (t .at)
       ≡ leaves (passageArc (readOf bs .table) (rowPassage l (node .row))) (messageIn (readOf bs .table) H (rowsOf l n) (rowPassage l (node .row))) end (entryOf (node .entry))
   pub there : t .at .location < length (componentIn bs c .locations)
@@ -66,7 +67,7 @@ pub record Open (bs l : List ℕ) (n c : ℕ) (node : Node) (until : ℕ) (v : P
   pub entry : v .entry ≡ cut (componentIn bs c) (entryOf (node .entry))
   pub end : v .end ≡ until
   pub row : node .row < n
-  pub shown : rowPassage l (node .row) ≡ bare v
+  pub shown : bare (rowPassage l (node .row)) ≡ bare v
   pub place : num l (node .row) 7 ≡ node .place
   pub young : All (λ x. x ≤ node .entry .tick) (node .entry .clocks)
 
@@ -77,7 +78,7 @@ blank = record { entry = record { location = 0; tick = 0; clocks = []; values = 
 -- the first k components have an open passage
 pub record Going (bs l : List ℕ) (n k : ℕ) (nodes : List Node) (ends : List ℕ) (p : OpenedSoFar) : Type 0 where
   pub placed : RowsPlaced bs l n
-  pub rows : rowsOf l n ≡ map bare (p .listed)
+  pub rows : map bare (rowsOf l n) ≡ map bare (p .listed)
   pub full : length (p .current) ≡ k
   pub each : (c : ℕ) → c < k → Open bs l n c (getD nodes c blank) (getD ends c 0) (passageAt (p .current) c)
   pub entered : (i c : ℕ) → i < n → c < k → num l i 3 ≤ getD ends c 0
@@ -90,17 +91,18 @@ fresh vs = record { listed = vs; current = vs }
 abbrev pub begun : List ℕ → Answer (List Passage)
 begun bs = begin limit 0 (readOf bs .table .components) []
 
--- all components have opened at tick 0
+-- all components have opened at tick 0, and each has the row of its number
 pub record Started (bs l : List ℕ) (nodes : List Node) (ends : List ℕ) : Type 0 where
   pub first : List Passage
   pub begins : begun bs ≡ accepted first
   pub going : Going bs l (size (readOf bs .table)) (size (readOf bs .table)) nodes ends (fresh first)
+  pub own : (c : ℕ) → c < size (readOf bs .table) → getD nodes c blank .row ≡ c
 
 pub record Begins (bs later : List ℕ) (r : Opened) : Type 0 where
   pub verdict : r .verdict ≡ verdictOf (begun bs)
   pub started : r .verdict ≡ Accepted → Started bs later (r .nodes) (r .ends)
 
--- ## The whole schedule, its messages not yet put in
+-- ## The whole schedule, with the messages of the passages that end before the horizon
 
 abbrev pub unfinished : List ℕ → Answer (List Passage)
 unfinished bs = begun bs after λ vs. goOn (readOf bs .table) (readOf bs .horizon) (limit - size (readOf bs .table)) (fresh vs)
@@ -108,6 +110,7 @@ unfinished bs = begun bs after λ vs. goOn (readOf bs .table) (readOf bs .horizo
 pub record Listed (bs : List ℕ) (a : Answer (List Passage)) (r : Scheduled) (later : List ℕ) : Type 0 where
   pub verdict : r .verdict ≡ verdictOf a
   pub count : (S : List Passage) → a ≡ accepted S → r .count ≡ length S
-  pub rows : (S : List Passage) → a ≡ accepted S → rowsOf later (r .count) ≡ map bare S
+  pub rows : (S : List Passage) → a ≡ accepted S → map bare (rowsOf later (r .count)) ≡ map bare S
   pub placed : RowsPlaced bs later (r .count)
+  pub told : (i : ℕ) → i < r .count → num later i 5 < readOf bs .horizon → Told bs (readOf bs .horizon) later (r .count) i
   pub none : (k c : ℕ) → a ≡ refused k c → r .count ≡ 0

@@ -27,8 +27,9 @@ pub struct Node {
     pub row: usize,
 }
 
-// Where a passage leads to, and what opens there.
+// The message of a passage that closes, where it leads to, and what opens there.
 pub struct Turn {
+    pub message: u8,
     pub at: Entry,
     pub opening: Opening,
 }
@@ -134,7 +135,7 @@ fn put_opened(l: &mut [u32], n: usize, c: u8, at: Entry, t: TakenEdge, back: usi
     );
 }
 
-// A passage of component c closes at its end: where it leads to, with its message, and what opens there.
+// A passage of component c closes at its end: its message, where it leads to with that, and what opens there.
 fn next_turn(
     s: &[u8],
     l: &[u32],
@@ -151,10 +152,14 @@ fn next_turn(
 {
     let place = node.place;
     let entry = node.entry;
-    let m = rows::message(s, l, n, node.row, h);
-    let at = window::leave(&s[place..], m, end, entry);
+    let message = rows::message(s, l, n, node.row, h);
+    let at = window::leave(&s[place..], message, end, entry);
     let opening = window::open(s, start, c, at, index);
-    Turn { at, opening }
+    Turn {
+        message,
+        at,
+        opening,
+    }
 }
 
 // What is kept of a passage over that edge, entered there, in that row.
@@ -234,7 +239,7 @@ fn begin(s: &[u8], starts: [u16; 8], l: &mut [u32], index: &[u16]) -> Opened
     }
 }
 
-// While the least end of an open passage is below the horizon, that passage closes and its component's next opens.
+// While the least end of an open passage is below the horizon, that passage closes, gets its message, and its component's next opens.
 fn go_on(
     s: &[u8],
     starts: [u16; 8],
@@ -260,7 +265,8 @@ fn go_on(
         if 1024 <= n {
             return refused(7, c);
         }
-        let t = next_turn(s, l, n, wide16(starts[c]), c as u8, nodes[c], end, h, index);
+        let node = nodes[c];
+        let t = next_turn(s, l, n, wide16(starts[c]), c as u8, node, end, h, index);
         let at = t.at;
         let o = t.opening;
         match o {
@@ -270,6 +276,7 @@ fn go_on(
             Opening::Opens(e) => {
                 let back = rows::open_before(l, n, at.tick + e.end + 1);
                 put_opened(l, n, c as u8, at, e, back);
+                rows::put_message(l, node.row, t.message);
                 nodes[c] = kept(at, e, n);
                 ends[c] = at.tick + e.end;
             }

@@ -1,10 +1,8 @@
 -- `rows::put_messages` meets its contract. Assumes nothing.
-use mathlib.Core.Path.{ap, _∙_}
 use Prim.Native.Nat.{_-_, _≤_}
 use native.Mathlib.Omega.{arith}
 use borrow.Author.Needs.{needs}
-use Rattle.rows.specs.Rows.{messageOf}
-use Rattle.rows.proofs.Relabelled.{PutBelow, put-none, still-placed, put-within, put-turn, put-all}
+use Rattle.rows.proofs.Relabelled.{PutBelow, put-none, still-placed, still-told, put-within, put-turn, put-all}
 use Rattle.rows.proofs.put_messages.Statement.{statement}
 use Rattle.rows.proofs.put_messages.Tie as tie
 
@@ -19,44 +17,45 @@ loop-holds c =
     let a = c .before .before .args in
     (omega arith, put-none (a .s .now) (a .h) (a .n) (a .l .now))
 
-message-requires : tie.Need-message-requires Inv-loop μ-loop
-message-requires c κs =
+message-then-requires : tie.Need-message-then-requires Inv-loop μ-loop
+message-then-requires c κs =
     let e = c .before .before .before .before .before in
     let a = e .args in
     let l = c .before .before .loop in
-    (still-placed (a .s .now) (a .h) (a .n) (a .l .now) (l .l) (l .i) (e .pre) (l .inv .1), c .before .loop-test .taken)
-
-wide-requires : tie.Need-wide-requires Inv-loop μ-loop
-wide-requires c κs = search needs
+    let h = c .before .loop-test .taken in (
+      still-placed (a .s .now) (a .h) (a .n) (a .l .now) (l .l) (l .i) (e .pre .0) (l .inv .1),
+      h,
+      still-told (a .s .now) (a .h) (a .n) (a .l .now) (l .l) (l .i) (e .pre .0) (l .inv .1) h (e .pre .1 (l .i) h),
+    )
 
 mul-l : tie.Need-mul-l Inv-loop μ-loop
-mul-l c = omega (arith, c .before .before .before .before .before .before .before .pre .few)
+mul-l c = omega (arith, c .before .before .before .before .before .before .pre .0 .few)
 
 add-l : tie.Need-add-l Inv-loop μ-loop
-add-l c = omega (arith, c .before .before .before .before .before .before .before .pre .few)
+add-l c = omega (arith, c .before .before .before .before .before .before .pre .0 .few)
 
 mul-l-2 : tie.Need-mul-l-2 Inv-loop μ-loop
-mul-l-2 c = omega (arith, c .before .before .before .before .before .before .before .pre .few)
+mul-l-2 c = omega (arith, c .before .before .before .before .before .before .pre .0 .few)
 
 slice-write-l : tie.Need-slice-write-l Inv-loop μ-loop
 slice-write-l c =
-    let e = c .before .before .before .before .before .before .before in
+    let e = c .before .before .before .before .before .before in
     let a = e .args in
-    let l = c .before .before .before .before .loop in
-    put-within (a .s .now) (a .h) (a .n) (a .l .now) (l .l) (l .i) (e .pre) (l .inv .1) (c .before .before .before .loop-test .taken)
+    let l = c .before .before .before .loop in
+    put-within (a .s .now) (a .h) (a .n) (a .l .now) (l .l) (l .i) (e .pre .0) (l .inv .1) (c .before .before .loop-test .taken)
 
 add-i : tie.Need-add-i Inv-loop μ-loop
-add-i c = omega (arith, c .before .before .before .before .before .before .before .pre .few)
+add-i c = omega (arith, c .before .before .before .before .before .before .pre .0 .few)
 
 loop-less : tie.Need-loop-less Inv-loop μ-loop
 loop-less c = search needs
 
 loop-again : tie.Need-loop-again Inv-loop μ-loop
 loop-again c =
-    let e = c .before .before .before .before .before .before .before in
+    let e = c .before .before .before .before .before .before in
     let a = e .args in
-    let l = c .before .before .before .before .loop in
-    (omega arith, put-turn (a .s .now) (a .h) (a .n) (a .l .now) (l .l) (l .i) (e .pre) (l .inv .1) (c .wide .result) (c .before .before .before .loop-test .taken) (ap messageOf (c .wide .ensures .0) ∙ c .before .message .ensures))
+    let l = c .before .before .before .loop in
+    (omega arith, put-turn (a .s .now) (a .h) (a .n) (a .l .now) (l .l) (l .i) (e .pre .0) (l .inv .1) (c .message-then .result) (c .before .before .loop-test .taken) (c .message-then .ensures))
 
 same-length : tie.Need-same-length Inv-loop μ-loop
 same-length c = c .before .loop .inv .1 .same
@@ -66,7 +65,7 @@ returns c =
     let e = c .before .before .before .before in
     let a = e .args in
     let l = c .before .loop in
-    put-all (a .s .now) (a .h) (a .n) (a .l .now) (l .l) (l .i) (e .pre) (l .inv .1) (c .loop-test .left)
+    put-all (a .s .now) (a .h) (a .n) (a .l .now) (l .l) (l .i) (e .pre .0) (l .inv .1) (c .loop-test .left)
 
 pub put-messages-spec : {M : Type 1} → statement M
 put-messages-spec =
@@ -75,8 +74,7 @@ put-messages-spec =
     Inv-loop
     μ-loop
     loop-holds
-    message-requires
-    wide-requires
+    message-then-requires
     mul-l
     add-l
     mul-l-2

@@ -11,7 +11,7 @@ use Rattle.window.specs.declared.TakenEdge.{TakenEdge}
 use Rattle.rows.proofs.Sought.{linked-below}
 use Rattle.schedule.specs.declared.Scheduled.{Scheduled}
 use Rattle.schedule.specs.Going.{Soonest, Turned, blank, Listed, unfinished}
-use Rattle.schedule.proofs.Grown.{until}
+use Rattle.schedule.proofs.Grown.{keeps, until}
 use Rattle.schedule.proofs.Tables.{unmapped, counted, some-components, few-components, horizon-is, horizon-small, header, start-read, edge-small}
 use Rattle.schedule.proofs.Turns.{Progress, progress-first, listed-is, turned-tick, node-stands, loop-stops, loop-full, loop-fails, loop-on}
 use Rattle.window.specs.Indexed.{Indexed}
@@ -128,6 +128,12 @@ returns-2 c =
     loop-full s (l .l) (c .before .before .before .before .before .before .before .before .before .before .before .before .shared-slice-known .given) (l .n) (l .nodes) (l .ends) (l .inv .10) (c .before .before .before .soonest .result) (closes (c .before .before .before)) (omega (arith, c .before .before .if1 .left, l .inv .4)) (c .before .if2 .taken)
     (r .result) (r .ensures .0) (r .ensures .1)
 
+mul-node : tie.Need-mul-node Inv-loop μ-loop
+mul-node c = search needs
+
+array-copy-out-node : tie.Need-array-copy-out-node Inv-loop μ-loop
+array-copy-out-node c = search needs
+
 mul-wide16 : tie.Need-mul-wide16 Inv-loop μ-loop
 mul-wide16 c = search needs
 
@@ -140,12 +146,6 @@ wide16-requires c κs = search needs
 cast-next-turn : tie.Need-cast-next-turn Inv-loop μ-loop
 cast-next-turn c = search needs
 
-mul-next-turn : tie.Need-mul-next-turn Inv-loop μ-loop
-mul-next-turn c = search needs
-
-array-copy-out-next-turn : tie.Need-array-copy-out-next-turn Inv-loop μ-loop
-array-copy-out-next-turn c = search needs
-
 next-turn-requires : tie.Need-next-turn-requires Inv-loop μ-loop
 next-turn-requires c κs =
     let e = c .before .before .before .before .before .before .before .before .before .before .before .before .before .before .before in
@@ -153,7 +153,7 @@ next-turn-requires c κs =
     let g = l .inv .10 in
     let s = e .args .s .now in
     let k = c .before .before .before .before .before .soonest .result in
-    let start = start-read s (c .before .before .before .before .before .before .before .before .before .before .before .before .before .before .shared-slice-known .given) (e .pre .0) (e .args .t2) k (c .before .wide16 .result) (e .pre .1) (closes (c .before .before .before .before .before) .there) (c .before .wide16 .ensures .0) in (
+    let start = start-read s (c .before .before .before .before .before .before .before .before .before .before .before .before .before .before .shared-slice-known .given) (e .pre .0) (e .args .t2) k (c .wide16 .result) (e .pre .1) (closes (c .before .before .before .before .before) .there) (c .wide16 .ensures .0) in (
       g .going .placed,
       start,
       node-stands s (l .l) (c .before .before .before .before .before .before .before .before .before .before .before .before .before .before .shared-slice-known .given) (l .n) (l .nodes) (l .ends) g k (closes (c .before .before .before .before .before)),
@@ -200,39 +200,47 @@ put-opened-requires c κs =
     let z = edge-is (c .before .before .before .before .before .before .before .before .before) (c .before .before .before .before .before .before .o2 .given .1) in
     (omega (arith, l .inv .8, c .before .before .before .before .before .before .before .before .before .before .before .before .before .if2 .left), omega (arith, c .before .before .before .before .before .before .before .before .before .before .before .before .before .if2 .left), z .1, omega (arith, c .before .open-before .ensures .0, l .inv .0), z .0, z .2, z .3)
 
+put-message-requires : tie.Need-put-message-requires Inv-loop μ-loop
+put-message-requires c κs =
+    let l = c .before .before .before .before .before .before .before .before .before .before .before .before .before .before .before .before .before .before .before .before .before .loop in
+    let k = c .before .before .before .before .before .before .before .before .before .before .before .before .before .before .before .before .before .before .before in
+    let z = node-stands (c .before .before .before .before .before .before .before .before .before .before .before .before .before .before .before .before .before .before .before .before .before .before .before .before .before .before .before .before .before .args .s .now) (l .l) (c .before .before .before .before .before .before .before .before .before .before .before .before .before .before .before .before .before .before .before .before .before .before .before .before .before .before .before .before .shared-slice-known .given) (l .n) (l .nodes) (l .ends) (l .inv .10) (k .soonest .result) (closes k) .row in
+    (omega (arith, z, l .inv .0, l .inv .8, c .before .before .before .put-opened .kept .0), omega (arith, z, l .inv .0))
+
 kept-requires : tie.Need-kept-requires Inv-loop μ-loop
 kept-requires c κs = search needs
 
 mul-nodes : tie.Need-mul-nodes Inv-loop μ-loop
-mul-nodes c = omega (arith, small (c .before .before .before .before .before .before .before .before .before .before .before .before .before .before .before .before .before .before .before))
+mul-nodes c = omega (arith, small (c .before .before .before .before .before .before .before .before .before .before .before .before .before .before .before .before .before .before .before .before .before .before .before))
 
 array-set-from-nodes : tie.Need-array-set-from-nodes Inv-loop μ-loop
-array-set-from-nodes c = omega (arith, small (c .before .before .before .before .before .before .before .before .before .before .before .before .before .before .before .before .before .before .before))
+array-set-from-nodes c = omega (arith, small (c .before .before .before .before .before .before .before .before .before .before .before .before .before .before .before .before .before .before .before .before .before .before .before))
 
 add-ends : tie.Need-add-ends Inv-loop μ-loop
-add-ends c = let z = edge-is (c .before .before .before .before .before .before .before .before .before .before .before .before .before .before .before) (c .before .before .before .before .before .before .before .before .before .before .before .before .o2 .given .1) in omega (arith, z)
+add-ends c = let z = edge-is (c .before .before .before .before .before .before .before .before .before .before .before .before .before .before .before .before .before .before .before) (c .before .before .before .before .before .before .before .before .before .before .before .before .before .before .before .before .o2 .given .1) in omega (arith, z)
 
 mul-ends : tie.Need-mul-ends Inv-loop μ-loop
-mul-ends c = omega (arith, small (c .before .before .before .before .before .before .before .before .before .before .before .before .before .before .before .before .before .before .before .before .before))
+mul-ends c = omega (arith, small (c .before .before .before .before .before .before .before .before .before .before .before .before .before .before .before .before .before .before .before .before .before .before .before .before .before))
 
 array-write-ends : tie.Need-array-write-ends Inv-loop μ-loop
-array-write-ends c = omega (arith, small (c .before .before .before .before .before .before .before .before .before .before .before .before .before .before .before .before .before .before .before .before .before))
+array-write-ends c = omega (arith, small (c .before .before .before .before .before .before .before .before .before .before .before .before .before .before .before .before .before .before .before .before .before .before .before .before .before))
 
 add-n : tie.Need-add-n Inv-loop μ-loop
-add-n c = omega (arith, c .before .before .before .before .before .before .before .before .before .before .before .before .before .before .before .before .before .before .before .if2 .left)
+add-n c = omega (arith, c .before .before .before .before .before .before .before .before .before .before .before .before .before .before .before .before .before .before .before .before .before .before .before .if2 .left)
 
 loop-less : tie.Need-loop-less Inv-loop μ-loop
-loop-less c = omega (arith, c .before .before .before .before .before .before .before .before .before .before .before .before .before .before .before .before .before .before .before .if2 .left)
+loop-less c = omega (arith, c .before .before .before .before .before .before .before .before .before .before .before .before .before .before .before .before .before .before .before .before .before .before .before .if2 .left)
 
 loop-again : tie.Need-loop-again Inv-loop μ-loop
 loop-again c =
-    let e = c .before .before .before .before .before .before .before .before .before .before .before .before .before .before .before .before .before .before .before .before .before .before .before .before .before .before .before .before .before .before .before in
-    let l = c .before .before .before .before .before .before .before .before .before .before .before .before .before .before .before .before .before .before .before .before .before .before .before .loop in
-    let q = c .before .before .before .before .before .put-opened in
+    let e = c .before .before .before .before .before .before .before .before .before .before .before .before .before .before .before .before .before .before .before .before .before .before .before .before .before .before .before .before .before .before .before .before .before .before .before in
+    let l = c .before .before .before .before .before .before .before .before .before .before .before .before .before .before .before .before .before .before .before .before .before .before .before .before .before .before .before .loop in
+    let q = c .before .before .before .before .before .before .before .before .before .put-opened in
+    let p = c .before .before .before .before .before .put-message in
     let s = e .args .s .now in
-    let k = c .before .before .before .before .before .before .before .before .before .before .before .before .before .before .before .before .before .before .before .before .before .soonest .result in
-    let t = c .before .before .before .before .before .before .before .before .before .before .before .before .before .before .before .next-turn .result in
-    let n : l .n < 1024 = c .before .before .before .before .before .before .before .before .before .before .before .before .before .before .before .before .before .before .before .if2 .left in (
+    let k = c .before .before .before .before .before .before .before .before .before .before .before .before .before .before .before .before .before .before .before .before .before .before .before .before .before .soonest .result in
+    let t = c .before .before .before .before .before .before .before .before .before .before .before .before .before .before .before .before .before .before .before .next-turn .result in
+    let n : l .n < 1024 = c .before .before .before .before .before .before .before .before .before .before .before .before .before .before .before .before .before .before .before .before .before .before .before .if2 .left in (
       omega arith,
       l .inv .1,
       l .inv .2,
@@ -241,12 +249,12 @@ loop-again c =
       l .inv .5,
       simp length-set (l .inv .6),
       simp length-set (l .inv .7),
-      omega (arith, q .kept .0, l .inv .8),
-      q .kept .0 ∙ l .inv .9,
-      subst (λ m. Progress s (q .last .0) (l .n + 1) (set (l .nodes) k m) (until (l .ends) k (t .at) (c .before .before .before .before .before .before .before .before .before .before .before .before .o2 .given .0 .0))) (sym (c .before .before .kept .ensures))
-          (loop-on s (l .l) (c .before .before .before .before .before .before .before .before .before .before .before .before .before .before .before .before .before .before .before .before .before .before .before .before .before .before .before .before .before .before .shared-slice-known .given) (l .n) (l .nodes) (l .ends) (l .inv .10) k (closes (c .before .before .before .before .before .before .before .before .before .before .before .before .before .before .before .before .before .before .before .before .before)) (omega (arith, c .before .before .before .before .before .before .before .before .before .before .before .before .before .before .before .before .before .before .before .before .if1 .left, l .inv .4)) n t (turned (c .before .before .before .before .before .before .before .before .before .before .before .before .before .before .before))
-          (c .before .before .before .before .before .before .before .before .before .before .before .before .o2 .given .1) (omega (arith, l .inv .8)) (c .before .before .before .before .before .before .before .open-before .result) (c .before .before .before .before .before .before .before .open-before .ensures .0) (λ i x y. omega (arith, c .before .before .before .before .before .before .before .open-before .ensures .1 i x y)) (q .last .0) (q .ensures)
-          (omega (arith, small (c .before .before .before .before .before .before .before .before .before .before .before .before .before .before .before .before .before .before .before .before .before), l .inv .6)) (omega (arith, small (c .before .before .before .before .before .before .before .before .before .before .before .before .before .before .before .before .before .before .before .before .before), l .inv .7))),
+      omega (arith, p .kept .0, q .kept .0, l .inv .8),
+      p .kept .0 ∙ q .kept .0 ∙ l .inv .9,
+      subst (λ m. Progress s (p .last .0) (l .n + 1) (set (l .nodes) k m) (until (l .ends) k (t .at) (c .before .before .before .before .before .before .before .before .before .before .before .before .before .before .before .before .o2 .given .0 .0))) (sym (c .before .before .kept .ensures))
+          (subst (λ x. Progress s x (l .n + 1) (keeps (l .nodes) (l .n) k (t .at) (c .before .before .before .before .before .before .before .before .before .before .before .before .before .before .before .before .o2 .given .0 .0)) (until (l .ends) k (t .at) (c .before .before .before .before .before .before .before .before .before .before .before .before .before .before .before .before .o2 .given .0 .0))) (sym (p .ensures)) (loop-on s (l .l) (c .before .before .before .before .before .before .before .before .before .before .before .before .before .before .before .before .before .before .before .before .before .before .before .before .before .before .before .before .before .before .before .before .before .before .shared-slice-known .given) (l .n) (l .nodes) (l .ends) (l .inv .10) k (closes (c .before .before .before .before .before .before .before .before .before .before .before .before .before .before .before .before .before .before .before .before .before .before .before .before .before)) (omega (arith, c .before .before .before .before .before .before .before .before .before .before .before .before .before .before .before .before .before .before .before .before .before .before .before .before .if1 .left, l .inv .4)) n t (turned (c .before .before .before .before .before .before .before .before .before .before .before .before .before .before .before .before .before .before .before))
+          (c .before .before .before .before .before .before .before .before .before .before .before .before .before .before .before .before .o2 .given .1) (omega (arith, l .inv .8)) (c .before .before .before .before .before .before .before .before .before .before .before .open-before .result) (c .before .before .before .before .before .before .before .before .before .before .before .open-before .ensures .0) (λ i x y. omega (arith, c .before .before .before .before .before .before .before .before .before .before .before .open-before .ensures .1 i x y)) (q .last .0) (q .ensures)
+          (omega (arith, small (c .before .before .before .before .before .before .before .before .before .before .before .before .before .before .before .before .before .before .before .before .before .before .before .before .before), l .inv .6)) (omega (arith, small (c .before .before .before .before .before .before .before .before .before .before .before .before .before .before .before .before .before .before .before .before .before .before .before .before .before), l .inv .7)))),
     )
 
 pub go-on-spec : {M : Type 1} → statement M
@@ -270,12 +278,12 @@ go-on-spec =
     refused-requires
     same-length-2
     returns-2
+    mul-node
+    array-copy-out-node
     mul-wide16
     array-read-wide16
     wide16-requires
     cast-next-turn
-    mul-next-turn
-    array-copy-out-next-turn
     next-turn-requires
     enum-known-o
     refused-requires-2
@@ -287,6 +295,7 @@ go-on-spec =
     open-before-requires
     cast-put-opened
     put-opened-requires
+    put-message-requires
     kept-requires
     mul-nodes
     array-set-from-nodes

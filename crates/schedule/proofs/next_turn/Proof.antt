@@ -56,6 +56,7 @@ returns c =
     let b = c .before .before .before .before .before .before .before .shared-slice-known .given in
     let m = c .before .before .before .message in
     record {
+      message = m .ensures;
       leads = leaves-row (a .s .now) (a .l .now) (a .n) (a .c) (a .node) (a .end) b (e .pre .0) (e .pre .2) (a .h) (m .result) (c .before .leave .result) (c .before .leave .ensures .0) (m .ensures);
       there = location-there (a .s .now) (a .l .now) (a .n) (a .c) (a .node) (a .end) b (e .pre .0) (e .pre .2) (a .h) (m .result) (c .before .leave .result) (c .before .leave .ensures .0);
       young = c .before .leave .ensures .1;

@@ -4,7 +4,7 @@ use Prim.Native.Nat.{_+_, _*_}
 use native.Mathlib.Omega.{arith}
 use lib.ListN.{getD-replicate}
 use Rattle.schedule.proofs.Tables.{header, horizon-is}
-use Rattle.schedule.proofs.Whole.{begun-refused, filled-put}
+use Rattle.schedule.proofs.Whole.{begun-refused, told-at, filled-put}
 use borrow.Author.Needs.{needs}
 use Rattle.schedule.proofs.schedule_rows.Statement.{statement}
 use Rattle.schedule.proofs.schedule_rows.Tie as tie
@@ -42,7 +42,11 @@ wide32-requires : tie.Need-wide32-requires
 wide32-requires c κs = search needs
 
 put-messages-requires : tie.Need-put-messages-requires
-put-messages-requires c κs = c .before .before .before .before .before .go-on .ensures .placed
+put-messages-requires c κs =
+    let e = c .before .before .before .before .before .before .before .before .before .before .before .before .before .before .before .before .before .before .before .before .before .before in
+    let g = c .before .before .before .before .before .go-on in
+    let h = c .wide32 .ensures .0 ∙ c .before .word-at .ensures ∙ horizon-is (e .args .s .now) (c .before .before .before .before .before .before .before .before .before .before .before .before .before .before .before .before .before .before .before .before .before .shared-slice-known .given) (e .pre .0) in
+    (g .ensures .placed, told-at (e .args .s .now) (g .result) (g .last .1 .1 .0) (c .wide32 .result) h (g .ensures))
 
 same-length : tie.Need-same-length
 same-length c = search needs
