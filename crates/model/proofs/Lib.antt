@@ -95,3 +95,4 @@ pub mod Acceptance
 pub mod ObservationBack
 pub mod ObservationsBack
 pub mod Ends
+pub mod Charted
