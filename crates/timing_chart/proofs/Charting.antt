@@ -1,5 +1,5 @@
 -- The call `timing_chart`, from what the reader and the schedule answer. Assumes nothing.
-use mathlib.Core.Path.{_≡_, refl, sym, ap, subst, _∙_}
+use mathlib.Core.Path.{_≡_, refl, sym, ap, ap₂, _∙_}
 use mathlib.Core.Bool.{Bool, _||_}
 use mathlib.Core.List.{List, [], _∷_, _++_, map}
 use Prim.Native.Nat.{ℕ, suc, _+_, _*_, _≤_, _<_}
@@ -51,7 +51,7 @@ module _ (T : Table) (H : ℕ) (S : List Passage) where
     where
       go : (l : List ℕ) → each (rowOf T H (map light S)) l ≡ each (rowOf T H S) l
       go [] = refl
-      go (c ∷ l) = rw (row-light c, go l)
+      go (c ∷ l) = ap₂ (λ (x y : List ℕ). x ++ y) (row-light c) (go l)
 
 -- ## The call
 
