@@ -13,6 +13,7 @@
 #include <stdlib.h>
 #include <string.h>
 
+#include "chart.h"
 #include "inputs.h"
 
 static const struct stored *find(const char *name, enum request request) {
@@ -47,6 +48,7 @@ static void lend(enum where where, struct bytes table, struct bytes choices, lon
          "observations are refused or taken wrongly");
     same(guarded_passages(where, table, lent[3]).number == (lent[3] < needed[3] ? 13 : 0),
          "a list of passages is refused or taken wrongly");
+    lend_chart(where, table, more);
 }
 
 static void stored_cases(void) {
@@ -75,6 +77,7 @@ static void all_calls(enum where where, struct bytes table, struct bytes choices
     CallNumbers translated = guarded_translate(where, table, lent);
     RunNumbers ran = guarded_run(where, table, choices, lent);
     guarded_passages(where, table, lent / FIELDS);
+    try_chart(where, table, lent, verdict);
     if (verdict.number != 0) {
         same(planned.number == verdict.number && translated.number == verdict.number &&
                  ran.number == verdict.number,
@@ -195,5 +198,6 @@ int main(int count, char **words) {
            "check %lu, schedule %lu, translate %lu, part %lu, run %lu, passages %lu\n",
            case_count, before, all - before, made[0], made[1], made[2], made[3], made[4],
            made[5]);
+    printf("boundary: %lu charts\n", charts_made);
     return 0;
 }

@@ -21,10 +21,10 @@
 enum { WIDE = 200 * 1024, PATTERN = 0xA5, THREAD = 100 * 1024 };
 
 /* The calls measured: those of the stored cases, then these. */
-enum { PASSAGES = RUN + 1, START, STEP, MEASURED };
+enum { PASSAGES = RUN + 1, CHART, START, STEP, MEASURED };
 
 /* The bytes that docs/LINKING.md names for each call. */
-static const size_t named[MEASURED] = {40000, 40000, 40000, 256, 68000, 86000, 400, 600};
+static const size_t named[MEASURED] = {40000, 40000, 40000, 256, 68000, 86000, 40000, 400, 600};
 
 static uint8_t *wide;
 static size_t deepest[MEASURED];
@@ -54,6 +54,9 @@ static void call(int request, const struct stored *stored) {
         ran = timed_network_run(table, length, stored->choices.at,
                                 stored->choices.length, observations,
                                 MAX_OBSERVATIONS);
+        break;
+    case CHART:
+        called = timed_network_timing_chart(table, length, program, MAX_PROGRAM);
         break;
     case PASSAGES:
         called = timed_network_passages(table, length, passages, MAX_PASSAGES);
@@ -117,8 +120,9 @@ static void in_thread(void *(*body)(void *), uint8_t *stack, size_t size) {
 }
 
 int main(int count, char **words) {
-    static const char *const names[] = {"check", "schedule", "translate", "part",
-                                        "run",   "passages", "start",     "step"};
+    static const char *const names[] = {"check", "schedule", "translate",
+                                        "part",  "run",      "passages",
+                                        "chart", "start",    "step"};
     if (count != 2) {
         fputs("usage: stack ROOT\n", stderr);
         return 2;

@@ -14,6 +14,7 @@ PartNumbers __real_timed_network_part(const uint8_t *, size_t, uint8_t);
 RunNumbers __real_timed_network_run(const uint8_t *, size_t, const uint8_t *,
                                     size_t, uint8_t *, size_t);
 CallNumbers __real_timed_network_passages(const uint8_t *, size_t, Passage *, size_t);
+CallNumbers __real_timed_network_timing_chart(const uint8_t *, size_t, uint8_t *, size_t);
 
 VerdictNumbers __wrap_timed_network_check(const uint8_t *, size_t);
 CallNumbers __wrap_timed_network_schedule(const uint8_t *, size_t, uint32_t *, size_t);
@@ -22,6 +23,7 @@ PartNumbers __wrap_timed_network_part(const uint8_t *, size_t, uint8_t);
 RunNumbers __wrap_timed_network_run(const uint8_t *, size_t, const uint8_t *,
                                     size_t, uint8_t *, size_t);
 CallNumbers __wrap_timed_network_passages(const uint8_t *, size_t, Passage *, size_t);
+CallNumbers __wrap_timed_network_timing_chart(const uint8_t *, size_t, uint8_t *, size_t);
 
 static int wrong(int fault) {
     static int chosen = -1;
@@ -111,5 +113,16 @@ CallNumbers __wrap_timed_network_passages(const uint8_t *table, size_t length,
         list[answer.size].end = 0; /* writes past the result */
     if (wrong(19) && answer.number == 0)
         list[0].message ^= 1; /* another message */
+    return answer;
+}
+
+CallNumbers __wrap_timed_network_timing_chart(const uint8_t *table, size_t length,
+                                              uint8_t *chart, size_t chart_length) {
+    CallNumbers answer =
+        __real_timed_network_timing_chart(table, length, chart, chart_length);
+    if (wrong(20) && answer.number == 0 && answer.size < chart_length)
+        chart[answer.size] = 0; /* writes past the result */
+    if (wrong(21) && answer.number == 13 && chart_length > 0)
+        chart[0] = 'C'; /* writes where too little is lent */
     return answer;
 }

@@ -26,15 +26,16 @@ pub fn chart(table: &Table, passages: &[Passage]) -> Vec<u8> {
     bytes
 }
 
-/// For each tick below the horizon the letter of the component's window that
-/// has it, the strongest of several, or a dot.
-fn ticks(table: &Table, passages: &[Passage], component: u8) -> Vec<u8> {
-    let mut ticks = vec![b'.'; table.horizon.into()];
+/// For each tick below the horizon the place in [`SHOWN`] of what the
+/// component's windows show there, the strongest of several.
+fn ticks(table: &Table, passages: &[Passage], component: u8) -> Vec<usize> {
+    let mut ticks = vec![1; table.horizon.into()];
     let own = passages.iter().filter(|own| own.component == component);
     for passage in own {
+        let place = letter(table, passage);
         for tick in passage.ready..=passage.end {
             if let Some(shown) = ticks.get_mut(tick as usize) {
-                *shown = stronger(*shown, letter(table, passage));
+                *shown = place.max(*shown);
             }
         }
     }
@@ -50,27 +51,19 @@ fn covered(table: &Table, cell: u32) -> Range<usize> {
 
 /// "It shows `S` if a send window has a tick there, else `R` for receive,
 /// else `W` for internal, else a dot. A cell without ticks is a space."
-fn shown(ticks: &[u8], covered: Range<usize>) -> u8 {
-    let mut shown = b' ';
+fn shown(ticks: &[usize], covered: Range<usize>) -> u8 {
+    let mut shown = 0;
     for tick in covered {
-        shown = stronger(shown, ticks[tick]);
+        shown = shown.max(ticks[tick]);
     }
-    shown
+    SHOWN[shown]
 }
 
-fn letter(table: &Table, passage: &Passage) -> u8 {
+/// The place in [`SHOWN`] of a window's letter.
+fn letter(table: &Table, passage: &Passage) -> usize {
     match passage.edge_in(table).action {
-        Action::Send(_) => b'S',
-        Action::Receive(_) => b'R',
-        Action::Internal(_) => b'W',
-    }
-}
-
-fn stronger(one: u8, other: u8) -> u8 {
-    let rank = |shown: u8| SHOWN.iter().position(|&known| known == shown);
-    if rank(one) < rank(other) {
-        other
-    } else {
-        one
+        Action::Internal(_) => 2,
+        Action::Receive(_) => 3,
+        Action::Send(_) => 4,
     }
 }
