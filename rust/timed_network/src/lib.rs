@@ -2,13 +2,13 @@
 //!
 //! [`check`] answers checks 1 to 12 of document 01, [`schedule`] writes the
 //! schedule of an accepted table into a lent list of numbers,
-//! [`schedule_into`] into a lent list of passages, and [`passages`] gives it as
-//! a list of its own, [`timing_chart`] draws it. [`meetings`] tells which windows met where 10, 11 or 12
-//! refuses a table. [`translate`] writes the program of an accepted table,
-//! [`program`] gives it as bytes of its own, [`part`] finds one node's part in
-//! it, [`run`] carries out choices. [`node`] has one node whose registers the
-//! caller lends. The declarations of the library stand in two private modules;
-//! each call gets its safe form.
+//! [`schedule_into`] into a lent list of passages, [`passages`] gives it as a
+//! list of its own, and [`timing_chart`] draws it. [`meetings`] tells which
+//! windows met where 10, 11 or 12 refuses a table. [`translate`] writes the
+//! program of an accepted table, [`program`] gives it as bytes of its own,
+//! [`part`] finds one node's part in it, [`run`] carries out choices. [`node`]
+//! has one node whose registers the caller lends. The declarations of the
+//! library stand in two private modules; each call gets its safe form.
 //!
 //! Every slice may be lent: an empty one, one of any length (a slice never
 //! has more than `isize::MAX` bytes), one that starts anywhere. What a call

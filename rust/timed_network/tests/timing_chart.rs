@@ -88,8 +88,7 @@ fn bytes_past_the_rows_stay_and_short_ones_are_refused() {
 
 #[test]
 fn a_refused_table_has_no_chart() {
-    let mut table = PROBE_AND_HUB;
-    table[6] = 0;
+    let table = with(6, 0);
     for lent in [0, LENGTH] {
         let mut chart = vec![77; lent];
         let (verdict, size) = (refused(3, 255), 0);
