@@ -13,6 +13,30 @@ ghost use Rattle.model.specs.Chart.{letterOf, chart, Covers};
 ghost use Rattle.rows.specs.Rows.{rowPassage, rowsOf, RowsPlaced, RowKnown};
 ghost use Rattle.chart.specs.Drawn.{emptyCell, raisedOf, Tells, Painted, EmptyCells, EmptyRow, Drawn};
 
+// What a cell may show: a send, a receive or an internal window, none, or no tick.
+pub const SEND: u8 = 83;
+
+pub const RECEIVE: u8 = 82;
+
+pub const INTERNAL: u8 = 87;
+
+pub const DOT: u8 = 46;
+
+pub const SPACE: u8 = 32;
+
+// The bytes of a row, and where in it they stand: `C` in front, then these.
+pub const ROW_WIDTH: usize = 69;
+
+pub const ROW_DIGIT: usize = 1;
+
+pub const ROW_COLON: usize = 2;
+
+pub const ROW_SPACE: usize = 3;
+
+pub const ROW_CELLS: usize = 4;
+
+pub const ROW_LINE_FEED: usize = 68;
+
 // What a chart shows of a passage.
 pub struct Window {
     pub component: usize,
@@ -22,38 +46,38 @@ pub struct Window {
 }
 
 // The letter of row i's window.
-fn letter_at(s: &[u8], l: &[u32], i: usize) -> u8
-    requires { ⌜ RowKnown (now s) (now l) i ⌝ }
-    ensures { λ r. ⌜ r ≡ letterOf (passageArc (readOf (now (s .entry)) .table) (rowPassage (now (l .entry)) i) .edge .action) ⌝ }
+fn letter_at(table: &[u8], rows: &[u32], i: usize) -> u8
+    requires { ⌜ RowKnown (now table) (now rows) i ⌝ }
+    ensures { λ r. ⌜ r ≡ letterOf (passageArc (readOf (now (table .entry)) .table) (rowPassage (now (rows .entry)) i) .edge .action) ⌝ }
 {
-    if rows::row_receives(s, l, i) {
-        return 82;
+    if rows::row_receives(table, rows, i) {
+        return RECEIVE;
     }
-    if rows::row_sent(s, l, i) == 255 {
-        return 87;
+    if rows::row_sent(table, rows, i) == 255 {
+        return INTERNAL;
     }
-    83
+    SEND
 }
 
 // The window of row i.
-fn window_at(s: &[u8], l: &[u32], i: usize) -> Window
-    requires { ⌜ RowKnown (now s) (now l) i ⌝ }
-    ensures { λ r. ⌜ Tells (readOf (now (s .entry)) .table) (rowPassage (now (l .entry)) i) r ⌝ }
+fn window_at(table: &[u8], rows: &[u32], i: usize) -> Window
+    requires { ⌜ RowKnown (now table) (now rows) i ⌝ }
+    ensures { λ r. ⌜ Tells (readOf (now (table .entry)) .table) (rowPassage (now (rows .entry)) i) r ⌝ }
 {
     Window {
-        component: rows::index(l, i, rows::COMPONENT),
-        letter: letter_at(s, l, i),
-        ready: rows::number(l, i, rows::READY),
-        end: rows::number(l, i, rows::END),
+        component: rows::index(rows, i, rows::COMPONENT),
+        letter: letter_at(table, rows, i),
+        ready: rows::number(rows, i, rows::READY),
+        end: rows::number(rows, i, rows::END),
     }
 }
 
 // The cell that covers a tick below the horizon.
-fn cell_of(tick: u32, h: u32) -> usize
-    requires { ⌜ (tick < h) × (h ≤ 60000) ⌝ }
-    ensures { λ r. ⌜ Covers h r tick × (r < 64) ⌝ }
+fn cell_of(tick: u32, horizon: u32) -> usize
+    requires { ⌜ (tick < horizon) × (horizon ≤ 60000) ⌝ }
+    ensures { λ r. ⌜ Covers horizon r tick × (r < 64) ⌝ }
 {
-    let cell = (64 * tick + 63) / h;
+    let cell = (64 * tick + 63) / horizon;
     cell as usize
 }
 
@@ -61,67 +85,67 @@ fn cell_of(tick: u32, h: u32) -> usize
 fn raised(shown: u8, letter: u8) -> u8
     ensures { λ r. ⌜ r ≡ raisedOf shown letter ⌝ }
 {
-    if shown == 32 {
+    if shown == SPACE {
         return shown;
     }
-    if shown == 83 {
+    if shown == SEND {
         return shown;
     }
-    if letter == 83 {
+    if letter == SEND {
         return letter;
     }
-    if shown == 82 {
+    if shown == RECEIVE {
         return shown;
     }
     letter
 }
 
 // A cell without windows: a dot, or a space where it has no ticks.
-fn empty_cell(i: u32, h: u32) -> u8
-    requires { ⌜ (i < 64) × (h ≤ 60000) ⌝ }
-    ensures { λ r. ⌜ r ≡ emptyCell h i ⌝ }
+fn empty_cell(cell: u32, horizon: u32) -> u8
+    requires { ⌜ (cell < 64) × (horizon ≤ 60000) ⌝ }
+    ensures { λ r. ⌜ r ≡ emptyCell horizon cell ⌝ }
 {
-    if i * h / 64 < (i + 1) * h / 64 {
-        46
+    if cell * horizon / 64 < (cell + 1) * horizon / 64 {
+        DOT
     } else {
-        32
+        SPACE
     }
 }
 
 // 64 cells without windows, from a place on.
-fn put_cells(chart: &mut [u8], at: usize, h: u32)
-    requires { ⌜ (at + 64 ≤ length (now chart)) × (at ≤ 1000) × (h ≤ 60000) ⌝ }
-    ensures { λ _. ⌜ EmptyCells h at 64 (now (chart .entry)) (now (chart .exit)) ⌝ }
+fn put_cells(chart: &mut [u8], at: usize, horizon: u32)
+    requires { ⌜ (at + 64 ≤ length (now chart)) × (at ≤ 1000) × (horizon ≤ 60000) ⌝ }
+    ensures { λ _. ⌜ EmptyCells horizon at 64 (now (chart .entry)) (now (chart .exit)) ⌝ }
 {
     let mut i: usize = 0;
     while i < 64 {
-        chart[at + i] = empty_cell(i as u32, h);
+        chart[at + i] = empty_cell(i as u32, horizon);
         i += 1;
     }
 }
 
-// The row of component c without windows.
-fn put_row(chart: &mut [u8], c: usize, h: u32)
-    requires { ⌜ (c * 69 + 69 ≤ length (now chart)) × (c < 8) × (h ≤ 60000) ⌝ }
-    ensures { λ _. ⌜ EmptyRow h c (now (chart .entry)) (now (chart .exit)) ⌝ }
+// The row of a component without windows.
+fn put_row(chart: &mut [u8], component: usize, horizon: u32)
+    requires { ⌜ (component * 69 + 69 ≤ length (now chart)) × (component < 8) × (horizon ≤ 60000) ⌝ }
+    ensures { λ _. ⌜ EmptyRow horizon component (now (chart .entry)) (now (chart .exit)) ⌝ }
 {
-    let at = c * 69;
-    put_cells(chart, at + 4, h);
+    let at = component * ROW_WIDTH;
+    put_cells(chart, at + ROW_CELLS, horizon);
     chart[at] = 67;
-    chart[at + 1] = 48 + (c as u8);
-    chart[at + 2] = 58;
-    chart[at + 3] = 32;
-    chart[at + 68] = 10;
+    chart[at + ROW_DIGIT] = 48 + (component as u8);
+    chart[at + ROW_COLON] = 58;
+    chart[at + ROW_SPACE] = 32;
+    chart[at + ROW_LINE_FEED] = 10;
 }
 
 // The chart of no passage.
-fn put_rows(chart: &mut [u8], count: usize, h: u32)
-    requires { ⌜ (count * 69 ≤ length (now chart)) × (count ≤ 8) × (h ≤ 60000) ⌝ }
-    ensures { λ _. ⌜ ((T : Table) → Drawn T h [] count (now (chart .entry)) (now (chart .exit))) ⌝ }
+fn put_rows(chart: &mut [u8], components: usize, horizon: u32)
+    requires { ⌜ (components * 69 ≤ length (now chart)) × (components ≤ 8) × (horizon ≤ 60000) ⌝ }
+    ensures { λ _. ⌜ ((T : Table) → Drawn T horizon [] components (now (chart .entry)) (now (chart .exit))) ⌝ }
 {
     let mut c: usize = 0;
-    while c < count {
-        put_row(chart, c, h);
+    while c < components {
+        put_row(chart, c, horizon);
         c += 1;
     }
 }
@@ -139,47 +163,61 @@ fn paint(chart: &mut [u8], from: usize, until: usize, letter: u8)
 }
 
 // The last tick below the horizon of a window that ends there.
-fn last_tick(end: u32, h: u32) -> u32
-    requires { ⌜ 1 ≤ h ⌝ }
-    ensures { λ r. ⌜ (r ≤ end) × (r < h) × ((r ≡ end) ⊎ (suc r ≡ h)) ⌝ }
+fn last_tick(end: u32, horizon: u32) -> u32
+    requires { ⌜ 1 ≤ horizon ⌝ }
+    ensures { λ r. ⌜ (r ≤ end) × (r < horizon) × ((r ≡ end) ⊎ (suc r ≡ horizon)) ⌝ }
 {
-    if end < h { end } else { h - 1 }
+    if end < horizon { end } else { horizon - 1 }
 }
 
 // Draws one window more: the cells that cover its ticks below the horizon.
-fn draw(chart: &mut [u8], w: Window, h: u32)
-    requires { ⌜ (w .component * 69 + 69 ≤ length (now chart)) × (w .component < 8) × (w .ready ≤ w .end) × (h ≤ 60000) ⌝ }
-    ensures { λ _. ⌜ ((T : Table) (S : List Passage) (v : Passage) (n : ℕ) (old : List ℕ) → Tells T v w → w .component < n → Drawn T h S n old (now (chart .entry)) → Drawn T h (snoc S v) n old (now (chart .exit))) ⌝ }
+fn draw(chart: &mut [u8], window: Window, horizon: u32)
+    requires { ⌜ (window .component * 69 + 69 ≤ length (now chart)) × (window .component < 8) × (window .ready ≤ window .end) × (horizon ≤ 60000) ⌝ }
+    ensures { λ _. ⌜ ((T : Table) (S : List Passage) (v : Passage) (n : ℕ) (old : List ℕ) → Tells T v window → window .component < n → Drawn T horizon S n old (now (chart .entry)) → Drawn T horizon (snoc S v) n old (now (chart .exit))) ⌝ }
 {
-    let ready = w.ready;
-    if h <= ready {
+    let ready = window.ready;
+    if horizon <= ready {
         return;
     }
-    let end = w.end;
-    let first = cell_of(ready, h);
-    let last = cell_of(last_tick(end, h), h);
-    let at = w.component * 69 + 4;
-    paint(chart, at + first, at + last + 1, w.letter);
+    let end = window.end;
+    let first = cell_of(ready, horizon);
+    let last = cell_of(last_tick(end, horizon), horizon);
+    let at = window.component * ROW_WIDTH + ROW_CELLS;
+    paint(chart, at + first, at + last + 1, window.letter);
 }
 
-// Draws the windows of n rows.
-fn draw_rows(s: &[u8], l: &[u32], n: usize, count: usize, h: u32, chart: &mut [u8])
-    requires { ⌜ RowsPlaced (now s) (now l) n × (count ≡ size (readOf (now s) .table)) × (count ≤ 8) × (h ≤ 60000) × (count * 69 ≤ length (now chart)) ⌝ }
-    ensures { λ _. ⌜ ((old : List ℕ) → Drawn (readOf (now (s .entry)) .table) h [] count old (now (chart .entry)) → Drawn (readOf (now (s .entry)) .table) h (rowsOf (now (l .entry)) n) count old (now (chart .exit))) ⌝ }
+// Draws the windows of so many rows.
+fn draw_rows(
+    table: &[u8],
+    rows: &[u32],
+    count: usize,
+    components: usize,
+    horizon: u32,
+    chart: &mut [u8],
+)
+    requires { ⌜ RowsPlaced (now table) (now rows) count × (components ≡ size (readOf (now table) .table)) × (components ≤ 8) × (horizon ≤ 60000) × (components * 69 ≤ length (now chart)) ⌝ }
+    ensures { λ _. ⌜ ((old : List ℕ) → Drawn (readOf (now (table .entry)) .table) horizon [] components old (now (chart .entry)) → Drawn (readOf (now (table .entry)) .table) horizon (rowsOf (now (rows .entry)) count) components old (now (chart .exit))) ⌝ }
 {
     let mut i: usize = 0;
-    while i < n {
-        let w = window_at(s, l, i);
-        draw(chart, w, h);
+    while i < count {
+        let window = window_at(table, rows, i);
+        draw(chart, window, horizon);
         i += 1;
     }
 }
 
-// Draws the chart of n rows over the front of the lent bytes; what lies past it stays.
-pub fn put_chart(s: &[u8], l: &[u32], n: usize, count: usize, h: u32, lent: &mut [u8])
-    requires { ⌜ RowsPlaced (now s) (now l) n × (count ≡ size (readOf (now s) .table)) × (count ≤ 8) × (h ≤ 60000) × (count * 69 ≤ length (now lent)) ⌝ }
-    ensures { λ _. ⌜ now (lent .exit) ≡ chart (readOf (now (s .entry)) .table) h (rowsOf (now (l .entry)) n) ++ drop (count * 69) (now (lent .entry)) ⌝ }
+// Draws the chart of so many rows over the front of the lent bytes; what lies past it stays.
+pub fn put_chart(
+    table: &[u8],
+    rows: &[u32],
+    count: usize,
+    components: usize,
+    horizon: u32,
+    lent: &mut [u8],
+)
+    requires { ⌜ RowsPlaced (now table) (now rows) count × (components ≡ size (readOf (now table) .table)) × (components ≤ 8) × (horizon ≤ 60000) × (components * 69 ≤ length (now lent)) ⌝ }
+    ensures { λ _. ⌜ now (lent .exit) ≡ chart (readOf (now (table .entry)) .table) horizon (rowsOf (now (rows .entry)) count) ++ drop (components * 69) (now (lent .entry)) ⌝ }
 {
-    put_rows(lent, count, h);
-    draw_rows(s, l, n, count, h, lent);
+    put_rows(lent, components, horizon);
+    draw_rows(table, rows, count, components, horizon, lent);
 }

@@ -9,17 +9,12 @@ ghost use Rattle.model.specs.Chart.{chartCall};
 ghost use Rattle.table.specs.Directory.{startsOf};
 use calls::Called;
 use model::Verdict;
+use model::layout;
 
-fn wide(x: u8) -> usize
-    ensures { λ r. ⌜ (r ≡ x) × (r ≤ 255) ⌝ }
+fn wide32(number: u16) -> u32
+    ensures { λ r. ⌜ r ≡ number ⌝ }
 {
-    x as usize
-}
-
-fn wide32(x: u16) -> u32
-    ensures { λ r. ⌜ r ≡ x ⌝ }
-{
-    x as u32
+    number as u32
 }
 
 fn refused(number: u8, component: u8) -> Called
@@ -39,19 +34,19 @@ fn chart_into(table: &[u8], starts: [u16; 8], chart: &mut [u8]) -> Called
     let mut rows = [0u32; 9216];
     let r = schedule::plan_rows(table, starts, &mut rows);
     let v = r.verdict;
-    let n = r.count;
+    let count = r.count;
     match v {
         Verdict::Refused(number, component) => refused(number, component),
         Verdict::Accepted => {
-            let count = wide(table[3]);
-            let h = wide32(parts::word_at(table, 5));
-            if chart.len() < count * 69 {
+            let components = parts::wide(table[layout::TABLE_COMPONENTS]);
+            let horizon = wide32(parts::word_at(table, layout::TABLE_HORIZON));
+            if chart.len() < components * chart::ROW_WIDTH {
                 return refused(13, 255);
             }
-            chart::put_chart(table, &rows, n, count, h, chart);
+            chart::put_chart(table, &rows, count, components, horizon, chart);
             Called {
                 verdict: Verdict::Accepted,
-                size: count * 69,
+                size: components * chart::ROW_WIDTH,
             }
         }
     }

@@ -15,10 +15,10 @@ div-cell : tie.Need-div-cell
 div-cell c = search needs
 
 cast-result : tie.Need-cast-result
-cast-result c = record { fits = omega (arith, cell-there (c .args .h) (c .args .tick) (c .pre .0) .1) }
+cast-result c = record { fits = omega (arith, cell-there (c .args .horizon) (c .args .tick) (c .pre .0) .1) }
 
 returns : tie.Need-returns
-returns c = cell-there (c .args .h) (c .args .tick) (c .pre .0)
+returns c = cell-there (c .args .horizon) (c .args .tick) (c .pre .0)
 
 pub cell-of-spec : {M : Type 1} → statement M
 cell-of-spec = tie.close (tie.spec mul-cell add-cell div-cell cast-result returns)

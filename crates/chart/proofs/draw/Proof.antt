@@ -8,7 +8,7 @@ use Rattle.chart.proofs.draw.Tie as tie
 returns : tie.Need-returns
 returns c = λ T S v n old t here p.
     let a = c .before .before .args in
-    drawn-late T (a .h) S v n (a .w) old (a .chart .now) t (c .if1 .taken) p
+    drawn-late T (a .horizon) S v n (a .window) old (a .chart .now) t (c .if1 .taken) p
 
 cell-of-requires : tie.Need-cell-of-requires
 cell-of-requires c κs = search needs
@@ -40,7 +40,7 @@ paint-requires c κs =
     let first = c .before .before .before .before .cell-of in
     let last = c .before .before .cell-of2 in
     let tick = c .before .before .before .last-tick in
-    let order = in-order (e .args .h) (first .result) (last .result) (e .args .w .ready) (tick .result) (first .ensures .0) (last .ensures .0) (reached (e .pre .2) (c .before .before .before .before .before .if1 .left) (tick .ensures .2)) in
+    let order = in-order (e .args .horizon) (first .result) (last .result) (e .args .window .ready) (tick .result) (first .ensures .0) (last .ensures .0) (reached (e .pre .2) (c .before .before .before .before .before .if1 .left) (tick .ensures .2)) in
     (omega (arith, order), omega (arith, last .ensures .1, e .pre .0), omega (arith, last .ensures .1, e .pre .1))
 
 same-length : tie.Need-same-length
@@ -53,7 +53,7 @@ returns-2 c = λ T S v n old t here p.
     let last = c .before .before .before .before .before .cell-of2 in
     let tick = c .before .before .before .before .before .before .last-tick in
     let q = c .before .before .paint in
-    drawn-more T (e .args .h) S v n (e .args .w) old (e .args .chart .now) (q .last .0) (first .result) (last .result) (tick .result) (first .ensures .0) (first .ensures .1) (last .ensures .0) (last .ensures .1) (tick .ensures .0) (tick .ensures .2) t p here (q .ensures)
+    drawn-more T (e .args .horizon) S v n (e .args .window) old (e .args .chart .now) (q .last .0) (first .result) (last .result) (tick .result) (first .ensures .0) (first .ensures .1) (last .ensures .0) (last .ensures .1) (tick .ensures .0) (tick .ensures .2) t p here (q .ensures)
 
 pub draw-spec : {M : Type 1} → statement M
 draw-spec =

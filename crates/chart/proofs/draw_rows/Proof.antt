@@ -29,7 +29,7 @@ window-at-requires : tie.Need-window-at-requires Inv-loop μ-loop
 window-at-requires c κs =
     let e = c .before .before .before .before .before in
     let a = e .args in
-    row-known (a .s .now) (a .l .now) (a .n) (c .before .loop .i) (e .pre .0) (c .loop-test .taken)
+    row-known (a .table .now) (a .rows .now) (a .count) (c .before .loop .i) (e .pre .0) (c .loop-test .taken)
 
 draw-requires : tie.Need-draw-requires Inv-loop μ-loop
 draw-requires c κs =
@@ -37,7 +37,7 @@ draw-requires c κs =
     let a = e .args in
     let l = c .before .before .before .loop in
     let w = c .before .window-at in
-    let f = row-fits (a .s .now) (a .l .now) (a .n) (l .i) (w .result) (e .pre .0) (c .before .before .loop-test .taken) (w .ensures) in
+    let f = row-fits (a .table .now) (a .rows .now) (a .count) (l .i) (w .result) (e .pre .0) (c .before .before .loop-test .taken) (w .ensures) in
     (omega (arith, f .0, e .pre .1, e .pre .4, l .inv .1), omega (arith, f .0, e .pre .1, e .pre .2), f .1, e .pre .3)
 
 add-i : tie.Need-add-i Inv-loop μ-loop
@@ -52,13 +52,13 @@ loop-again c =
     let a = e .args in
     let l = c .before .before .before .before .before .before .loop in
     let w = c .before .before .before .before .window-at in
-    let T = readOf (a .s .now) .table in
-    let f = row-fits (a .s .now) (a .l .now) (a .n) (l .i) (w .result) (e .pre .0) (c .before .before .before .before .before .loop-test .taken) (w .ensures) in
+    let T = readOf (a .table .now) .table in
+    let f = row-fits (a .table .now) (a .rows .now) (a .count) (l .i) (w .result) (e .pre .0) (c .before .before .before .before .before .loop-test .taken) (w .ensures) in
     let d = c .before .before .draw in (
       omega arith,
       d .kept .0 ∙ l .inv .1,
-      λ old p. subst (λ P. Drawn T (a .h) P (a .count) old (d .last .0)) (sym (rows-snoc (a .l .now) (l .i)))
-          (d .ensures T (rowsOf (a .l .now) (l .i)) (rowPassage (a .l .now) (l .i)) (a .count) old (w .ensures) (omega (arith, f .0, e .pre .1)) (l .inv .2 old p)),
+      λ old p. subst (λ P. Drawn T (a .horizon) P (a .components) old (d .last .0)) (sym (rows-snoc (a .rows .now) (l .i)))
+          (d .ensures T (rowsOf (a .rows .now) (l .i)) (rowPassage (a .rows .now) (l .i)) (a .components) old (w .ensures) (omega (arith, f .0, e .pre .1)) (l .inv .2 old p)),
     )
 
 same-length : tie.Need-same-length Inv-loop μ-loop
@@ -68,8 +68,8 @@ returns : tie.Need-returns Inv-loop μ-loop
 returns c =
     let a = c .before .before .before .before .before .args in
     let l = c .before .loop in
-    let k : l .i ≡ a .n = omega arith in
-    λ old p. subst (λ m. Drawn (readOf (a .s .now) .table) (a .h) (rowsOf (a .l .now) m) (a .count) old (l .chart)) k (l .inv .2 old p)
+    let k : l .i ≡ a .count = omega arith in
+    λ old p. subst (λ m. Drawn (readOf (a .table .now) .table) (a .horizon) (rowsOf (a .rows .now) m) (a .components) old (l .chart)) k (l .inv .2 old p)
 
 pub draw-rows-spec : {M : Type 1} → statement M
 draw-rows-spec =

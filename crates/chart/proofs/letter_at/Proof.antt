@@ -14,7 +14,7 @@ row-receives-requires c κs = search needs
 returns : tie.Need-returns
 returns c =
     let a = c .before .before .before .before .args in
-    receive-letter (passageArc (readOf (a .s .now) .table) (rowPassage (a .l .now) (a .i)) .edge .action) (sym (c .before .row-receives .ensures) ∙ c .if1 .taken)
+    receive-letter (passageArc (readOf (a .table .now) .table) (rowPassage (a .rows .now) (a .i)) .edge .action) (sym (c .before .row-receives .ensures) ∙ c .if1 .taken)
 
 row-sent-requires : tie.Need-row-sent-requires
 row-sent-requires c κs = search needs
@@ -22,12 +22,12 @@ row-sent-requires c κs = search needs
 returns-2 : tie.Need-returns-2
 returns-2 c =
     let a = c .before .before .before .before .before .before .args in
-    internal-letter (passageArc (readOf (a .s .now) .table) (rowPassage (a .l .now) (a .i)) .edge .action) (c .before .row-sent .result) (sym (c .before .before .before .row-receives .ensures) ∙ c .before .before .if1 .left) (c .before .row-sent .ensures) (c .if2 .taken)
+    internal-letter (passageArc (readOf (a .table .now) .table) (rowPassage (a .rows .now) (a .i)) .edge .action) (c .before .row-sent .result) (sym (c .before .before .before .row-receives .ensures) ∙ c .before .before .if1 .left) (c .before .row-sent .ensures) (c .if2 .taken)
 
 returns-3 : tie.Need-returns-3
 returns-3 c =
     let a = c .before .before .before .before .before .before .args in
-    send-letter (passageArc (readOf (a .s .now) .table) (rowPassage (a .l .now) (a .i)) .edge .action) (c .before .row-sent .result) (sym (c .before .before .before .row-receives .ensures) ∙ c .before .before .if1 .left) (c .before .row-sent .ensures) (c .if2 .left)
+    send-letter (passageArc (readOf (a .table .now) .table) (rowPassage (a .rows .now) (a .i)) .edge .action) (c .before .row-sent .result) (sym (c .before .before .before .row-receives .ensures) ∙ c .before .before .if1 .left) (c .before .row-sent .ensures) (c .if2 .left)
 
 pub letter-at-spec : {M : Type 1} → statement M
 letter-at-spec = tie.close (tie.spec row-receives-requires returns row-sent-requires returns-2 returns-3)

@@ -15,7 +15,7 @@ abbrev μ-loop : tie.MeasureT-loop
 μ-loop chart₀ at h i₀ chart i = 64 - i
 
 loop-holds : tie.Need-loop-holds Inv-loop μ-loop
-loop-holds c = (omega arith, cells-none (c .before .args .h) (c .before .args .at) (c .before .args .chart .now))
+loop-holds c = (omega arith, cells-none (c .before .args .horizon) (c .before .args .at) (c .before .args .chart .now))
 
 cast-empty-cell : tie.Need-cast-empty-cell Inv-loop μ-loop
 cast-empty-cell c = search needs
@@ -39,7 +39,7 @@ loop-again : tie.Need-loop-again Inv-loop μ-loop
 loop-again c =
     let a = c .before .before .before .before .args in
     let l = c .before .before .loop in
-    (omega arith, cells-turn (a .h) (a .at) (l .i) (c .empty-cell .result) (a .chart .now) (l .chart) (omega (arith, l .inv .1 .same)) (c .empty-cell .ensures) (l .inv .1))
+    (omega arith, cells-turn (a .horizon) (a .at) (l .i) (c .empty-cell .result) (a .chart .now) (l .chart) (omega (arith, l .inv .1 .same)) (c .empty-cell .ensures) (l .inv .1))
 
 same-length : tie.Need-same-length Inv-loop μ-loop
 same-length c = c .before .loop .inv .1 .same
@@ -48,7 +48,7 @@ returns : tie.Need-returns Inv-loop μ-loop
 returns c =
     let a = c .before .before .before .args in
     let l = c .before .loop in
-    subst (λ m. EmptyCells (a .h) (a .at) m (a .chart .now) (l .chart)) (omega arith) (l .inv .1)
+    subst (λ m. EmptyCells (a .horizon) (a .at) m (a .chart .now) (l .chart)) (omega arith) (l .inv .1)
 
 pub put-cells-spec : {M : Type 1} → statement M
 put-cells-spec =

@@ -21,8 +21,8 @@ returns c =
     let a = e .args in
     let d = c .before .before .draw-rows in
     let p = c .before .before .before .before .before .before .put-rows in
-    let T = readOf (a .s .now) .table in
-    all-drawn T (a .h) (rowsOf (a .l .now) (a .n)) (a .count) (a .lent .now) (d .last .1 .1 .1 .1 .1 .0) (e .pre .1) (e .pre .4) (d .ensures (a .lent .now) (p .ensures T))
+    let T = readOf (a .table .now) .table in
+    all-drawn T (a .horizon) (rowsOf (a .rows .now) (a .count)) (a .components) (a .lent .now) (d .last .1 .1 .1 .1 .1 .0) (e .pre .1) (e .pre .4) (d .ensures (a .lent .now) (p .ensures T))
 
 pub put-chart-spec : {M : Type 1} → statement M
 put-chart-spec = tie.close (tie.spec put-rows-requires draw-rows-requires same-length returns)

@@ -57,7 +57,7 @@ returns : tie.Need-returns
 returns c =
     let e = c .before .before .before .before .before in
     let p = c .before .before .put-cells in
-    row-put (e .args .h) (e .args .c) (48 + e .args .c) (e .args .chart .now) (p .last .0) (p .ensures) (e .pre .0) refl
+    row-put (e .args .horizon) (e .args .component) (48 + e .args .component) (e .args .chart .now) (p .last .0) (p .ensures) (e .pre .0) refl
 
 pub put-row-spec : {M : Type 1} → statement M
 put-row-spec =

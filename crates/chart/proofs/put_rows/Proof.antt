@@ -18,7 +18,7 @@ abbrev μ-loop : tie.MeasureT-loop
 μ-loop chart₀ count h c₀ chart c = count - c
 
 loop-holds : tie.Need-loop-holds Inv-loop μ-loop
-loop-holds c = (omega arith, refl, λ T. drawn-none T (c .before .args .h) (c .before .args .chart .now))
+loop-holds c = (omega arith, refl, λ T. drawn-none T (c .before .args .horizon) (c .before .args .chart .now))
 
 put-row-requires : tie.Need-put-row-requires Inv-loop μ-loop
 put-row-requires c κs = search needs
@@ -34,7 +34,7 @@ loop-again c =
     let a = c .before .before .before .before .before .before .before .args in
     let l = c .before .before .before .before .before .loop in
     let r = c .before .before .put-row in
-    (omega arith, r .ensures .same ∙ l .inv .1, λ T. drawn-turn T (a .h) (l .c) (a .chart .now) (l .chart) (r .last .0) (l .inv .2 T) (r .ensures))
+    (omega arith, r .ensures .same ∙ l .inv .1, λ T. drawn-turn T (a .horizon) (l .c) (a .chart .now) (l .chart) (r .last .0) (l .inv .2 T) (r .ensures))
 
 same-length : tie.Need-same-length Inv-loop μ-loop
 same-length c = c .before .loop .inv .1
@@ -43,7 +43,7 @@ returns : tie.Need-returns Inv-loop μ-loop
 returns c =
     let a = c .before .before .before .args in
     let l = c .before .loop in
-    λ T. subst (λ m. Drawn T (a .h) [] m (a .chart .now) (l .chart)) (omega arith) (l .inv .2 T)
+    λ T. subst (λ m. Drawn T (a .horizon) [] m (a .chart .now) (l .chart)) (omega arith) (l .inv .2 T)
 
 pub put-rows-spec : {M : Type 1} → statement M
 put-rows-spec =
