@@ -13,19 +13,20 @@ _Static_assert(sizeof(Passage) == 16 && offsetof(Passage, entry) == 4, "passage"
 _Static_assert(sizeof(MeetingsNumbers) == 8 && offsetof(MeetingsNumbers, size) == 4,
                "meetings");
 
-const char *const call_names[CALLS] = {"check",    "schedule", "translate", "part",
-                                       "run",      "passages", "meetings",  "start",
-                                       "step",     "take_message"};
+const char *const call_names[CALLS] = {"check", "schedule", "timing_chart", "translate",
+                                       "part",  "run",      "passages",     "meetings",
+                                       "start", "step",     "take_message"};
 unsigned long made[CALLS];
 uint32_t list[MAX_LIST];
+uint8_t chart[MAX_CHART];
 uint8_t program[MAX_PROGRAM];
 uint8_t observations[MAX_OBSERVATIONS];
 Passage passages[MAX_PASSAGES];
 uint32_t met[MAX_MET];
 
 static struct place table_place, choices_place, bytes_place, part_place;
-static struct place list_place, program_place, observations_place, passages_place;
-static struct place met_place, node_place;
+static struct place list_place, chart_place, program_place, observations_place;
+static struct place passages_place, met_place, node_place;
 
 void calls_start(void) {
     table_place = place_new(MAX_TABLE);
@@ -33,6 +34,7 @@ void calls_start(void) {
     bytes_place = place_new(MAX_PART);
     part_place = place_new(MAX_PART + 1);
     list_place = place_new(sizeof list);
+    chart_place = place_new(MAX_LIST);
     program_place = place_new(MAX_PROGRAM);
     observations_place = place_new(MAX_OBSERVATIONS);
     passages_place = place_new(sizeof passages);
@@ -74,6 +76,33 @@ CallNumbers guarded_schedule(enum where where, struct bytes table, size_t lent) 
     place_input_done(&table_place, table.at);
     place_output_done(&list_place, answer.size * FIELDS * sizeof list[0],
                       (uint8_t *)list);
+    return answer;
+}
+
+/* A row of a chart: its frame, and nothing but what a cell may show. */
+static int is_chart_row(const uint8_t *row, size_t component) {
+    if (row[0] != 'C' || row[1] != '0' + component || row[2] != ':' || row[3] != ' ')
+        return 0;
+    for (size_t i = 4; i < CHART_ROW - 1; i++)
+        if (row[i] == 0 || strchr(" .WRS", row[i]) == NULL)
+            return 0;
+    return row[CHART_ROW - 1] == '\n';
+}
+
+/* A chart has a row for each component of the table. */
+CallNumbers guarded_timing_chart(enum where where, struct bytes table, size_t lent) {
+    const uint8_t *in = place_input(&table_place, where, table.at, table.length);
+    uint8_t *out = place_output(&chart_place, where, lent);
+    CallNumbers answer = timed_network_timing_chart(in, table.length, out, lent);
+    made[TIMING_CHART]++;
+    try_call(answer, MAX_CHART);
+    place_input_done(&table_place, table.at);
+    place_output_done(&chart_place, answer.size, chart);
+    if (answer.number == 0 && answer.size != (size_t)CHART_ROW * table.at[3])
+        fail("another number of rows than of components");
+    for (size_t i = 0; i < answer.size / CHART_ROW; i++)
+        if (!is_chart_row(chart + CHART_ROW * i, i))
+            fail("a row of the chart cannot be");
     return answer;
 }
 

@@ -10,6 +10,8 @@ enum {
     MAX_PASSAGES = 1024,
     MAX_LIST = FIELDS * MAX_PASSAGES,
     MAX_MET = FIELDS * (MAX_PASSAGES + 1),
+    CHART_ROW = 69,
+    MAX_CHART = 8 * CHART_ROW,
     MAX_TABLE = 12288,
     MAX_PROGRAM = 24576,
     MAX_PART = 65535,
@@ -27,6 +29,7 @@ struct bytes {
 enum call {
     CHECK,
     SCHEDULE,
+    TIMING_CHART,
     TRANSLATE,
     PART,
     RUN,
@@ -44,6 +47,7 @@ extern unsigned long made[CALLS];
 
 /* What the last call that writes has written, without what was lent past it. */
 extern uint32_t list[MAX_LIST];
+extern uint8_t chart[MAX_CHART];
 extern uint8_t program[MAX_PROGRAM];
 extern uint8_t observations[MAX_OBSERVATIONS];
 extern Passage passages[MAX_PASSAGES];
@@ -54,6 +58,7 @@ void calls_start(void);
 /* Each call, its buffers at the place named, as long as said. */
 VerdictNumbers guarded_check(enum where where, struct bytes table);
 CallNumbers guarded_schedule(enum where where, struct bytes table, size_t lent);
+CallNumbers guarded_timing_chart(enum where where, struct bytes table, size_t lent);
 CallNumbers guarded_translate(enum where where, struct bytes table, size_t lent);
 PartNumbers guarded_part(enum where where, struct bytes bytes, uint8_t node);
 RunNumbers guarded_run(enum where where, struct bytes table,

@@ -32,10 +32,11 @@ static void same(int condition, const char *what) {
 static void lend(enum where where, struct bytes table, struct bytes choices, long more) {
     size_t rows = guarded_schedule(where, table, MAX_LIST).size;
     size_t length = guarded_translate(where, table, MAX_PROGRAM).size;
-    size_t needed[4] = {FIELDS * rows, length, OBSERVATION * rows, rows};
-    size_t most[4] = {MAX_LIST, MAX_PROGRAM, MAX_OBSERVATIONS, MAX_PASSAGES};
-    size_t lent[4];
-    for (int i = 0; i < 4; i++) {
+    size_t chart_length = guarded_timing_chart(where, table, MAX_CHART).size;
+    size_t needed[5] = {FIELDS * rows, length, OBSERVATION * rows, rows, chart_length};
+    size_t most[5] = {MAX_LIST, MAX_PROGRAM, MAX_OBSERVATIONS, MAX_PASSAGES, MAX_LIST};
+    size_t lent[5];
+    for (int i = 0; i < 5; i++) {
         long sum = (long)needed[i] + more;
         lent[i] = sum < 0 ? 0 : (size_t)sum > most[i] ? most[i] : (size_t)sum;
     }
@@ -47,6 +48,9 @@ static void lend(enum where where, struct bytes table, struct bytes choices, lon
          "observations are refused or taken wrongly");
     same(guarded_passages(where, table, lent[3]).number == (lent[3] < needed[3] ? 13 : 0),
          "a list of passages is refused or taken wrongly");
+    same(guarded_timing_chart(where, table, lent[4]).number ==
+             (lent[4] < needed[4] ? 13 : 0),
+         "bytes for a chart are refused or taken wrongly");
 }
 
 static void stored_cases(void) {
@@ -105,14 +109,16 @@ static void all_calls(enum where where, struct bytes table, struct bytes choices
     CallNumbers translated = guarded_translate(where, table, lent);
     RunNumbers ran = guarded_run(where, table, choices, lent);
     guarded_passages(where, table, lent / FIELDS);
+    CallNumbers charted = guarded_timing_chart(where, table, lent);
     guarded_meetings(where, table, lent);
     if (verdict.number != 0) {
         same(planned.number == verdict.number && translated.number == verdict.number &&
-                 ran.number == verdict.number,
+                 ran.number == verdict.number && charted.number == verdict.number,
              "another refusal than that of the check");
         same(planned.component == verdict.component &&
                  translated.component == verdict.component &&
-                 ran.component == verdict.component,
+                 ran.component == verdict.component &&
+                 charted.component == verdict.component,
              "another component than that of the check");
     }
 }

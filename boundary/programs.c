@@ -22,6 +22,7 @@
 
 enum program {
     SCHEDULE_PRINTER,
+    CHART_PRINTER,
     VERDICT_PRINTER,
     TRANSLATE_TABLE,
     PROGRAM_LISTING,
@@ -29,9 +30,9 @@ enum program {
     PROGRAMS
 };
 
-static const char *const names[PROGRAMS] = {"schedule_printer", "verdict_printer",
-                                            "translate_table", "program_listing",
-                                            "trial_run"};
+static const char *const names[PROGRAMS] = {"schedule_printer", "chart_printer",
+                                            "verdict_printer",  "translate_table",
+                                            "program_listing",  "trial_run"};
 
 static char *output;
 static size_t output_length;

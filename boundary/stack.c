@@ -54,6 +54,9 @@ static void call(int request, const struct lent *lent) {
     case SCHEDULE:
         called = timed_network_schedule(bytes, length, list, MAX_LIST);
         break;
+    case TIMING_CHART:
+        called = timed_network_timing_chart(bytes, length, chart, MAX_CHART);
+        break;
     case TRANSLATE:
         called = timed_network_translate(bytes, length, program, MAX_PROGRAM);
         break;

@@ -68,7 +68,8 @@ static char *cut(char *text, char end) {
 }
 
 static void read_vectors(const char *root, const char *path) {
-    static const char *const words[] = {"check", "schedule", "program", "part", "run"};
+    static const char *const words[] = {"check",   "schedule", "chart",
+                                        "program", "part",     "run"};
     char *line = (char *)read_file(root, path).at;
     while (*line != 0) {
         char *next = cut(line, '\n');
@@ -76,17 +77,19 @@ static void read_vectors(const char *root, const char *path) {
         char *answer = cut(request, '\t');
         char *table = cut(request, ' ');
         size_t word = 0;
-        while (word < 5 && strcmp(words[word], request) != 0)
+        while (word <= RUN && strcmp(words[word], request) != 0)
             word++;
-        if (word == 5)
+        if (word > RUN)
             fail("a request is not understood");
         struct stored *stored = add(line, (enum call)word, answer);
-        char *more = word >= PART ? cut(table, ' ') : NULL;
+        int has_more = word >= PART || (word == TIMING_CHART && strchr(table, ' ') != NULL);
+        char *more = has_more ? cut(table, ' ') : NULL;
         stored->table = from_hex(table);
         if (word == RUN)
             stored->choices = from_hex(more);
         else if (word == PART)
             stored->node = (uint8_t)atoi(more);
+        stored->lent = word == TIMING_CHART && has_more ? (size_t)atoi(more) : MAX_CHART;
         line = next;
     }
 }
@@ -116,6 +119,7 @@ static void read_corpus(const char *root) {
 void stored_read(const char *root) {
     read_vectors(root, "vectors/named.tsv");
     read_vectors(root, "vectors/random.tsv");
+    read_vectors(root, "vectors/chart.tsv");
     read_corpus(root);
 }
 
@@ -165,6 +169,19 @@ static void write_schedule(const struct stored *stored, enum where where) {
     }
 }
 
+/* The rows, the line feeds between them written as |. */
+static void write_chart(const struct stored *stored, enum where where) {
+    CallNumbers answer = guarded_timing_chart(where, stored->table, stored->lent);
+    if (write_refusal(answer.number, answer.component))
+        return;
+    for (size_t i = 0; i < answer.size; i++)
+        if (chart[i] != '\n')
+            text[used++] = (char)chart[i];
+        else if (i + 1 < answer.size)
+            text[used++] = '|';
+    text[used] = 0;
+}
+
 static void write_program(const struct stored *stored, enum where where) {
     CallNumbers answer = guarded_translate(where, stored->table, MAX_PROGRAM);
     if (!write_refusal(answer.number, answer.component))
@@ -195,7 +212,8 @@ static void write_run(const struct stored *stored, enum where where) {
 
 void stored_try(const struct stored *stored, enum where where) {
     static void (*const writers[])(const struct stored *, enum where) = {
-        write_check, write_schedule, write_program, write_part, write_run};
+        write_check,   write_schedule, write_chart,
+        write_program, write_part,     write_run};
     trying("a stored case", stored->name);
     used = 0;
     text[0] = 0;

@@ -6,8 +6,9 @@
 
 struct stored {
     char *name;
-    enum call request; /* CHECK to RUN */
+    enum call request;    /* CHECK to RUN */
     struct bytes table;   /* for PART the program */
+    size_t lent;          /* for TIMING_CHART */
     struct bytes choices; /* for RUN */
     uint8_t node;         /* for PART */
     char *answer;

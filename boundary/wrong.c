@@ -18,6 +18,7 @@ MeetingsNumbers __real_timed_network_meetings(const uint8_t *, size_t, uint32_t 
 NodeRegisters __real_timed_network_start(const uint8_t *, size_t);
 void __real_timed_network_step(NodeRegisters *, const uint8_t *, size_t, uint8_t, uint8_t);
 void __real_timed_network_take_message(NodeRegisters *, const uint8_t *, size_t, uint8_t);
+CallNumbers __real_timed_network_timing_chart(const uint8_t *, size_t, uint8_t *, size_t);
 
 VerdictNumbers __wrap_timed_network_check(const uint8_t *, size_t);
 CallNumbers __wrap_timed_network_schedule(const uint8_t *, size_t, uint32_t *, size_t);
@@ -30,6 +31,7 @@ MeetingsNumbers __wrap_timed_network_meetings(const uint8_t *, size_t, uint32_t 
 NodeRegisters __wrap_timed_network_start(const uint8_t *, size_t);
 void __wrap_timed_network_step(NodeRegisters *, const uint8_t *, size_t, uint8_t, uint8_t);
 void __wrap_timed_network_take_message(NodeRegisters *, const uint8_t *, size_t, uint8_t);
+CallNumbers __wrap_timed_network_timing_chart(const uint8_t *, size_t, uint8_t *, size_t);
 
 static int wrong(int fault) {
     static int chosen = -1;
@@ -192,4 +194,15 @@ void __wrap_timed_network_take_message(NodeRegisters *node, const uint8_t *part,
         node->goes ^= 1; /* goes to another location */
     if (wrong(43) && node->pc != before.pc)
         node->pc = before.pc + 4; /* does not skip the pairs */
+}
+
+CallNumbers __wrap_timed_network_timing_chart(const uint8_t *table, size_t length,
+                                              uint8_t *chart, size_t chart_length) {
+    CallNumbers answer =
+        __real_timed_network_timing_chart(table, length, chart, chart_length);
+    if (wrong(44) && answer.number == 0 && answer.size < chart_length)
+        chart[answer.size] = 0; /* writes past the result */
+    if (wrong(45) && answer.number == 13 && chart_length > 0)
+        chart[0] = 'C'; /* writes where too little is lent */
+    return answer;
 }

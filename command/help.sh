@@ -7,6 +7,7 @@ usage: vanillatarn COMMAND ...
 
   verdict TABLE                             whether the table is accepted; if not, why
   schedule TABLE                            its schedule, a line a passage
+  chart TABLE                               its schedule as a chart, a row a component
   translate TABLE [-o FILE]                 the program of its nodes
   list PROGRAM                              a program, a statement a line
   part PROGRAM NODE [-o FILE]               the part of a program that belongs to one node
@@ -51,6 +52,16 @@ usage: vanillatarn schedule TABLE
 
 Prints the schedule, a line a passage: component, edge, location, entry, ready,
 end, message (- for none).
+
+Exit status: 0 printed, 1 the table is refused.
+TEXT
+        chart) cat <<'TEXT' ;;
+usage: vanillatarn chart TABLE
+
+Prints the schedule as a chart: a row for each component, with 64 cells for the
+ticks up to the horizon. A cell shows S if a send window of the component has a
+tick there, else R for receive, else W for internal, else a dot; a cell without
+ticks is a space.
 
 Exit status: 0 printed, 1 the table is refused.
 TEXT

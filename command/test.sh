@@ -63,6 +63,7 @@ head -c 65536 /dev/zero >longer
 "$root/vanillatarn" table cellar.txt -o cellar.bin
 "$root/vanillatarn" verdict cellar.bin >out
 "$root/vanillatarn" schedule cellar.bin >out
+"$root/vanillatarn" chart cellar.bin >out
 "$root/vanillatarn" translate cellar.bin -o program.bin
 "$root/vanillatarn" list program.bin >out
 "$root/vanillatarn" part program.bin 0 -o part0.bin
@@ -78,7 +79,7 @@ starts 'usage: vanillatarn COMMAND ...'
 cp out help
 call -h
 gives help
-for command in verdict schedule translate list part run choices text table; do
+for command in verdict schedule chart translate list part run choices text table; do
     call --help
     check "the help names $command" grep -q "^  $command " out
     call "$command" --help
@@ -99,6 +100,14 @@ starts accepted
 call schedule cellar.bin
 says 0
 gives "$corpus/probe_and_hub.schedule"
+call chart cellar.bin
+says 0
+gives "$root/crates/chart_printer/stdout"
+for name in priority one_tick_cells empty_cells; do
+    call chart "$corpus/accepted_chart_$name.bin"
+    says 0
+    gives "$corpus/accepted_chart_$name.chart"
+done
 call translate -o program.bin cellar.bin
 says 0
 check 'the program is the stored one' cmp -s program.bin "$root/crates/translate_table/stdout"
@@ -193,7 +202,7 @@ says 1
 gives "$root/crates/verdict_printer/stdout"
 printf 'kept' >kept
 cp kept old
-for words in 'schedule incident.bin' 'translate incident.bin -o old' 'choices incident.bin -o old' 'run incident.bin early.bin'; do
+for words in 'schedule incident.bin' 'chart incident.bin' 'translate incident.bin -o old' 'choices incident.bin -o old' 'run incident.bin early.bin'; do
     # shellcheck disable=SC2086 # several words
     call $words
     says 1
@@ -262,7 +271,7 @@ check 'the file of -o is as it was' cmp -s kept old
 # A word for word call with one file in the place of the good one.
 each_reader() {
     local file=$1 command
-    for command in verdict schedule translate choices text; do
+    for command in verdict schedule chart translate choices text; do
         call "$command" "$file"
         says 2
         complains "$file: $2"
@@ -317,7 +326,7 @@ call_to() {
 }
 
 for to in full closed; do
-    for words in 'verdict cellar.bin' 'verdict incident.bin' 'schedule cellar.bin' 'translate cellar.bin' 'list program.bin' \
+    for words in 'verdict cellar.bin' 'verdict incident.bin' 'schedule cellar.bin' 'chart cellar.bin' 'translate cellar.bin' 'list program.bin' \
         'part program.bin 0' 'choices cellar.bin' 'run cellar.bin early.bin' 'run cellar.bin ticks' 'text cellar.bin' 'table cellar.txt' \
         --help 'run --help'; do
         # shellcheck disable=SC2086 # several words
@@ -376,6 +385,7 @@ verdict cellar.bin cellar.bin|one word too many: cellar.bin
 verdict --loud cellar.bin|unknown option --loud
 translate cellar.bin -o|-o lacks its file
 schedule cellar.bin -o file|'schedule' has no option -o
+chart cellar.bin -o file|'chart' has no option -o
 translate --late cellar.bin|'translate' has no option --late
 TEXT
 

@@ -10,7 +10,7 @@ corpus="$root/corpus"
 work="$(mktemp -d)"
 trap 'rm -rf -- "$work"' EXIT
 cd "$root"
-rt check schedule_printer verdict_printer translate_table program_listing trial_run >"$work/built" || { cat "$work/built"; exit 1; }
+rt check schedule_printer chart_printer verdict_printer translate_table program_listing trial_run >"$work/built" || { cat "$work/built"; exit 1; }
 cd "$work"
 
 passed=0 failed=0
@@ -36,6 +36,13 @@ while IFS=$'\t' read -r name answer; do
         printf '%s\n' "$answer" >expected
     fi
     check "$name: the schedule printed" cmp -s expected out
+    check "$name: nothing on standard error" test ! -s err
+    "$programs/chart_printer" <"$corpus/$name.bin" >out 2>err
+    if [[ -e $corpus/$name.chart ]]; then
+        check "$name: the chart printed" cmp -s "$corpus/$name.chart" out
+    elif [[ $answer != accepted ]]; then
+        check "$name: the chart refused" cmp -s expected out
+    fi
     check "$name: nothing on standard error" test ! -s err
     "$programs/verdict_printer" <"$corpus/$name.bin" >out 2>err
     check "$name: the verdict printed" test "$(head -n 1 out)" = "$answer"
@@ -83,6 +90,7 @@ full() {
     check "$program: an output that cannot be written is told" grep -q -F -- "$said" err
 }
 full schedule_printer 'The schedule could not be written.'
+full chart_printer 'The chart could not be written.'
 full verdict_printer 'The verdict could not be written.'
 full translate_table 'The program could not be written.'
 full program_listing 'The listing could not be written.'

@@ -79,8 +79,8 @@ VerdictNumbers timed_network_check(const uint8_t *table, size_t length);
  *
  *  13  the lent memory does not hold the result; component 255
  *
- * size: how many passages, or bytes of a program, were written; 0 after a
- * refusal.
+ * size: how many passages, or bytes of a chart or a program, were written; 0
+ * after a refusal.
  */
 typedef struct CallNumbers {
     uint8_t number;
@@ -108,6 +108,31 @@ typedef struct CallNumbers {
  */
 CallNumbers timed_network_schedule(const uint8_t *table, size_t length,
                                    uint32_t *list, size_t list_length);
+
+/*
+ * Draws the schedule of a table as a chart: one row of 69 bytes a component, 0
+ * upward: `C`, its digit, a colon, a space, 64 cells and a line feed.
+ *
+ * table, length: as for timed_network_check.
+ * chart:         the first of `chart_length` bytes that can be written.
+ * chart_length:  how many bytes there are. 69 x 8 = 552 are always enough. It
+ *                may be 0; then the pointer is not used.
+ *
+ * With horizon H, cell i covers the ticks from i x H / 64 up to, but not
+ * including, (i + 1) x H / 64, both rounded down. It shows `S` if a send window
+ * of the component has a tick there, else `R` for receive, else `W` for
+ * internal, else a dot. A cell without ticks is a space.
+ *
+ * The size of the answer is 69 x the number of components. The bytes past the
+ * rows stay as they were; after a refusal all of them do.
+ *
+ * Refused with 1 to 12 as timed_network_check refuses, then with 13 where
+ * chart_length is below 69 x the number of components.
+ *
+ * The chart must not overlap the table.
+ */
+CallNumbers timed_network_timing_chart(const uint8_t *table, size_t length,
+                                       uint8_t *chart, size_t chart_length);
 
 /*
  * Writes the program bytes of a table: the programs of all its nodes, laid

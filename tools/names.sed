@@ -51,6 +51,9 @@ s/\bplanIn\b/acceptedScheduleIn/g
 # The choice without its search, among the definitions.
 /proofs\.Choice\.\{[^}]*\bTaken\b/s/\bTaken\b/TakenEdge/g
 
+# Bytes are laid by `translate` and by the chart.
+s/\btranslateWith\b/bytesWith/g
+
 # Sums over lists and numbered lists, which stood in ProgramSize, are of no program: Basics.Sums.
 :sums
 s/((\n|^)(ghost )?use Rattle.model(·proofs)?\.proofs\.)ProgramSize\.\{([^}]*, )?(total|each-join|each-total|length-from|at-from|by-number)(, [^}]*)?\}(;?)/\1Basics.Sums.{\6}\8\1ProgramSize.{\5\7}\8/

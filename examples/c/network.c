@@ -1,13 +1,13 @@
 /*
- * A table's verdict, schedule and program, and one run of it.
+ * A table's verdict, schedule, chart and program, and one run of it.
  *
  *   network TABLE CHOICES
  *
  * TABLE is a file with the bytes of a table, CHOICES one with a byte for each
  * choice of the run. Written to standard output: the verdict; for an accepted
- * table then the schedule, the program in hexadecimal, the part of each node,
- * how the run ended and what was observed. Exit status 2 if a file cannot be
- * read or the output not be written, else 0, also for a refused table.
+ * table then the schedule, its chart, the program in hexadecimal, the part of
+ * each node, how the run ended and what was observed. Exit status 2 if a file
+ * cannot be read or the output not be written, else 0, also for a refused table.
  */
 #include <errno.h>
 #include <stdio.h>
@@ -19,6 +19,8 @@
 enum {
     FIELDS = 7,
     MAX_PASSAGES = 1024,
+    CHART_ROW = 69,
+    MAX_COMPONENTS = 8,
     MAX_PROGRAM = 24576,
     OBSERVATION = 32,
     NO_MESSAGE = 255
@@ -26,6 +28,7 @@ enum {
 
 /* What the library writes into. These sizes are always enough. */
 static uint32_t list[FIELDS * MAX_PASSAGES];
+static uint8_t chart[CHART_ROW * MAX_COMPONENTS];
 static uint8_t program[MAX_PROGRAM];
 static uint8_t observations[OBSERVATION * MAX_PASSAGES];
 
@@ -92,6 +95,16 @@ static void print_schedule(struct bytes table) {
     }
 }
 
+static void print_chart(struct bytes table) {
+    CallNumbers answer = timed_network_timing_chart(table.at, table.length, chart,
+                                                    CHART_ROW * MAX_COMPONENTS);
+    if (answer.number != 0) {
+        print_refusal(answer.number, answer.component);
+        return;
+    }
+    fwrite(chart, 1, answer.size, stdout);
+}
+
 static void print_program(struct bytes table) {
     CallNumbers answer = timed_network_translate(table.at, table.length,
                                                  program, MAX_PROGRAM);
@@ -137,6 +150,7 @@ int main(int count, char **words) {
     } else {
         puts("accepted");
         print_schedule(table);
+        print_chart(table);
         print_program(table);
         print_run(table, choices);
     }

@@ -16,7 +16,7 @@ use Rattle.model.specs.Places.{Valid, readOf}
 use Rattle.model.specs.Schedule.{Passage}
 use Rattle.model.specs.Checks.{acceptedScheduleOf}
 use Rattle.model.specs.Program.{programBytes}
-use Rattle.model.specs.Calls.{verdictOf, Call, refusing, laid, acceptedScheduleIn, programIn, translateWith, checkCall, translateCall}
+use Rattle.model.specs.Calls.{verdictOf, Call, refusing, laid, acceptedScheduleIn, programIn, bytesWith, checkCall, translateCall}
 use Rattle.model.proofs.Reader.Located.{valid-read}
 use Rattle.table.proofs.Answered.{verdict-refused, verdict-accepted}
 
@@ -25,12 +25,12 @@ pub translate-refused : (bs lent : List ℕ) {n c : ℕ} → acceptedScheduleIn 
 unfolding translateCall acceptedScheduleIn
 translate-refused bs lent {n} {c} e = go (readTable bs) e
   where
-    planned : (t : Read) (b : Answer (List Passage)) → b ≡ refused n c → translateWith lent (b after λ S. accepted (programBytes t)) ≡ refusing n c lent
-    planned t b q = ap (λ (x : Answer (List Passage)). translateWith lent (x after λ S. accepted (programBytes t))) q
+    planned : (t : Read) (b : Answer (List Passage)) → b ≡ refused n c → bytesWith lent (b after λ S. accepted (programBytes t)) ≡ refusing n c lent
+    planned t b q = ap (λ (x : Answer (List Passage)). bytesWith lent (x after λ S. accepted (programBytes t))) q
 
-    go : (a : Answer Read) → (a after acceptedScheduleOf) ≡ refused n c → translateWith lent (a after λ t. acceptedScheduleOf t after λ S. accepted (programBytes t)) ≡ refusing n c lent
+    go : (a : Answer Read) → (a after acceptedScheduleOf) ≡ refused n c → bytesWith lent (a after λ t. acceptedScheduleOf t after λ S. accepted (programBytes t)) ≡ refusing n c lent
     go (accepted t) q = planned t (acceptedScheduleOf t) q
-    go (refused m d) q = ap (translateWith lent) (let z : _≡_ {A = Answer (List ℕ)} (refused m d) (refused n c) = cc in z)
+    go (refused m d) q = ap (bytesWith lent) (let z : _≡_ {A = Answer (List ℕ)} (refused m d) (refused n c) = cc in z)
 
 pub check-refused : (bs lent : List ℕ) {v : Verdict} {n c : ℕ} → v ≡ checkCall bs → v ≡ Refused n c → translateCall bs lent ≡ refusing n c lent
 unfolding checkCall
@@ -47,8 +47,8 @@ module _ (bs : List ℕ) (v : Valid bs) {verdict : Verdict} (e : verdict ≡ che
       let a = verdict-accepted (acceptedScheduleIn bs) (sym e ∙ q) in
       let r : readTable bs ≡ accepted (readOf bs) = valid-read bs v in
       let p : acceptedScheduleOf (readOf bs) ≡ accepted (a .0) = sym (ap (λ (x : Answer Read). x after acceptedScheduleOf) r) ∙ a .1 in
-      ap (λ (x : Answer Read). translateWith lent (x after λ t. acceptedScheduleOf t after λ S. accepted (programBytes t))) r
-      ∙ ap (λ (x : Answer (List Passage)). translateWith lent (x after λ S. accepted (programBytes (readOf bs)))) p
+      ap (λ (x : Answer Read). bytesWith lent (x after λ t. acceptedScheduleOf t after λ S. accepted (programBytes t))) r
+      ∙ ap (λ (x : Answer (List Passage)). bytesWith lent (x after λ S. accepted (programBytes (readOf bs)))) p
 
   pub too-short : (lent : List ℕ) → length lent < length (programBytes (readOf bs)) → translateCall bs lent ≡ refusing 13 255 lent
   unfolding program

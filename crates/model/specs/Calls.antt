@@ -101,13 +101,14 @@ scheduleCall table lent = scheduleWith lent (acceptedScheduleIn table)
 abbrev pub programIn : List ℕ → Answer (List ℕ)
 programIn table = readTable table after λ t. acceptedScheduleOf t after λ S. accepted (programBytes t)
 
-abbrev pub translateWith : List ℕ → Answer (List ℕ) → Call
-translateWith lent (accepted program) = laid (length program) program lent
-translateWith lent (refused n c) = refusing n c lent
+-- bytes are laid, or the call is refused
+abbrev pub bytesWith : List ℕ → Answer (List ℕ) → Call
+bytesWith lent (accepted bytes) = laid (length bytes) bytes lent
+bytesWith lent (refused n c) = refusing n c lent
 
 unfoldable pub translateCall : List ℕ → List ℕ → Call
 unfolding acceptedScheduleIn programBytes
-translateCall table lent = translateWith lent (programIn table)
+translateCall table lent = bytesWith lent (programIn table)
 
 -- ## The run
 

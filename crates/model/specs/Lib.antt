@@ -18,6 +18,7 @@ pub mod Calls
 pub mod Acceptance
 pub mod Observations
 pub mod Meetings
+pub mod Chart
 pub mod Build
 pub mod Cases
 pub mod DemandCases

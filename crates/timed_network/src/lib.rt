@@ -9,6 +9,7 @@ ghost use Rattle.model.specs.declared.Verdict.the-variants.{Accepted};
 ghost use Rattle.model.specs.Acceptance.{Accepts};
 ghost use Rattle.model.specs.Observations.{ObservationsRead};
 ghost use Rattle.model.specs.Meetings.{meetingsCall};
+ghost use Rattle.model.specs.Chart.{chartCall};
 ghost use Rattle.node.specs.After.{startOf};
 ghost use Rattle.lent_node.specs.Step.{heldOf, steppedOf, messageOf};
 ghost use Rattle.passages.specs.Passages.{passagesCall};
@@ -168,6 +169,15 @@ pub extern "C" fn timed_network_schedule(table: &[u8], list: &mut [u32]) -> Call
     ensures { λ r. ⌜ (r .number ≡ numberOf (scheduleCall (now (table .entry)) (now (list .entry)) .verdict)) × (r .component ≡ concernedOf (scheduleCall (now (table .entry)) (now (list .entry)) .verdict)) × (r .size ≡ scheduleCall (now (table .entry)) (now (list .entry)) .size) × (now (list .exit) ≡ scheduleCall (now (table .entry)) (now (list .entry)) .lent) ⌝ }
 {
     let c = calls::schedule(table, list);
+    numbers_of(c)
+}
+
+// The schedule as a chart: 69 bytes a component, laid over the front of those lent.
+#[no_mangle]
+pub extern "C" fn timed_network_timing_chart(table: &[u8], chart: &mut [u8]) -> CallNumbers
+    ensures { λ r. ⌜ (r .number ≡ numberOf (chartCall (now (table .entry)) (now (chart .entry)) .verdict)) × (r .component ≡ concernedOf (chartCall (now (table .entry)) (now (chart .entry)) .verdict)) × (r .size ≡ chartCall (now (table .entry)) (now (chart .entry)) .size) × (now (chart .exit) ≡ chartCall (now (table .entry)) (now (chart .entry)) .lent) ⌝ }
+{
+    let c = timing_chart::timing_chart(table, chart);
     numbers_of(c)
 }
 

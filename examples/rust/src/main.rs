@@ -1,4 +1,4 @@
-//! A table's verdict, schedule and program, and one run of it.
+//! A table's verdict, schedule, chart and program, and one run of it.
 //!
 //!     network TABLE CHOICES
 //!
@@ -11,8 +11,8 @@ use std::error::Error;
 use std::fs;
 use std::io::{self, BufWriter, Write};
 
-use timed_network::{check, part, passages, program, run, End, Verdict};
-use timed_network::{FIELDS, MAX_PASSAGES, NO_MESSAGE, OBSERVATION};
+use timed_network::{check, part, passages, program, run, timing_chart, End, Verdict};
+use timed_network::{CHART_ROW, FIELDS, MAX_PASSAGES, NO_MESSAGE, OBSERVATION};
 
 fn main() -> Result<(), Box<dyn Error>> {
     let words: Vec<String> = env::args().collect();
@@ -25,6 +25,7 @@ fn main() -> Result<(), Box<dyn Error>> {
     writeln!(out, "{verdict}")?;
     if verdict == Verdict::Accepted {
         print_schedule(&mut out, &table)?;
+        print_chart(&mut out, &table)?;
         print_program(&mut out, &table)?;
         print_run(&mut out, &table, &choices)?;
     }
@@ -47,6 +48,15 @@ fn print_schedule(out: &mut impl Write, table: &[u8]) -> io::Result<()> {
         }
     }
     Ok(())
+}
+
+fn print_chart(out: &mut impl Write, table: &[u8]) -> io::Result<()> {
+    let mut chart = [0; 8 * CHART_ROW];
+    let call = timing_chart(table, &mut chart);
+    match call.verdict {
+        Verdict::Accepted => out.write_all(&chart[..call.size]),
+        refused => writeln!(out, "{refused}"),
+    }
 }
 
 fn print_program(out: &mut impl Write, table: &[u8]) -> io::Result<()> {

@@ -16,7 +16,7 @@ use std::env;
 use std::hint::black_box;
 use std::process::ExitCode;
 use tables::Row;
-use timed_network::{FIELDS, MAX_PASSAGES, MAX_PROGRAM};
+use timed_network::{CHART_ROW, FIELDS, MAX_PASSAGES, MAX_PROGRAM};
 
 fn main() -> ExitCode {
     let words: Vec<String> = env::args().skip(1).collect();
@@ -105,9 +105,11 @@ fn answers(reader: &Reader, table: &[u8], choices: &[u8]) -> String {
     let scheduled = (reader.schedule)(table, &mut list);
     let translated = (reader.translate)(table, &mut bytes);
     let program = bytes[..translated.size].to_vec();
+    let mut chart = vec![0; 8 * CHART_ROW];
+    let drawn = (reader.timing_chart)(table, &mut chart);
     let last = (reader.part)(&program, last_node(&program)).to_vec();
     let ran = (reader.run)(table, choices, &mut bytes[..AMPLE]);
-    format!("{verdict} {scheduled:?} {translated:?} {ran:?} {list:?} {last:?} {bytes:?}")
+    format!("{verdict} {scheduled:?} {translated:?} {ran:?} {list:?} {last:?} {bytes:?} {drawn:?} {chart:?}")
 }
 
 /// The choices of a row, after all sides have given the same answers.
@@ -126,7 +128,7 @@ fn last_node(program: &[u8]) -> u8 {
     program.get(3).map_or(0, |count| count - 1)
 }
 
-/// Times check, schedule, translate and part.
+/// Times check, schedule, chart, translate and part.
 fn time_calls(effort: Effort, row: &Row) {
     let table = &row.table[..];
     let check = |reader: Reader| move || (reader.check)(black_box(table));
@@ -136,6 +138,11 @@ fn time_calls(effort: Effort, row: &Row) {
         move || (reader.schedule)(black_box(table), &mut list)
     };
     line("schedule", in_turns(effort, sides().map(schedule)));
+    let chart = |reader: Reader| {
+        let mut chart = vec![0; 8 * CHART_ROW];
+        move || (reader.timing_chart)(black_box(table), &mut chart)
+    };
+    line("chart", in_turns(effort, sides().map(chart)));
     let translate = |reader: Reader| {
         let mut program = vec![0; MAX_PROGRAM];
         move || (reader.translate)(black_box(table), &mut program)

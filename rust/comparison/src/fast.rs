@@ -21,6 +21,7 @@ pub(crate) const READER: Reader = Reader {
     check,
     schedule,
     translate,
+    timing_chart,
     part,
     run,
 };
@@ -38,6 +39,10 @@ fn schedule(table: &[u8], list: &mut [u32]) -> Call {
 
 fn translate(table: &[u8], program: &mut [u8]) -> Call {
     answer(with(|yardstick| yardstick.translate(table, program)))
+}
+
+fn timing_chart(table: &[u8], chart: &mut [u8]) -> Call {
+    answer(with(|yardstick| yardstick.timing_chart(table, chart)))
 }
 
 fn part(program: &[u8], node: u8) -> &[u8] {

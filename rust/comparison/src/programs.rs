@@ -1,10 +1,10 @@
-//! Programs and their parts: what both write into lent bytes, and what both
-//! find for a node's number.
+//! Programs, their parts, and charts: what both write into lent bytes, and what
+//! both find for a node's number.
 
 use crate::buffers::{first_difference, Buffer};
 use crate::bytes::hex;
 use crate::lists::Unlike;
-use crate::readers::{Reader, Readers};
+use crate::readers::{Readers, Writes};
 use timed_network::{Call, Verdict};
 
 /// The numbers for which a part is asked: those of nodes, and a few more.
@@ -17,14 +17,14 @@ struct Lent {
 }
 
 impl Lent {
-    fn to(reader: &Reader, table: &[u8], length: usize) -> Lent {
+    fn to(writes: Writes, table: &[u8], length: usize) -> Lent {
         let mut buffer = Buffer::new(length);
-        let call = (reader.translate)(table, buffer.lent());
+        let call = writes(table, buffer.lent());
         Lent { call, buffer }
     }
 
     /// What was written, as far as the call says that it was.
-    fn program(&self) -> &[u8] {
+    fn written(&self) -> &[u8] {
         self.buffer.first(self.call.size)
     }
 
@@ -32,7 +32,7 @@ impl Lent {
         let Call { verdict, size } = self.call;
         let mut text = format!("{verdict}, {size} bytes");
         if let Some(place) = place {
-            let near = &self.program()[place.min(self.program().len())..];
+            let near = &self.written()[place.min(self.written().len())..];
             text += &format!(", from byte {place} on {}", hex(&near[..near.len().min(8)]));
         }
         if let Some(place) = self.buffer.written_past(size) {
@@ -49,13 +49,32 @@ pub fn compare(
     table: &[u8],
     length: usize,
 ) -> Result<(Verdict, Vec<u8>), Unlike> {
-    let library = Lent::to(&readers.library, table, length);
-    let second = Lent::to(&readers.second, table, length);
-    let place = first_difference(library.program(), second.program());
+    let calls = [readers.library.translate, readers.second.translate];
+    compare_written(calls, table, length)
+}
+
+/// The same for the chart.
+pub fn compare_chart(
+    readers: &Readers,
+    table: &[u8],
+    length: usize,
+) -> Result<(Verdict, Vec<u8>), Unlike> {
+    let calls = [readers.library.timing_chart, readers.second.timing_chart];
+    compare_written(calls, table, length)
+}
+
+/// The same for any two calls that write bytes.
+fn compare_written(
+    calls: [Writes; 2],
+    table: &[u8],
+    length: usize,
+) -> Result<(Verdict, Vec<u8>), Unlike> {
+    let [library, second] = calls.map(|writes| Lent::to(writes, table, length));
+    let place = first_difference(library.written(), second.written());
     let sides = [&library, &second];
     let kept = |side: &&Lent| side.buffer.written_past(side.call.size).is_none();
     if library.call == second.call && place.is_none() && sides.iter().all(kept) {
-        return Ok((library.call.verdict, library.program().to_vec()));
+        return Ok((library.call.verdict, library.written().to_vec()));
     }
     Err(Unlike {
         library: library.told(place),
@@ -63,7 +82,7 @@ pub fn compare(
     })
 }
 
-/// The lengths of the bytes that are lent for a program of this length: it
+/// The lengths of the bytes that are lent for a result of this length: it
 /// and a few more, one less, and another one by turns.
 pub fn lengths(exact: usize, turn: u64) -> [usize; 3] {
     let more = [1, 0, 4, 0, 300][(turn % 5) as usize];
@@ -101,7 +120,7 @@ pub fn compare_part(readers: &Readers, program: &[u8], node: u8) -> Result<bool,
 #[cfg(test)]
 mod tests {
     use super::*;
-    use crate::readers::{refused, second_part};
+    use crate::readers::{refused, second_part, Reader};
     use crate::tables::WORKED_EXAMPLE;
 
     const NEEDED: usize = 246;

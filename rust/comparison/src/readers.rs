@@ -14,6 +14,8 @@ pub const TOO_MANY: u8 = 14;
 
 /// A call that finds one node's part of a program.
 pub type Part = for<'a> fn(&'a [u8], u8) -> &'a [u8];
+/// A call that writes bytes of a table.
+pub type Writes = fn(&[u8], &mut [u8]) -> Call;
 /// A call that runs a table under choices and writes observations.
 pub type Run = fn(&[u8], &[u8], &mut [u8]) -> RunNumbers;
 
@@ -25,7 +27,9 @@ pub struct Reader {
     /// What it writes as a table's schedule.
     pub schedule: fn(&[u8], &mut [u32]) -> Call,
     /// What it writes as a table's program.
-    pub translate: fn(&[u8], &mut [u8]) -> Call,
+    pub translate: Writes,
+    /// What it writes as a table's chart.
+    pub timing_chart: Writes,
     /// What it finds as one node's part of a program.
     pub part: Part,
     /// What it says of a table's run under choices, and writes.
@@ -48,6 +52,7 @@ impl Readers {
             check: timed_network::check,
             schedule: timed_network::schedule,
             translate: timed_network::translate,
+            timing_chart: timed_network::timing_chart,
             part: timed_network::part,
             run: timed_network::run_numbers,
         };
@@ -71,6 +76,7 @@ impl Reader {
             check: second_reader,
             schedule: second_schedule,
             translate: second_translate,
+            timing_chart: second_chart,
             part: second_part,
             run: second_run,
         }
@@ -113,7 +119,16 @@ pub fn second_schedule(table: &[u8], list: &mut [u32]) -> Call {
 
 /// The second implementation's program.
 pub fn second_translate(table: &[u8], program: &mut [u8]) -> Call {
-    match calls::translate(table, program) {
+    written(calls::translate(table, program))
+}
+
+/// The second implementation's chart.
+pub fn second_chart(table: &[u8], chart: &mut [u8]) -> Call {
+    written(calls::timing_chart(table, chart))
+}
+
+fn written(size: Result<usize, Refusal>) -> Call {
+    match size {
         Ok(size) => Call {
             verdict: Verdict::Accepted,
             size,

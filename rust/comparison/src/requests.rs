@@ -1,4 +1,5 @@
-//! The programs, parts and runs that the vectors keep, with their answers.
+//! The programs, parts, charts and runs that the vectors keep, with their
+//! answers.
 
 use crate::bytes::unhex;
 use crate::stored::{read_answer, vector_lines};
@@ -22,6 +23,15 @@ pub enum Request {
         node: u8,
         /// Its part.
         part: Vec<u8>,
+    },
+    /// The chart of a table.
+    Chart {
+        /// The table.
+        table: Vec<u8>,
+        /// How many bytes are lent.
+        lent: usize,
+        /// The rows, or why there are none.
+        answer: Result<Vec<u8>, Verdict>,
     },
     /// A run of a table.
     Run {
@@ -80,9 +90,25 @@ fn request(line: &str) -> Option<Option<Request>> {
             node: node.parse().ok()?,
             part: unhex(answer)?,
         },
+        (["chart", table], _) => chart(table, "552", answer)?,
+        (["chart", table, lent], _) => chart(table, lent, answer)?,
         (["run", table, choices], None) => run(unhex(table)?, unhex(choices)?, answer)?,
         _ => return Some(None),
     }))
+}
+
+/// Rows without their line feeds, with `|` between them, or a refusal.
+fn chart(table: &str, lent: &str, answer: &str) -> Option<Request> {
+    let answer = match read_answer(answer) {
+        Some(Verdict::Accepted) => return None,
+        Some(refused) => Err(refused),
+        None => Ok(format!("{}\n", answer.replace('|', "\n")).into_bytes()),
+    };
+    Some(Request::Chart {
+        table: unhex(table)?,
+        lent: lent.parse().ok()?,
+        answer,
+    })
 }
 
 /// `end node tick used`, then each observation, with `|` between them.
@@ -137,6 +163,23 @@ mod tests {
             answer,
         };
         assert_eq!(read, Some(Some(expected)));
+    }
+
+    #[test]
+    fn charts_are_read() {
+        let chart = |lent, answer| {
+            let table = vec![1, 2];
+            Some(Some(Request::Chart {
+                table,
+                lent,
+                answer,
+            }))
+        };
+        let read = request("a\tchart 0102\tC0: ..|C1: SS");
+        assert_eq!(read, chart(552, Ok(b"C0: ..\nC1: SS\n".to_vec())));
+        let read = request("a\tchart 0102 137\trefused 13 255");
+        assert_eq!(read, chart(137, Err(refused(13, 255))));
+        assert_eq!(request("a\tchart 0102\taccepted"), None);
     }
 
     #[test]

@@ -19,6 +19,8 @@ pub struct Tally {
     pub lists: Lists,
     /// The bytes that were lent for programs and compared.
     pub programs: Lists,
+    /// The bytes that were lent for charts and compared.
+    pub charts: Lists,
     /// The parts that were found in programs, and those that were not.
     pub parts: [u64; 2],
     /// The runs.
@@ -28,7 +30,7 @@ pub struct Tally {
 /// How lent lists came back, or lent bytes.
 #[derive(Clone, Copy, Debug, Default, PartialEq, Eq)]
 pub struct Lists {
-    /// With a schedule or a program.
+    /// With a schedule, a program or a chart.
     pub written: u64,
     /// As they were, too short for it.
     pub short: u64,
@@ -80,6 +82,7 @@ impl Tally {
             answers: [0; ANSWERS],
             lists: Lists::default(),
             programs: Lists::default(),
+            charts: Lists::default(),
             parts: [0; 2],
             runs: Runs::default(),
         }
@@ -92,7 +95,7 @@ impl Tally {
 
     /// Whether nothing was tried.
     pub fn is_empty(&self) -> bool {
-        self.cases() + self.parts.iter().sum::<u64>() + self.runs.all() == 0
+        self.cases() + self.charts.all() + self.parts.iter().sum::<u64>() + self.runs.all() == 0
     }
 
     /// Counts an answer, which must be one that there is.
@@ -113,6 +116,7 @@ impl Tally {
             }
             sum.lists.add(&tally.lists);
             sum.programs.add(&tally.programs);
+            sum.charts.add(&tally.charts);
             for (all, own) in sum.parts.iter_mut().zip(tally.parts) {
                 *all += own;
             }
@@ -123,7 +127,7 @@ impl Tally {
 }
 
 /// What was tried: the answers that were given, each with how often, then
-/// lists, programs, parts and runs, if there are any.
+/// lists, programs, charts, parts and runs, if there are any.
 impl fmt::Display for Tally {
     fn fmt(&self, out: &mut fmt::Formatter<'_>) -> fmt::Result {
         let [accepted, refusals @ ..] = &self.answers;
@@ -136,7 +140,11 @@ impl fmt::Display for Tally {
                 write!(out, ", refused {number}: {count}")?;
             }
         }
-        for (lists, name) in [(&self.lists, "lists"), (&self.programs, "programs")] {
+        for (lists, name) in [
+            (&self.lists, "lists"),
+            (&self.programs, "programs"),
+            (&self.charts, "charts"),
+        ] {
             if lists.all() > 0 {
                 write!(out, "; {} {name}: {lists}", lists.all())?;
             }

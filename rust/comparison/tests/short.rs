@@ -141,6 +141,38 @@ fn wrong_schedules_are_found_out() {
     assert!(is_found_out(with_schedule(wants_more)));
 }
 
+/// A chart whose first cell is another.
+fn draws_another_cell(table: &[u8], chart: &mut [u8]) -> Call {
+    let call = (Reader::second().timing_chart)(table, chart);
+    if call.size > 0 {
+        chart[4] ^= 1;
+    }
+    call
+}
+
+/// A chart whose 13 comes with one byte too few lent.
+fn wants_68_a_row(table: &[u8], chart: &mut [u8]) -> Call {
+    let mut ample = [0; 552];
+    let call = (Reader::second().timing_chart)(table, &mut ample);
+    if chart.len() < call.size / 69 * 68 {
+        return (Reader::second().timing_chart)(table, chart);
+    }
+    let room = chart.len().min(call.size);
+    chart[..room].copy_from_slice(&ample[..room]);
+    call
+}
+
+#[test]
+fn wrong_charts_are_found_out() {
+    for timing_chart in [draws_another_cell, wants_68_a_row] {
+        let second = Reader::second();
+        assert!(is_found_out(Reader {
+            timing_chart,
+            ..second
+        }));
+    }
+}
+
 #[test]
 fn two_readers_that_are_wrong_in_the_same_way_are_found_out_by_the_vectors() {
     let readers = Readers {
@@ -203,8 +235,8 @@ fn what_is_known_before_is_demanded() {
     assert!(!Expected::Anything.allows(refused(0, 255)));
 }
 
-/// A class with these answers, and lists, programs, parts and runs of all
-/// kinds.
+/// A class with these answers, and lists, programs, charts, parts and runs of
+/// all kinds.
 fn tally(class: &'static str, answers: [u64; 13]) -> Tally {
     let lists = Lists {
         written: 3,
@@ -216,6 +248,7 @@ fn tally(class: &'static str, answers: [u64; 13]) -> Tally {
         answers,
         lists,
         programs: lists,
+        charts: lists,
         parts: [5, 4],
         runs: all_kinds(),
     }
@@ -280,6 +313,9 @@ fn what_was_not_tried_is_told() {
         "no program was written",
         "no program was too long",
         "no refused table was translated",
+        "no chart was written",
+        "no chart was too long",
+        "no refused table was drawn",
         "no part was found",
         "no part was empty",
     ];
@@ -297,6 +333,7 @@ fn a_line_tells_all_answers_that_were_given() {
     let line = "name: 10 cases: accepted 1, refused 1: 2, refused 8: 3, refused 12: 4; \
                 6 lists: written 3, too short 2, table refused 1; \
                 6 programs: written 3, too short 2, table refused 1; \
+                6 charts: written 3, too short 2, table refused 1; \
                 9 parts: found 5, empty 4; 38 runs: 7 horizon, 7 used up, 7 late \
                 (5 at work, 4 for a sleep, 2 several nodes), 7 not allowed \
                 (1 no such node, 1 nothing kept, 1 early sleep, 2 early listen, \

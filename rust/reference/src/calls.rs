@@ -2,6 +2,7 @@
 //!
 //! "Lent buffers keep their bytes; on success so do those past the result."
 
+use crate::chart;
 use crate::checks::verdict;
 use crate::program::{self, program_length, write_program};
 use crate::run::{run_into, Outcome, OBSERVATION};
@@ -38,6 +39,16 @@ pub fn translate(table: &[u8], bytes: &mut [u8]) -> Result<usize, Refusal> {
     demand_room(bytes.len(), length)?;
     write_program(&table, &mut bytes[..length]);
     Ok(length)
+}
+
+/// Writes the chart of the schedule and gives the count of its bytes. "A short
+/// buffer is 13 as before."
+pub fn timing_chart(table: &[u8], bytes: &mut [u8]) -> Result<usize, Refusal> {
+    let (table, passages) = verdict(table)?;
+    demand_room(bytes.len(), table.components.len() * chart::ROW)?;
+    let rows = chart::chart(&table, &passages);
+    bytes[..rows.len()].copy_from_slice(&rows);
+    Ok(rows.len())
 }
 
 /// "The part of the program bytes that belongs to one node can be had by its

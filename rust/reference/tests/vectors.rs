@@ -18,6 +18,8 @@ fn answer(request: &[String]) -> Result<String, Refusal> {
         ("program", []) => program_answer(&bytes),
         ("part", [node]) => Ok(hex(calls::part(&bytes, node.parse().unwrap()))),
         ("run", [choices]) => run_answer(&bytes, &unhex(choices)),
+        ("chart", []) => chart_answer(&bytes, 552),
+        ("chart", [lent]) => chart_answer(&bytes, lent.parse().unwrap()),
         _ => panic!("no such request: {request:?}"),
     }
 }
@@ -52,6 +54,15 @@ fn run_answer(bytes: &[u8], choices: &[u8]) -> Result<String, Refusal> {
     Ok(parts.join("|"))
 }
 
+/// The rows without their line feeds, `|` between them.
+fn chart_answer(bytes: &[u8], lent: usize) -> Result<String, Refusal> {
+    let mut chart = vec![0; lent];
+    let size = calls::timing_chart(bytes, &mut chart)?;
+    assert!(chart[size..].iter().all(|&byte| byte == 0));
+    let text = String::from_utf8(chart[..size].to_vec()).unwrap();
+    Ok(text.lines().collect::<Vec<_>>().join("|"))
+}
+
 #[test]
 fn all_vectors() {
     let mut counts = std::collections::BTreeMap::new();
@@ -73,5 +84,5 @@ fn all_vectors() {
     }
     println!("{counts:?}");
     assert!(wrong.is_empty(), "{}", wrong.join("\n"));
-    assert!(counts.len() == 5);
+    assert!(counts.len() == 6);
 }

@@ -1,6 +1,7 @@
 //! A folder of tables: for each name a source `NAME.txt` and its bytes
-//! `NAME.bin`, for each accepted one its schedule `NAME.schedule`, and one file
-//! `answers.tsv` with the answers of checks 1 to 12.
+//! `NAME.bin`, for each accepted one its schedule `NAME.schedule`, for some of
+//! them its chart `NAME.chart`, and one file `answers.tsv` with the answers of
+//! checks 1 to 12.
 
 use crate::encode_file;
 use crate::schedule::{self, Passage};
@@ -63,6 +64,7 @@ pub fn verify(folder: &Path) -> Result<usize, Vec<String>> {
         .filter_map(|name| verify_one(folder, name).err());
     problems.extend(differing);
     problems.extend(verify_schedules(folder, &answers).map_err(whole)?);
+    problems.extend(verify_charts(folder).map_err(whole)?);
     count_unless(problems, sources.len())
 }
 
@@ -80,6 +82,40 @@ fn verify_schedules(folder: &Path, answers: &[(String, Answer)]) -> Result<Vec<S
         .filter_map(|name| read_schedule(folder, name).err());
     problems.extend(unreadable);
     Ok(problems)
+}
+
+/// What is wrong with the charts: only a table with a schedule has one, and
+/// all have the form that document 02 gives them.
+fn verify_charts(folder: &Path) -> Result<Vec<String>, String> {
+    let charts = names_with(folder, "chart")?;
+    let scheduled = names_with(folder, "schedule")?;
+    let mut problems = missing(&charts, &scheduled, "has a chart and no schedule");
+    let unreadable = charts
+        .iter()
+        .filter_map(|name| read_chart(folder, name).err());
+    problems.extend(unreadable);
+    Ok(problems)
+}
+
+/// The stored chart of a name: for each component, from 0 on, `C`, its digit,
+/// a colon, a space, 64 cells and a line feed.
+pub fn read_chart(folder: &Path, name: &str) -> Result<String, String> {
+    let file = format!("{name}.chart");
+    let wrong = |problem: &dyn fmt::Display| format!("{file}: {problem}");
+    let text = fs::read_to_string(folder.join(&file)).map_err(|error| wrong(&error))?;
+    let rows: Vec<&str> = text.split_inclusive('\n').collect();
+    for (number, row) in rows.iter().enumerate() {
+        let cells = row.strip_prefix(&format!("C{number}: "));
+        let cells = cells.and_then(|cells| cells.strip_suffix('\n'));
+        let shown = |cell: char| " .WRS".contains(cell);
+        if !cells.is_some_and(|cells| cells.len() == 64 && cells.chars().all(shown)) {
+            return Err(wrong(&format!("line {}: not a row of a chart", number + 1)));
+        }
+    }
+    match rows.len() {
+        1..=8 => Ok(text),
+        _ => Err(wrong(&"not one to eight rows")),
+    }
 }
 
 /// The stored schedule of a name.

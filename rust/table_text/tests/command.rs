@@ -191,3 +191,36 @@ fn verify_reads_the_schedules() {
     assert_eq!(call("verify", &folder), (Some(1), end));
     fs::remove_dir_all(folder).unwrap();
 }
+
+#[test]
+fn verify_reads_the_charts() {
+    let folder = folder_with_one("charts");
+    let file = |name: &str, text: &str| fs::write(folder.join(name), text).unwrap();
+    file("two.txt", GOOD);
+    file("two.schedule", SCHEDULE);
+    file("answers.tsv", "one\trefused 3 255\ntwo\taccepted\n");
+    assert_eq!(call("build", &folder).0, Some(0));
+    let chart = format!("C0: {:>64}\n", "W");
+    file("two.chart", &chart);
+    let verified = "2 tables verified\n".to_string();
+    assert_eq!(call("verify", &folder), (Some(0), verified));
+
+    for bad in [
+        chart.replace('0', "1"),
+        chart.replace('W', "X"),
+        chart.replace(": ", ":"),
+        chart.trim_end().to_string(),
+    ] {
+        file("two.chart", &bad);
+        let form = "two.chart: line 1: not a row of a chart\n".to_string();
+        assert_eq!(call("verify", &folder), (Some(1), form), "{bad}");
+    }
+    file("two.chart", "");
+    let none = "two.chart: not one to eight rows\n".to_string();
+    assert_eq!(call("verify", &folder), (Some(1), none));
+    file("two.chart", &chart);
+    file("one.chart", &chart);
+    let other = "one: has a chart and no schedule\n".to_string();
+    assert_eq!(call("verify", &folder), (Some(1), other));
+    fs::remove_dir_all(folder).unwrap();
+}

@@ -8,7 +8,7 @@ use reference::checks::verdict;
 use reference::schedule::print;
 use reference::table::read_table;
 use std::fs;
-use table_text::corpus::{read_answers, read_schedule, verify, Answer};
+use table_text::corpus::{read_answers, read_chart, read_schedule, verify, Answer};
 
 fn stored() -> Vec<(String, Answer, Vec<u8>)> {
     let folder = corpus_folder();
@@ -107,4 +107,19 @@ fn the_reference_prints_the_same_schedules() {
             assert_eq!(read.len(), passages.len(), "{name}");
         }
     }
+}
+
+#[test]
+fn charts_are_those_of_document_02() {
+    let mut count = 0;
+    for (name, _, bytes) in stored() {
+        if corpus_folder().join(format!("{name}.chart")).exists() {
+            let chart = read_chart(&corpus_folder(), &name).unwrap();
+            let mut given = [0; 552];
+            let size = calls::timing_chart(&bytes, &mut given).unwrap();
+            assert_eq!(given[..size], *chart.as_bytes(), "{name}");
+            count += 1;
+        }
+    }
+    assert_eq!(count, 3);
 }

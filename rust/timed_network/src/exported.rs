@@ -96,6 +96,12 @@ extern "C" {
         program: *mut u8,
         program_length: usize,
     ) -> CallNumbers;
+    fn timed_network_timing_chart(
+        table: *const u8,
+        length: usize,
+        chart: *mut u8,
+        chart_length: usize,
+    ) -> CallNumbers;
     fn timed_network_part(program: *const u8, program_length: usize, node: u8) -> PartNumbers;
     fn timed_network_run(
         table: *const u8,
@@ -140,6 +146,15 @@ pub(crate) fn schedule(table: &[u8], list: &mut [u32]) -> CallNumbers {
 pub(crate) fn meetings(table: &[u8], list: &mut [u32]) -> MeetingsNumbers {
     // As for the schedule.
     unsafe { timed_network_meetings(table.as_ptr(), table.len(), list.as_mut_ptr(), list.len()) }
+}
+
+/// Writes the chart of a table's schedule.
+pub(crate) fn timing_chart(table: &[u8], chart: &mut [u8]) -> CallNumbers {
+    // As for the schedule: the chart, borrowed to be changed, does not overlap
+    // the table.
+    unsafe {
+        timed_network_timing_chart(table.as_ptr(), table.len(), chart.as_mut_ptr(), chart.len())
+    }
 }
 
 /// Writes the program bytes of a table.

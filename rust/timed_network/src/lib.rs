@@ -2,13 +2,13 @@
 //!
 //! [`check`] answers checks 1 to 12 of document 01, [`schedule`] writes the
 //! schedule of an accepted table into a lent list of numbers,
-//! [`schedule_into`] into a lent list of passages, and [`passages`] gives it as
-//! a list of its own. [`meetings`] tells which windows met where 10, 11 or 12
-//! refuses a table. [`translate`] writes the program of an accepted table,
-//! [`program`] gives it as bytes of its own, [`part`] finds one node's part in
-//! it, [`run`] carries out choices. [`node`] has one node whose registers the
-//! caller lends. The declarations of the library stand in two private modules;
-//! each call gets its safe form.
+//! [`schedule_into`] into a lent list of passages, [`passages`] gives it as a
+//! list of its own, and [`timing_chart`] draws it. [`meetings`] tells which
+//! windows met where 10, 11 or 12 refuses a table. [`translate`] writes the
+//! program of an accepted table, [`program`] gives it as bytes of its own,
+//! [`part`] finds one node's part in it, [`run`] carries out choices. [`node`]
+//! has one node whose registers the caller lends. The declarations of the
+//! library stand in two private modules; each call gets its safe form.
 //!
 //! Every slice may be lent: an empty one, one of any length (a slice never
 //! has more than `isize::MAX` bytes), one that starts anywhere. What a call
@@ -38,6 +38,9 @@ pub const FIELDS: usize = 7;
 pub const MAX_PASSAGES: usize = 1024;
 /// The seventh number of a passage without a message.
 pub const NO_MESSAGE: u32 = 255;
+/// The bytes of a chart's row: `C`, the component's digit, a colon, a space, 64
+/// cells and a line feed.
+pub const CHART_ROW: usize = 69;
 
 /// What the library says of a table or of a call.
 #[derive(Clone, Copy, Debug, PartialEq, Eq)]
@@ -72,13 +75,13 @@ impl fmt::Display for Verdict {
     }
 }
 
-/// The answer of a call that writes a schedule or a program.
+/// The answer of a call that writes a schedule, a chart or a program.
 #[derive(Clone, Copy, Debug, PartialEq, Eq)]
 pub struct Call {
     /// Checks 1 to 12, then 13 where too little is lent.
     pub verdict: Verdict,
-    /// How many passages, or bytes of a program, were written; 0 after a
-    /// refusal.
+    /// How many passages, or bytes of a chart or a program, were written; 0
+    /// after a refusal.
     pub size: usize,
 }
 
@@ -163,6 +166,30 @@ pub fn meetings(table: &[u8], list: &mut [u32]) -> Meetings {
 /// ```
 pub fn schedule_into(table: &[u8], list: &mut [Passage]) -> Call {
     let answer = exported::passages(table, list);
+    Call {
+        verdict: Verdict::of(answer.number, answer.component),
+        size: answer.size as usize,
+    }
+}
+
+/// Draws the schedule of a table: one row of [`CHART_ROW`] bytes a component at
+/// the front of the bytes lent. Cell i of 64 covers the ticks from i x H / 64 up
+/// to, but not including, (i + 1) x H / 64, both rounded down. It shows `S` if a
+/// send window of the component has a tick there, else `R` for receive, else
+/// `W` for internal, else a dot; a cell without ticks is a space. What stands
+/// past the rows stays; after a refusal all bytes do. Eight rows always suffice.
+///
+/// ```
+/// use timed_network::{timing_chart, Verdict, CHART_ROW};
+///
+/// let mut chart = [7; CHART_ROW];
+/// let call = timing_chart(&[], &mut chart);
+/// let (number, component) = (1, 255);
+/// assert_eq!(call.verdict, Verdict::Refused { number, component });
+/// assert_eq!((call.size, chart), (0, [7; CHART_ROW]));
+/// ```
+pub fn timing_chart(table: &[u8], chart: &mut [u8]) -> Call {
+    let answer = exported::timing_chart(table, chart);
     Call {
         verdict: Verdict::of(answer.number, answer.component),
         size: answer.size as usize,

@@ -9,10 +9,12 @@
 //! The module `table` is the table decoded once, `read` decodes it with checks
 //! 1 to 6. `opening` finds the edge taken, `schedule` opens and closes passages
 //! in one sweep, `meetings` notes on the way which windows meet. `translate`
-//! writes programs, `part` finds one node's part, `run` carries out choices.
+//! writes programs, `part` finds one node's part, `run` carries out choices,
+//! `chart` draws the schedule.
 #![forbid(unsafe_code)]
 #![warn(missing_docs)]
 
+mod chart;
 mod meetings;
 mod opening;
 mod part;
@@ -139,6 +141,16 @@ impl Yardstick {
         let length = translate::length(&self.table);
         demand_room(program.len(), length)?;
         translate::write(&self.table, bytes, &mut program[..length]);
+        Ok(length)
+    }
+
+    /// Writes the chart of a table's schedule and gives the count of its
+    /// bytes.
+    pub fn timing_chart(&mut self, bytes: &[u8], rows: &mut [u8]) -> Result<usize, Refusal> {
+        self.check(bytes)?;
+        let length = self.table.count * chart::ROW;
+        demand_room(rows.len(), length)?;
+        chart::write(&self.table, self.schedule.passages(), &mut rows[..length]);
         Ok(length)
     }
 

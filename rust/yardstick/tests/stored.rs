@@ -13,6 +13,15 @@ fn program(yardstick: &mut Yardstick, table: &[u8]) -> Result<String, Refusal> {
     Ok(hex(&program[..length]))
 }
 
+/// The rows without their line feeds, `|` between them.
+fn chart(yardstick: &mut Yardstick, table: &[u8], lent: usize) -> Result<String, Refusal> {
+    let mut chart = vec![0; lent];
+    let size = yardstick.timing_chart(table, &mut chart)?;
+    assert!(chart[size..].iter().all(|&byte| byte == 0));
+    let text = String::from_utf8(chart[..size].to_vec()).unwrap();
+    Ok(text.lines().collect::<Vec<_>>().join("|"))
+}
+
 fn answer(yardstick: &mut Yardstick, request: &[&str]) -> String {
     let bytes = unhex(request[1]);
     match (request[0], &request[2..]) {
@@ -21,6 +30,8 @@ fn answer(yardstick: &mut Yardstick, request: &[&str]) -> String {
         ("program", []) => told(program(yardstick, &bytes)),
         ("part", [node]) => hex(&bytes[part(&bytes, node.parse().unwrap())]),
         ("run", [choices]) => told(run(yardstick, &bytes, &unhex(choices))),
+        ("chart", []) => told(chart(yardstick, &bytes, 552)),
+        ("chart", [lent]) => told(chart(yardstick, &bytes, lent.parse().unwrap())),
         _ => panic!("no such request: {request:?}"),
     }
 }
@@ -29,7 +40,11 @@ fn answer(yardstick: &mut Yardstick, request: &[&str]) -> String {
 fn all_vectors() {
     let mut yardstick = Yardstick::new();
     let mut counts = std::collections::BTreeMap::new();
-    for file in ["vectors/named.tsv", "vectors/random.tsv"] {
+    for file in [
+        "vectors/named.tsv",
+        "vectors/random.tsv",
+        "vectors/chart.tsv",
+    ] {
         for line in text(file).lines() {
             let fields: Vec<&str> = line.split('\t').collect();
             let request: Vec<&str> = fields[1].split(' ').collect();
@@ -38,7 +53,7 @@ fn all_vectors() {
             *counts.entry(request[0].to_string()).or_insert(0) += 1;
         }
     }
-    assert_eq!(counts.len(), 5, "{counts:?}");
+    assert_eq!(counts.len(), 6, "{counts:?}");
 }
 
 #[test]
@@ -57,4 +72,15 @@ fn whole_corpus() {
         }
     }
     assert!(accepted > 10, "{accepted} accepted");
+}
+
+#[test]
+fn the_charts_of_the_corpus() {
+    let mut yardstick = Yardstick::new();
+    for name in ["priority", "one_tick_cells", "empty_cells"] {
+        let table = bytes(&format!("corpus/accepted_chart_{name}.bin"));
+        let stored = text(&format!("corpus/accepted_chart_{name}.chart"));
+        let given = chart(&mut yardstick, &table, 552).unwrap();
+        assert_eq!(given.replace('|', "\n") + "\n", stored, "{name}");
+    }
 }

@@ -1,6 +1,7 @@
 //! The classes of cases.
 
 mod bases;
+mod charts;
 mod close;
 mod cuts;
 mod generated;
@@ -64,7 +65,7 @@ const fn class(name: &'static str, run: fn(&mut Trial, &mut Random, &Extent) -> 
 }
 
 /// All classes, in the order in which they are tried.
-pub const CLASSES: [Class; 51] = [
+pub const CLASSES: [Class; 53] = [
     class("vectors", stored::vectors),
     class("corpus", stored::corpus),
     class("random bytes", random_bytes::anything),
@@ -104,6 +105,8 @@ pub const CLASSES: [Class; 51] = [
     class("parts of programs cut off", programs::cut),
     class("parts of programs, one byte changed", programs::one_byte),
     class("parts of random bytes", programs::anything),
+    class("charts with cells of few ticks", charts::horizons),
+    class("charts with windows at cell ends", charts::windows),
     class("runs of the vectors' tables", running::vectors),
     class("runs of the corpus", running::corpus),
     class("runs of a hub and its probes", running::regular),

@@ -2,6 +2,7 @@
 //! answers.
 
 use super::Extent;
+use crate::bytes::hex;
 use crate::difference::{Outcome, Stop};
 use crate::random::Random;
 use crate::requests::{self, Request};
@@ -28,7 +29,7 @@ fn expect_all(trial: &mut Trial, tables: Result<Vec<Stored>, String>) -> Outcome
     Ok(())
 }
 
-/// The programs, parts and runs of the vectors.
+/// The programs, parts, charts and runs of the vectors.
 pub(super) fn requests(trial: &mut Trial, _: &mut Random, _: &Extent) -> Outcome {
     for request in requests::requests().map_err(Stop::Unreadable)? {
         match &request {
@@ -38,6 +39,17 @@ pub(super) fn requests(trial: &mut Trial, _: &mut Random, _: &Extent) -> Outcome
                 node,
                 part,
             } => trial.expect_part(program, *node, part)?,
+            Request::Chart {
+                table,
+                lent,
+                answer,
+            } => {
+                let answer = match answer {
+                    Ok(rows) => hex(rows),
+                    Err(refused) => refused.to_string(),
+                };
+                trial.expect_chart(table, *lent, &answer)?;
+            }
             Request::Run {
                 table,
                 choices,

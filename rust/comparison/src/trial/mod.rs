@@ -10,7 +10,7 @@ use crate::tally::Tally;
 use timed_network::{Verdict, FIELDS};
 
 /// Of the tables refused by a check up to 6, one in so many is lent a list,
-/// is translated and is run.
+/// is drawn, translated and run.
 const SAMPLE_READ: u64 = 32;
 /// The same for those refused by a later check.
 const SAMPLE_SCHEDULED: u64 = 4;
@@ -95,6 +95,7 @@ impl<'a> Trial<'a> {
                 self.lend(input, length)?;
             }
         }
+        self.chart_accepted(input)?;
         self.translate_accepted(input)
     }
 

@@ -1,4 +1,4 @@
-//! Programs, parts and runs of a class.
+//! Programs, parts, charts and runs of a class.
 
 use super::Trial;
 use crate::bytes::hex;
@@ -10,7 +10,7 @@ use crate::runs::{self, Subject};
 use demand::{Demand, TICK};
 use reference::program::program_length;
 use reference::table::read_table;
-use timed_network::Verdict;
+use timed_network::{Verdict, CHART_ROW};
 
 /// The choices under which refused tables are run.
 const CHOICES: [u8; 4] = [0, TICK, 8, 1];
@@ -42,6 +42,46 @@ impl Trial<'_> {
         }
     }
 
+    /// Lends bytes for the chart of an accepted table.
+    pub(super) fn chart_accepted(&mut self, input: &[u8]) -> Outcome {
+        let rows = read_table(input).map_or(0, |table| table.components.len());
+        for length in programs::lengths(rows * CHART_ROW, self.tally.answers[0]) {
+            self.chart(input, length)?;
+        }
+        Ok(())
+    }
+
+    /// Lends both bytes of this length and gives the chart written.
+    pub fn chart(&mut self, input: &[u8], length: usize) -> Result<Vec<u8>, Stop> {
+        match programs::compare_chart(self.readers, input, length) {
+            Ok((verdict, chart)) => {
+                self.tally.charts.count(verdict);
+                Ok(chart)
+            }
+            Err(unlike) => {
+                let call = format!("timing_chart, with {length} bytes");
+                Err(self.differs(input, call, unlike, None))
+            }
+        }
+    }
+
+    /// Both have to give this answer for the chart: its bytes, or a refusal.
+    pub fn expect_chart(&mut self, input: &[u8], length: usize, answer: &str) -> Outcome {
+        let said = |reader: &Reader| {
+            let mut chart = vec![0; length];
+            let call = (reader.timing_chart)(input, &mut chart);
+            match call.verdict {
+                Verdict::Accepted => hex(&chart[..call.size]),
+                refused => refused.to_string(),
+            }
+        };
+        let call = format!("timing_chart, with {length} bytes");
+        for reader in [self.readers.library, self.readers.second] {
+            self.demand(input, &call, said(&reader), answer.to_string())?;
+        }
+        self.chart(input, length).map(|_| ())
+    }
+
     /// Asks both for the part of each number.
     pub fn parts(&mut self, program: &[u8]) -> Outcome {
         for node in NODES {
@@ -60,6 +100,7 @@ impl Trial<'_> {
     pub(super) fn translate_and_run_refused(&mut self, input: &[u8], turn: u64) -> Outcome {
         let length = programs::length_for_refused(turn);
         self.translate(input, length)?;
+        self.chart(input, length)?;
         let choices = &CHOICES[..turn as usize % (CHOICES.len() + 1)];
         self.run(input, None, choices, length)
     }

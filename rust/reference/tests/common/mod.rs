@@ -122,10 +122,10 @@ pub struct Vector {
     pub answer: String,
 }
 
-/// All cases of both files, in their order. A missing file fails the test.
+/// All cases of the files, in their order. A missing file fails the test.
 pub fn vectors() -> Vec<Vector> {
     let mut all = Vec::new();
-    for file in ["named.tsv", "random.tsv"] {
+    for file in ["named.tsv", "random.tsv", "chart.tsv"] {
         let path = vector_folder().join(file);
         let text = std::fs::read_to_string(&path)
             .unwrap_or_else(|error| panic!("{}: {error}", path.display()));

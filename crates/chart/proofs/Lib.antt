@@ -1,0 +1,3 @@
+pub mod Painting
+pub mod Drawing
+pub mod Laying
