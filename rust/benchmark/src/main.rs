@@ -101,6 +101,7 @@ fn choices_to_the_horizon(row: &Row) -> Result<Vec<u8>, String> {
 fn answers(reader: &Reader, table: &[u8], choices: &[u8]) -> String {
     let mut list = vec![0; FIELDS * MAX_PASSAGES];
     let mut bytes = vec![0; MAX_PROGRAM];
+    let mut observations = vec![0; AMPLE];
     let verdict = (reader.check)(table);
     let scheduled = (reader.schedule)(table, &mut list);
     let translated = (reader.translate)(table, &mut bytes);
@@ -108,8 +109,9 @@ fn answers(reader: &Reader, table: &[u8], choices: &[u8]) -> String {
     let mut chart = vec![0; 8 * CHART_ROW];
     let drawn = (reader.timing_chart)(table, &mut chart);
     let last = (reader.part)(&program, last_node(&program)).to_vec();
-    let ran = (reader.run)(table, choices, &mut bytes[..AMPLE]);
-    format!("{verdict} {scheduled:?} {translated:?} {ran:?} {list:?} {last:?} {bytes:?} {drawn:?} {chart:?}")
+    let ran = (reader.run)(table, choices, &mut observations);
+    let lent = format!("{list:?} {bytes:?} {chart:?} {observations:?}");
+    format!("{verdict} {scheduled:?} {translated:?} {drawn:?} {last:?} {ran:?} {lent}")
 }
 
 /// The choices of a row, after all sides have given the same answers.
