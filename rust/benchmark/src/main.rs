@@ -182,3 +182,18 @@ fn time_run(effort: Effort, row: &Row, choices: &[u8], each: &str) {
     let alone = [d.each(a, count), e.each(b, count), f.each(c, count)];
     line(&format!("  {each} of it"), alone);
 }
+
+#[cfg(test)]
+mod tests {
+    use super::{demand_agreement, tables};
+
+    #[test]
+    fn all_sides_agree_on_every_row() {
+        let rows = tables::rows();
+        let slow = tables::slow_rows();
+        assert!(!rows.is_empty() && !slow.is_empty());
+        for row in rows.iter().chain(&slow) {
+            assert!(!demand_agreement(row).unwrap().is_empty(), "{}", row.name);
+        }
+    }
+}
