@@ -120,6 +120,7 @@ void stored_read(const char *root) {
     read_vectors(root, "vectors/named.tsv");
     read_vectors(root, "vectors/random.tsv");
     read_vectors(root, "vectors/chart.tsv");
+    read_vectors(root, "vectors/bands.tsv");
     read_corpus(root);
 }
 

@@ -34,16 +34,19 @@ extern "C" {
  * number: 0 if the table is accepted. Otherwise it is refused, and this is the
  * number of the first check that is not passed, numbered as in document 01:
  *
- *   1  the first byte is not 1 (also: there is no byte at all)
+ *   1  the first byte, the version, is neither 1 nor 2 (also: there is no byte
+ *      at all)
  *   2  the stated length is not the length handed in, or is not from 7 to 8,192
- *   3  components, channels or horizon are out of range
+ *   3  components, channels or horizon are out of range, or in version 2 a band
+ *      is above 3, or the table is too short for its bands
  *   4  a part does not fit its component, or bytes are left over
  *   5  a number is out of its range, or a reset mask has a bit without a clock
  *   6  a receive edge lists a channel twice
  *   7  a passage opens while 1,024 passages are open or closed
  *   8  a passage opens and no edge is a candidate
  *   9  an update of the edge taken leaves -32,768 to 32,767
- *  10  two send windows of different components share a tick
+ *  10  two send windows of different components on one band share a tick (in
+ *      version 1 all channels are on one band)
  *  11  a send window is not heard by exactly one receive window of another
  *      component that starts earlier and ends later
  *  12  a receive window shares a tick with two send windows of other

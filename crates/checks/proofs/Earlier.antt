@@ -2,14 +2,17 @@
 use mathlib.Core.Path.{_≡_, refl, sym, ap, _∙_}
 use mathlib.Core.Bool.{Bool, true, false, _&&_, _||_}
 use mathlib.Core.List.{List, []}
+use mathlib.Core.Option.{Option, none, some}
 use Prim.Native.Nat.{ℕ, zero, suc, _+_, _≤_, _<_}
 use native.Mathlib.Omega.{arith}
 use native.Mathlib.Decide.{ℕ-discrete}
+use borrow.Author.Tests.{eqb-true, eq-eqb}
 use lib.Dec.{leb}
 use Rattle.model.specs.Lists.{any, only}
-use Rattle.model.specs.Table.{Table}
-use Rattle.model.specs.Schedule.{Passage, others}
-use Rattle.model.specs.Checks.{isSend, meets, collides}
+use Rattle.model.specs.Table.{Table, bandOf}
+use Rattle.model.specs.Window.{channelOf}
+use Rattle.model.specs.Schedule.{Passage, passageArc, others}
+use Rattle.model.specs.Checks.{sameBand, disturb, isSend, meets, collides}
 use Rattle.model.proofs.Basics.Bools.{clash}
 use Rattle.model.proofs.Checks.Heard.{others-is}
 use Rattle.rows.specs.Rows.{rowPassage, rowsFrom, rowsOf}
@@ -42,17 +45,29 @@ module _ (p : Passage → Bool) (l : List ℕ) where
       go (no q) = f k (omega (arith, h, q))
 
 module _ (T : Table) (H : ℕ) where
-  swapped : (a b c t d e : Bool) → a ≡ true → (c ≡ true → t ≡ true) → b && c && true && (d && e) ≡ true → (b ≡ true) × (a && t && true && (e && d) ≡ true)
-  swapped a true true t true true h f q = (refl, rw (h, f refl))
-  swapped a true true t true false h f q = clash q
-  swapped a true true t false e h f q = clash q
-  swapped a true false t d e h f q = clash q
-  swapped a false c t d e h f q = clash q
+  swapped : (a b c t x y d e : Bool) → a ≡ true → (c ≡ true → t ≡ true) → (x ≡ true → y ≡ true) → b && c && x && (d && e) ≡ true
+      → (b ≡ true) × (a && t && y && (e && d) ≡ true)
+  swapped a true true t true y true true h f g q = (refl, rw (h, f refl, g refl))
+  swapped a true true t true y true false h f g q = clash q
+  swapped a true true t true y false e h f g q = clash q
+  swapped a true true t false y d e h f g q = clash q
+  swapped a true false t x y d e h f g q = clash q
+  swapped a false c t x y d e h f g q = clash q
+
+  -- two sends have one band
+  band-turned : (v w : Passage) → disturb T v w ≡ true → disturb T w v ≡ true
+  band-turned v w = go (channelOf (passageArc T v)) (channelOf (passageArc T w))
+    where
+      go : (j k : Option ℕ) → sameBand T j k ≡ true → sameBand T k j ≡ true
+      go none k q = clash q
+      go (some j) none q = clash q
+      go (some j) (some k) q = eq-eqb (bandOf T k) (bandOf T j) (sym (eqb-true (bandOf T j) (bandOf T k) q))
 
   -- two sends meet each other
   turned : (v w : Passage) → isSend T H v ≡ true → meets T H v w ≡ true → (isSend T H w ≡ true) × (meets T H w v ≡ true)
   turned v w s q =
-      swapped (isSend T H v) (isSend T H w) (others w v) (others v w) (leb (v .ready) (w .end)) (leb (w .ready) (v .end)) s (λ h. others-is v w .1 (λ e. others-is w v .0 h (sym e))) q
+      swapped (isSend T H v) (isSend T H w) (others w v) (others v w) (disturb T v w) (disturb T w v) (leb (v .ready) (w .end)) (leb (w .ready) (v .end)) s
+      (λ h. others-is v w .1 (λ e. others-is w v .0 h (sym e))) (band-turned v w) q
 
   -- row i, a send, meets none of the rows before it, where none of them collides
   pub none-earlier : (l : List ℕ) (n i : ℕ) → i < n → isSend T H (rowPassage l i) ≡ true → ((k : ℕ) → k < i → collides T H (rowsOf l n) (rowPassage l k) ≡ false)

@@ -12,7 +12,7 @@ use Rattle.model.specs.Lists.{any, only}
 use Rattle.model.specs.Table.{Table}
 use Rattle.model.specs.Window.{channelOf}
 use Rattle.model.specs.Schedule.{Passage, passageArc, names, others}
-use Rattle.model.specs.Checks.{shareTick, startsEarlier, endsLater, isSend, isReceive, meets, collides, mayHear, heardWell, unheard, two, crowded}
+use Rattle.model.specs.Checks.{shareTick, startsEarlier, endsLater, disturb, isSend, isReceive, meets, collides, mayHear, heardWell, unheard, two, crowded}
 use Rattle.model.proofs.Basics.Members.{only-none, any-none}
 use Rattle.model.proofs.Checks.Heard.{two-is}
 use Rattle.rows.specs.Rows.{rowPassage}
@@ -100,26 +100,29 @@ module _ (T : Table) (H : ℕ) where
       }
 
   module _ (s o : Passage) where
-    meets-order : meets T H s o ≡ beside o s && isSend T H o
-    meets-order = go (isSend T H o) (others o s) (leb (s .ready) (o .end)) (leb (o .ready) (s .end))
+    share-order : shareTick s o ≡ shareTick o s
+    share-order = go (leb (s .ready) (o .end)) (leb (o .ready) (s .end))
       where
-        go : (a b c d : Bool) → a && b && true && (c && d) ≡ (b && (d && c)) && a
-        go true true true true = refl
-        go true true true false = refl
-        go true true false true = refl
-        go true true false false = refl
-        go true false c d = refl
-        go false true true true = refl
-        go false true true false = refl
-        go false true false true = refl
-        go false true false false = refl
-        go false false c d = refl
+        go : (c d : Bool) → c && d ≡ d && c
+        go true true = refl
+        go true false = refl
+        go false true = refl
+        go false false = refl
+
+    meets-order : meets T H s o ≡ beside o s && (isSend T H o && disturb T s o)
+    meets-order = ap (λ (t : Bool). isSend T H o && others o s && disturb T s o && t) share-order ∙ numbers-first (isSend T H o) (others o s) (disturb T s o) (shareTick o s)
 
     pub not-met : (x : Bool) → x ≡ beside o s → not x ≡ true → false ≡ meets T H s o
     not-met x e t = let f : beside o s ≡ false = sym e ∙ not-true x t in sym (meets-order ∙ rw f)
 
-    pub met : (x y : Bool) → x ≡ beside o s → not x ≡ false → y ≡ isSend T H o → y ≡ meets T H s o
-    met x y e t q = let f : beside o s ≡ true = sym e ∙ not-false x t in q ∙ sym (meets-order ∙ rw f)
+    pub no-send-met : (x : Bool) → x ≡ isSend T H o → not x ≡ true → false ≡ meets T H s o
+    no-send-met x e t = let f : isSend T H o ≡ false = sym e ∙ not-true x t in rw f
+
+    pub met : (x w y : Bool) → x ≡ beside o s → not x ≡ false → w ≡ isSend T H o → not w ≡ false → y ≡ disturb T s o → y ≡ meets T H s o
+    met x w y e t k u q =
+        let f : beside o s ≡ true = sym e ∙ not-false x t in
+        let g : isSend T H o ≡ true = sym k ∙ not-false w u in
+        q ∙ sym (meets-order ∙ rw (f, g))
 
   -- what is asked of sends only
   pub not-asked : (s : Passage) (x b : Bool) → x ≡ isSend T H s → not x ≡ true → false ≡ isSend T H s && b

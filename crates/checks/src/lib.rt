@@ -7,15 +7,17 @@ ghost use lib.ListN.{length};
 ghost use Rattle.model.specs.declared.Verdict.the-variants.{Refused};
 ghost use Rattle.model.specs.Lists.{first, any, only, isNone};
 ghost use Rattle.model.specs.Window.{channelOf};
-ghost use Rattle.model.specs.Places.{readOf};
+ghost use Rattle.model.specs.Table.{bandOf};
+ghost use Rattle.model.specs.Places.{Valid, readOf};
 ghost use Rattle.model.specs.Schedule.{passageArc, others};
-ghost use Rattle.model.specs.Checks.{shareTick, startsEarlier, endsLater, isSend, isReceive, meets, collides, unheard, crowded, heardWell, mayHear, checked};
+ghost use Rattle.model.specs.Checks.{shareTick, startsEarlier, endsLater, disturb, isSend, isReceive, meets, collides, unheard, crowded, heardWell, mayHear, checked};
 ghost use Rattle.model.specs.Calls.{verdictOf};
 ghost use Rattle.rows.specs.Rows.{num, messageOf, rowPassage, rowsOf, RowKnown, RowsPlaced};
 ghost use Rattle.checks.specs.Faults.{faultView, FaultBelow, RowStands, from12, from11};
 ghost use Rattle.checks.specs.Listening.{repeatedWith, Noted};
 use model::Action;
 use model::Verdict;
+use model::layout;
 
 // The first row at fault.
 pub enum Fault {
@@ -71,7 +73,34 @@ fn overlap(l: &[u32], i: usize, j: usize) -> bool
     )
 }
 
-// Whether row j is a send of another component that shares a tick with row i, a send.
+// The band of a channel: in version 1 always 0, else its byte after the header.
+fn band(s: &[u8], channel: u8) -> u8
+    requires { ⌜ Valid (now s) × (channel < readOf (now s) .table .channels) ⌝ }
+    ensures { λ r. ⌜ r ≡ bandOf (readOf (now (s .entry)) .table) channel ⌝ }
+{
+    if s[layout::TABLE_VERSION] < 2 {
+        return 0;
+    }
+    s[layout::TABLE_HEADER + channel as usize]
+}
+
+// Whether rows i and j are sends on one band.
+fn same_band(s: &[u8], l: &[u32], i: usize, j: usize) -> bool
+    requires { ⌜ RowKnown (now s) (now l) i × RowKnown (now s) (now l) j ⌝ }
+    ensures { λ r. ⌜ r ≡ disturb (readOf (now (s .entry)) .table) (rowPassage (now (l .entry)) i) (rowPassage (now (l .entry)) j) ⌝ }
+{
+    let one = rows::row_sent(s, l, i);
+    if one == 255 {
+        return false;
+    }
+    let other = rows::row_sent(s, l, j);
+    if other == 255 {
+        return false;
+    }
+    band(s, one) == band(s, other)
+}
+
+// Whether row j is a send of another component, on the band of row i, a send, and shares a tick with it.
 pub fn is_met(s: &[u8], l: &[u32], i: usize, j: usize, h: u32) -> bool
     requires { ⌜ RowKnown (now s) (now l) i × RowKnown (now s) (now l) j ⌝ }
     ensures { λ r. ⌜ r ≡ meets (readOf (now (s .entry)) .table) h (rowPassage (now (l .entry)) i) (rowPassage (now (l .entry)) j) ⌝ }
@@ -79,10 +108,13 @@ pub fn is_met(s: &[u8], l: &[u32], i: usize, j: usize, h: u32) -> bool
     if !overlap(l, j, i) {
         return false;
     }
-    is_send(s, l, j, h)
+    if !is_send(s, l, j, h) {
+        return false;
+    }
+    same_band(s, l, i, j)
 }
 
-// Whether the send window of row i shares a tick with one of another component, where no row before it does so: then it meets none of them.
+// Whether the send window of row i shares a tick with one of another component on its band, where no row before it does so: then it meets none of them.
 fn collides_with_one(s: &[u8], l: &[u32], n: usize, i: usize, h: u32) -> bool
     requires { ⌜ RowsPlaced (now s) (now l) n × (i < n) × ((k : ℕ) → k < i → collides (readOf (now s) .table) h (rowsOf (now l) n) (rowPassage (now l) k) ≡ false) ⌝ }
     ensures { λ r. ⌜ r ≡ collides (readOf (now (s .entry)) .table) h (rowsOf (now (l .entry)) n) (rowPassage (now (l .entry)) i) ⌝ }

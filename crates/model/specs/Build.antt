@@ -3,6 +3,7 @@ use mathlib.Core.Bool.{Bool}
 use mathlib.Core.List.{List}
 use Prim.Native.Nat.{ℕ}
 use lib.IntN.{ℤ}
+use lib.ListN.{length, replicate}
 use Rattle.model.specs.declared.Action.{Action}
 use Rattle.model.specs.declared.Location.{Location}
 use Rattle.model.specs.declared.ClockGuard.{ClockGuard}
@@ -38,6 +39,10 @@ arc s d m a cs ds us ps =
 abbrev pub component : ℕ → ℕ → ℕ → List Location → List Arc → Component
 component i x v ls es = record { initial = i; clocks = x; variables = v; locations = ls; arcs = es }
 
--- channels, horizon; components
+-- version 1: channels, horizon; components
 abbrev pub network : ℕ → ℕ → List Component → Read
-network k h cs = record { table = record { channels = k; components = cs }; horizon = h }
+network k h cs = record { version = 1; table = record { channels = k; bands = replicate k 0; components = cs }; horizon = h }
+
+-- version 2: the channels' bands, horizon; components
+abbrev pub banded : List ℕ → ℕ → List Component → Read
+banded bs h cs = record { version = 2; table = record { channels = length bs; bands = bs; components = cs }; horizon = h }

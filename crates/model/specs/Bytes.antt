@@ -2,6 +2,7 @@
 use mathlib.Core.Bool.{cond}
 use mathlib.Core.List.{List, [], _∷_, _++_}
 use Prim.Native.Nat.{ℕ, _+_, _-_}
+use lib.Dec.{leb}
 use lib.IntN.{ℤ, pos, negsuc}
 use lib.ListN.{length}
 use Rattle.model.specs.declared.Action.{Action}
@@ -82,9 +83,14 @@ unfoldable pub componentBytes : Component → List ℕ
 unfolding bodyBytes
 componentBytes C = be16 (2 + length (bodyBytes C)) ++ bodyBytes C
 
--- "Header, 7 bytes: version 1; total length (2 bytes); components; channels; horizon H (2 bytes)."
+-- Document 02, wish 2: "Table version 2 has, after the header, one byte per channel with its band". Version 1 has none.
+abbrev pub bandBytes : ℕ → List ℕ → List ℕ
+bandBytes version bands = cond (leb 2 version) bands []
+
+-- "Header, 7 bytes: version 1; total length (2 bytes); components; channels; horizon H (2 bytes)." In version 2 the bands follow,
+-- then the components; the length counts all of it.
 unfoldable pub tableBytes : Read → List ℕ
 unfolding each componentBytes
 tableBytes t =
-    let rest = each componentBytes (t .table .components) in
-    (1 ∷ be16 (7 + length rest)) ++ (length (t .table .components) ∷ t .table .channels ∷ be16 (t .horizon)) ++ rest
+    let rest = bandBytes (t .version) (t .table .bands) ++ each componentBytes (t .table .components) in
+    (t .version ∷ be16 (7 + length rest)) ++ (length (t .table .components) ∷ t .table .channels ∷ be16 (t .horizon)) ++ rest

@@ -1,4 +1,4 @@
--- Document 01, "Probe and hub": the cases marked there, as one table with one theorem.
+-- Document 01, "Probe and hub": the cases marked there, and those of document 02's wish 2, as one table with one theorem.
 use mathlib.Core.Path.{_≡_, refl}
 use mathlib.Core.Bool.{true, false}
 use mathlib.Core.List.{List, [], _∷_, _++_}
@@ -14,7 +14,7 @@ use Rattle.model.specs.declared.Verdict.{Verdict}
 use Rattle.model.specs.declared.Verdict.the-variants.{Accepted, Refused}
 use Rattle.model.specs.Lists.{All, empty, more, Answer, accepted, refused, each}
 use Rattle.model.specs.Table.{Component, Table, Read}
-use Rattle.model.specs.Build.{location, clockGuard, update, pairOf, arc, component, network}
+use Rattle.model.specs.Build.{location, clockGuard, update, pairOf, arc, component, network, banded}
 use Rattle.model.specs.Bytes.{tableBytes}
 use Rattle.model.specs.Reader.{readTable}
 use Rattle.model.specs.Schedule.{Passage, sevenOf}
@@ -76,6 +76,45 @@ workedBytes = 0x01 ∷ 0x00 ∷ 0x67 ∷ 0x02 ∷ 0x01 ∷ 0x00 ∷ 0x14
     ∷ 0x00 ∷ 0x01 ∷ 0x00 ∷ 0x01 ∷ 0x01 ∷ 0x00 ∷ 0x01 ∷ 0x00 ∷ 0x00 ∷ 0x09 ∷ 0xff ∷ 0xff ∷ 0x00 ∷ 0x01 ∷ 0x00 ∷ 0x01
     ∷ 0x00 ∷ 0x02 ∷ 0x00 ∷ 0x01 ∷ 0x01 ∷ 0x00 ∷ 0x00 ∷ 0x00 ∷ 0x00 ∷ 0x09 ∷ 0xff ∷ 0xff
     ∷ []
+
+-- ## Two sends at once (document 02, wish 2)
+
+-- a send on channel k, from `low` to `bound`; and a receive on channel k, from 1 to 9. Both rest then.
+abbrev pub resting : Component → Component
+resting C = component (C .initial) (C .clocks) (C .variables) (C .locations ++ (location 0 12 ∷ [])) (C .arcs ++ (arc 1 1 0 Internal (clockGuard 0 11 65535 ∷ []) [] [] [] ∷ []))
+
+abbrev pub sender : ℕ → ℕ → ℕ → Component
+sender k low bound = resting (component 0 1 0 (location 0 bound ∷ []) (arc 0 1 0 (Send k) (clockGuard 0 low 65535 ∷ []) [] [] [] ∷ []))
+
+abbrev pub listener : ℕ → Component
+listener k = resting (component 0 1 0 (location 0 9 ∷ []) (arc 0 1 0 Receive (clockGuard 0 1 65535 ∷ []) [] [] (pairOf k 1 ∷ []) ∷ []))
+
+-- sends from 3 to 5 on channel 0 and from 4 to 6 on channel 1, each with a listener of its own
+abbrev pub atOnce : List Component
+atOnce = sender 0 3 5 ∷ sender 1 4 6 ∷ listener 0 ∷ listener 1 ∷ []
+
+-- their bytes after the header, which has one byte a channel behind it in version 2
+abbrev pub atOnceParts : List ℕ
+atOnceParts = 0x00 ∷ 0x26 ∷ 0x02 ∷ 0x00 ∷ 0x01 ∷ 0x00 ∷ 0x02 ∷ 0x00 ∷ 0x00 ∷ 0x05 ∷ 0x00 ∷ 0x00 ∷ 0x0c
+    ∷ 0x01 ∷ 0x00 ∷ 0x01 ∷ 0x00 ∷ 0x01 ∷ 0x00 ∷ 0x01 ∷ 0x00 ∷ 0x00 ∷ 0x03 ∷ 0xff ∷ 0xff ∷ 0x00
+    ∷ 0x00 ∷ 0x01 ∷ 0x01 ∷ 0x00 ∷ 0x01 ∷ 0x00 ∷ 0x00 ∷ 0x00 ∷ 0x00 ∷ 0x0b ∷ 0xff ∷ 0xff
+    ∷ 0x00 ∷ 0x26 ∷ 0x02 ∷ 0x00 ∷ 0x01 ∷ 0x00 ∷ 0x02 ∷ 0x00 ∷ 0x00 ∷ 0x06 ∷ 0x00 ∷ 0x00 ∷ 0x0c
+    ∷ 0x01 ∷ 0x00 ∷ 0x01 ∷ 0x00 ∷ 0x01 ∷ 0x00 ∷ 0x01 ∷ 0x00 ∷ 0x00 ∷ 0x04 ∷ 0xff ∷ 0xff ∷ 0x01
+    ∷ 0x00 ∷ 0x01 ∷ 0x01 ∷ 0x00 ∷ 0x01 ∷ 0x00 ∷ 0x00 ∷ 0x00 ∷ 0x00 ∷ 0x0b ∷ 0xff ∷ 0xff
+    ∷ 0x00 ∷ 0x27 ∷ 0x02 ∷ 0x00 ∷ 0x01 ∷ 0x00 ∷ 0x02 ∷ 0x00 ∷ 0x00 ∷ 0x09 ∷ 0x00 ∷ 0x00 ∷ 0x0c
+    ∷ 0x02 ∷ 0x00 ∷ 0x01 ∷ 0x00 ∷ 0x01 ∷ 0x00 ∷ 0x01 ∷ 0x00 ∷ 0x00 ∷ 0x01 ∷ 0xff ∷ 0xff ∷ 0x00 ∷ 0x01
+    ∷ 0x00 ∷ 0x01 ∷ 0x01 ∷ 0x00 ∷ 0x01 ∷ 0x00 ∷ 0x00 ∷ 0x00 ∷ 0x00 ∷ 0x0b ∷ 0xff ∷ 0xff
+    ∷ 0x00 ∷ 0x27 ∷ 0x02 ∷ 0x00 ∷ 0x01 ∷ 0x00 ∷ 0x02 ∷ 0x00 ∷ 0x00 ∷ 0x09 ∷ 0x00 ∷ 0x00 ∷ 0x0c
+    ∷ 0x02 ∷ 0x00 ∷ 0x01 ∷ 0x00 ∷ 0x01 ∷ 0x00 ∷ 0x01 ∷ 0x00 ∷ 0x00 ∷ 0x01 ∷ 0xff ∷ 0xff ∷ 0x01 ∷ 0x01
+    ∷ 0x00 ∷ 0x01 ∷ 0x01 ∷ 0x00 ∷ 0x01 ∷ 0x00 ∷ 0x00 ∷ 0x00 ∷ 0x00 ∷ 0x0b ∷ 0xff ∷ 0xff
+    ∷ []
+
+-- version 2 with these bands; and version 1, two bytes shorter
+abbrev pub onBands : ℕ → ℕ → List ℕ
+onBands one other = (0x02 ∷ 0x00 ∷ 0xa3 ∷ 0x04 ∷ 0x02 ∷ 0x00 ∷ 0x0c ∷ one ∷ other ∷ []) ++ atOnceParts
+
+abbrev pub onOneRadio : List ℕ
+onOneRadio = (0x01 ∷ 0x00 ∷ 0xa1 ∷ 0x04 ∷ 0x02 ∷ 0x00 ∷ 0x0c ∷ []) ++ atOnceParts
 
 -- a row: what was asked, and what document 01 answers
 pub data Row : Type 0 where
@@ -154,6 +193,14 @@ toTheSecondSend = 255 ∷ 255 ∷ 1 ∷ 255 ∷ 0 ∷ []
 
 abbrev pub toTheHorizon : List ℕ
 toTheHorizon = toTheSend ++ toTheSecondRound ++ toTheSecondSend ++ toTheSecondRound
+
+-- two sends at once: all four nodes to their first sleep, the listeners' sleep at 1, the senders' at 3 and 4, and both messages at 4
+abbrev pub bothSend : List ℕ
+bothSend =
+    replicate 5 0 ++ replicate 5 1 ++ replicate 5 2 ++ replicate 5 3 ++ (255 ∷ 2 ∷ 3 ∷ 255 ∷ 255 ∷ 0 ∷ 255 ∷ 1 ∷ 0 ∷ 1 ∷ [])
+
+abbrev pub bothSent : List ℕ
+bothSent = observed 2 0 0 1 1 0 ++ observed 3 0 0 1 1 0 ++ observed 0 0 0 3 3 0 ++ observed 1 0 0 4 4 0
 
 abbrev pub Holds : Row → Type 0
 Holds (bytes t bs) = tableBytes t ≡ bs
@@ -242,9 +289,25 @@ rows =
     ∷ runs workedBytes (toTheSend ++ (0 ∷ replicate 8 1 ++ replicate 6 255)) lent (answered (Late 0) 9 30 2 bothSlept 196)
     -- to the horizon, all eight observations; later choices are ignored
     ∷ runs workedBytes (toTheHorizon ++ (0 ∷ 255 ∷ 254 ∷ [])) lent (answered Horizon 20 110 8 allSlept 4)
+    -- Document 02, wish 2. Two sends at once on two bands: accepted. On one band, and in version 1: 10, component 0.
+    ∷ bytes (banded (0 ∷ 1 ∷ []) 12 atOnce) (onBands 0 1)
+    ∷ reads (onBands 0 1) (accepted (banded (0 ∷ 1 ∷ []) 12 atOnce))
+    ∷ checks (onBands 0 1) Accepted
+    ∷ checks (onBands 3 2) Accepted
+    ∷ checks (onBands 1 1) (Refused 10 0)
+    ∷ checks onOneRadio (Refused 10 0)
+    -- a band above 3, and a table too short for its bands: 3
+    ∷ checks (onBands 0 4) (Refused 3 255)
+    ∷ checks (0x02 ∷ 0x00 ∷ 0x09 ∷ 0x01 ∷ 0x03 ∷ 0x00 ∷ 0x14 ∷ 0x00 ∷ 0x00 ∷ []) (Refused 3 255)
+    -- its bands, and no component: 4
+    ∷ checks (0x02 ∷ 0x00 ∷ 0x09 ∷ 0x01 ∷ 0x02 ∷ 0x00 ∷ 0x14 ∷ 0x00 ∷ 0x00 ∷ []) (Refused 4 0)
+    -- version 3: 1
+    ∷ checks (0x03 ∷ 0x00 ∷ 0x09 ∷ 0x01 ∷ 0x02 ∷ 0x00 ∷ 0x14 ∷ 0x00 ∷ 0x00 ∷ []) (Refused 1 255)
+    -- both messages at tick 4
+    ∷ runs (onBands 0 1) bothSend lent (answered UsedUp 4 30 4 bothSent 132)
     ∷ []
 
 pub cases : All Holds rows
 unfolding tableBytes readTable checkCall acceptedScheduleIn acceptedSchedule each blockBytes locationBlock edgeBlock follow runCall run programBytes observationBytes partOf choose1 exec
 cases =
-    more refl (more refl (more refl (more refl (more refl (more refl (more refl (more refl (more refl (more refl (more refl (more refl (more refl (more refl (more refl (more refl (more refl (more refl (more refl (more refl (more refl (more refl (more refl (more refl (more refl (more refl (more refl (more refl (more refl (more refl (more refl (more refl (more refl (more refl (more refl (more refl (more refl (more refl (more refl (more refl empty)))))))))))))))))))))))))))))))))))))))
+    more refl (more refl (more refl (more refl (more refl (more refl (more refl (more refl (more refl (more refl (more refl (more refl (more refl (more refl (more refl (more refl (more refl (more refl (more refl (more refl (more refl (more refl (more refl (more refl (more refl (more refl (more refl (more refl (more refl (more refl (more refl (more refl (more refl (more refl (more refl (more refl (more refl (more refl (more refl (more refl (more refl (more refl (more refl (more refl (more refl (more refl (more refl (more refl (more refl (more refl (more refl empty))))))))))))))))))))))))))))))))))))))))))))))))))

@@ -4,10 +4,10 @@ use mathlib.Core.Bool.{Bool, true, false, _&&_, not}
 use mathlib.Core.List.{List, [], _∷_}
 use mathlib.Core.Option.{Option, none, some}
 use Prim.Native.Nat.{ℕ, _≤_, _<_}
-use lib.Dec.{leb, ltb}
+use lib.Dec.{leb, ltb, eqb}
 use lib.ListN.{length, getD}
 use Rattle.model.specs.Lists.{any, only, first, isNone, _∈_, Answer, accepted, refused, _after_}
-use Rattle.model.specs.Table.{Table, Read}
+use Rattle.model.specs.Table.{Table, Read, bandOf}
 use Rattle.model.specs.Window.{channelOf, listens}
 use Rattle.model.specs.Schedule.{Passage, passageArc, names, others, schedule}
 
@@ -25,9 +25,14 @@ startsEarlier v w = ltb (v .ready) (w .ready)
 abbrev pub endsLater : Passage → Passage → Bool
 endsLater v w = ltb (w .end) (v .end)
 
--- which sends disturb each other: in a table of version 1 any two
+-- which sends disturb each other: "Check 10 now concerns sends on one band only" (document 02, wish 2). What is no send disturbs nothing.
+abbrev pub sameBand : Table → Option ℕ → Option ℕ → Bool
+sameBand T none k = false
+sameBand T (some j) none = false
+sameBand T (some j) (some k) = eqb (bandOf T j) (bandOf T k)
+
 abbrev pub disturb : Table → Passage → Passage → Bool
-disturb T v w = true
+disturb T v w = sameBand T (channelOf (passageArc T v)) (channelOf (passageArc T w))
 
 -- ## The three questions
 
@@ -38,7 +43,7 @@ isSend T H v = not (isNone (channelOf (passageArc T v))) && ltb (v .ready) H
 abbrev pub isReceive : Table → Passage → Bool
 isReceive T v = listens (passageArc T v)
 
--- 10. "Do no two send windows of different components share a tick?" This one does with o.
+-- 10. "Do no two send windows of different components share a tick?", of those on one band. This one does with o.
 abbrev pub meets : Table → ℕ → Passage → Passage → Bool
 meets T H s o = isSend T H o && others o s && disturb T s o && shareTick s o
 
@@ -130,9 +135,14 @@ pub record Heard (T : Table) (S : List Passage) (s : Passage) : Type 0 where
   pub later : s .end < passageAt S index .end
   pub alone : (j : ℕ) → j < length S → Hears T (passageAt S j) s → j ≡ index
 
+-- a send on channel k, "with ready < H"
+pub record SendsOn (T : Table) (H : ℕ) (k : ℕ) (s : Passage) : Type 0 where
+  pub channel : channelOf (passageArc T s) ≡ some k
+  pub ready : s .ready < H
+
 pub record Independent (T : Table) (H : ℕ) (S : List Passage) : Type 0 where
-  -- no tick lies in the send windows of two components that disturb each other
-  pub apart : (s o : Passage) → s ∈ S → o ∈ S → isSend T H s ≡ true → isSend T H o ≡ true → others o s ≡ true → disturb T s o ≡ true
+  -- no tick lies in the send windows of two components whose channels j and k have one band
+  pub apart : (s o : Passage) (j k : ℕ) → s ∈ S → o ∈ S → SendsOn T H j s → SendsOn T H k o → others o s ≡ true → bandOf T j ≡ bandOf T k
       → (t : ℕ) → InWindow t s → InWindow t o → ⊥
   pub heard : (s : Passage) → s ∈ S → isSend T H s ≡ true → Heard T S s
   -- no receive window shares a tick with two send windows of other components on its channels

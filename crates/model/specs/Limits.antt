@@ -4,7 +4,7 @@ use mathlib.Core.Logic.{_⊎_}
 use mathlib.Core.List.{List, [], _∷_}
 use Prim.Native.Nat.{ℕ, _^_, _≤_, _<_}
 use lib.IntN.{ℤ, pos, negsuc}
-use lib.ListN.{length}
+use lib.ListN.{length, replicate}
 use Rattle.model.specs.declared.Action.{Action}
 use Rattle.model.specs.declared.Action.the-variants.{Internal, Send, Receive}
 use Rattle.model.specs.declared.Location.{Location}
@@ -105,8 +105,17 @@ pub record ComponentIn (channels : ℕ) (C : Component) : Type 0 where
   pub locations : All (LocationIn (sizesOf channels C)) (C .locations)
   pub arcs : All (ArcIn (sizesOf channels C)) (C .arcs)
 
+-- "one byte per channel with its band, 0 to 3"; "Version 1 tables have all channels on band 0"
+pub record BandsIn (version channels : ℕ) (bands : List ℕ) : Type 0 where
+  pub count : length bands ≡ channels
+  pub most : All (λ b. b ≤ 3) bands
+  pub first : version < 2 → bands ≡ replicate channels 0
+
 -- "components (nodes) 1 to 8; channels 0 to 16; horizon H, 1 to 60,000", and at most 8,192 bytes
 pub record InLimits (t : Read) : Type 0 where
+  pub leastVersion : 1 ≤ t .version
+  pub mostVersion : t .version ≤ 2
+  pub bands : BandsIn (t .version) (t .table .channels) (t .table .bands)
   pub leastComponents : 1 ≤ length (t .table .components)
   pub mostComponents : length (t .table .components) ≤ 8
   pub channels : t .table .channels ≤ 16

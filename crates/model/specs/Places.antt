@@ -10,8 +10,8 @@ use Rattle.model.specs.declared.Action.the-variants.{Internal, Send, Rec
 use Rattle.model.specs.declared.Pair.{Pair}
 use Rattle.model.specs.declared.Update.{Update}
 use Rattle.model.specs.Lists.{Answer, accepted, refused}
-use Rattle.model.specs.Table.{Arc, Component, Read, size, componentOf, locationOf, arcOf}
-use Rattle.model.specs.Reader.{byte, word, locationAt, clockGuardAt, dataGuardAt, updateAt, pairAt, edgeAt, readTable}
+use Rattle.model.specs.Table.{Arc, Component, Read, bandOf, size, componentOf, locationOf, arcOf}
+use Rattle.model.specs.Reader.{byte, word, locationAt, clockGuardAt, dataGuardAt, updateAt, pairAt, edgeAt, bodyStart, readTable}
 
 -- n parts of width w, one after the other
 unfoldable pub listAt : {A : Type 0} → (List ℕ → A) → ℕ → ℕ → List ℕ → List A
@@ -63,9 +63,9 @@ arcAt h =
 
 -- ## Places in the table's bytes
 
--- Where component c starts: after the header's 7 bytes each component is as long as it says.
+-- Where component c starts: after the header, and the bands of version 2, each component is as long as it says.
 unfoldable pub startOf : List ℕ → ℕ → ℕ
-startOf bs zero = 7
+startOf bs zero = bodyStart bs
 startOf bs (suc c) = startOf bs c + word bs (startOf bs c)
 
 -- Location l of the component that starts at b: after its first 7 bytes.
@@ -94,9 +94,13 @@ pub record ComponentAt (bs : List ℕ) (b : ℕ) (C : Component) : Type 0 where
 
 -- the table stands in the bytes, whole
 pub record Located (bs : List ℕ) (t : Read) : Type 0 where
+  pub version : byte bs 0 ≡ t .version
   pub count : byte bs 3 ≡ size (t .table)
   pub channels : byte bs 4 ≡ t .table .channels
   pub horizon : word bs 5 ≡ t .horizon
+  -- in version 2 the bands stand after the header
+  pub bandsFit : 2 ≤ t .version → 7 + t .table .channels ≤ length bs
+  pub band : 2 ≤ t .version → (k : ℕ) → k < t .table .channels → byte bs (7 + k) ≡ bandOf (t .table) k
   pub component : (c : ℕ) → c < size (t .table) → ComponentAt bs (startOf bs c) (componentOf (t .table) c)
 
 -- ## The table that stands in the bytes
@@ -104,7 +108,7 @@ pub record Located (bs : List ℕ) (t : Read) : Type 0 where
 -- what was read; a refusal has read nothing
 abbrev pub readFrom : Answer Read → Read
 readFrom (accepted t) = t
-readFrom (refused n c) = record { table = record { channels = 0; components = [] }; horizon = 0 }
+readFrom (refused n c) = record { version = 0; table = record { channels = 0; bands = []; components = [] }; horizon = 0 }
 
 unfoldable pub readOf : List ℕ → Read
 unfolding readTable

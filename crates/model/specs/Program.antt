@@ -146,12 +146,13 @@ unfoldable pub nodeBytes : Component → List ℕ
 unfolding nodeBody
 nodeBytes C = be16 (2 + length (nodeBody C)) ++ nodeBody C
 
--- "Version 1; total length (2 bytes); component count; H (2 bytes)." Then each component.
+-- "Version 1; total length (2 bytes); component count; H (2 bytes)." Then each component. Document 02, wish 2: "A program begins with
+-- its table's version".
 unfoldable pub programBytes : Read → List ℕ
 unfolding each nodeBytes
 programBytes t =
     let rest = each nodeBytes (t .table .components) in
-    (1 ∷ be16 (6 + length rest)) ++ ((size (t .table) ∷ be16 (t .horizon)) ++ rest)
+    (t .version ∷ be16 (6 + length rest)) ++ ((size (t .table) ∷ be16 (t .horizon)) ++ rest)
 
 -- ## The part of one node, for any bytes
 

@@ -4,7 +4,7 @@ use mathlib.Core.List.{List, [], _∷_}
 use Prim.Native.Nat.{ℕ, zero, suc, pred, _+_, _-_, _*_, _^_}
 use lib.Dec.{leb, ltb, eqb}
 use lib.IntN.{ℤ, pos, negsuc}
-use lib.ListN.{length, getD, take, drop}
+use lib.ListN.{length, getD, take, drop, replicate}
 use Rattle.model.specs.declared.Action.{Action}
 use Rattle.model.specs.declared.Action.the-variants.{Internal, Send, Receive}
 use Rattle.model.specs.declared.Edge.{Edge}
@@ -14,7 +14,7 @@ use Rattle.model.specs.declared.DataGuard.{DataGuard}
 use Rattle.model.specs.declared.Update.{Update}
 use Rattle.model.specs.declared.Pair.{Pair}
 use Rattle.model.specs.declared.Sizes.{Sizes}
-use Rattle.model.specs.Lists.{any, Answer, accepted, refused, _after_}
+use Rattle.model.specs.Lists.{all, any, Answer, accepted, refused, _after_}
 use Rattle.model.specs.Table.{Arc, Component, Read}
 
 -- "All fields are unsigned, big-endian": the byte, and the number of two bytes, that stand at i.
@@ -219,9 +219,9 @@ readComponents channels (suc n) c bs =
 
 -- ## The table
 
--- 1. "Is the first byte 1? (Empty input: no.)"
+-- 1. "Is the first byte 1? (Empty input: no.)", and in document 02, wish 2: "check 1 takes both versions"
 abbrev pub versionFine : List ℕ → Bool
-versionFine bs = eqb (byte bs 0) 1
+versionFine bs = leb 1 (byte bs 0) && leb (byte bs 0) 2
 
 -- 2. "Is the stated length the length handed in, from 7 to 8,192?"
 abbrev pub lengthFine : List ℕ → Bool
@@ -231,14 +231,32 @@ lengthFine bs = leb 7 (length bs) && leb (length bs) 8192 && eqb (word bs 1) (le
 abbrev pub countFine : List ℕ → Bool
 countFine bs = leb 1 (byte bs 3) && leb (byte bs 3) 8 && leb (byte bs 4) 16 && leb 1 (word bs 5) && leb (word bs 5) 60000
 
-abbrev pub readWith : List ℕ → List Component → Read
-readWith bs l = record { table = record { channels = byte bs 4; components = l }; horizon = word bs 5 }
+-- Document 02, wish 2: "Table version 2 has, after the header, one byte per channel with its band". Where the components start:
+abbrev pub bodyStart : List ℕ → ℕ
+bodyStart bs = 7 + cond (leb 2 (byte bs 0)) (byte bs 4) 0
 
--- "Header, 7 bytes: version 1; total length (2 bytes); components (nodes) 1 to 8; channels 0 to 16; horizon H"
+-- the bands: "Version 1 tables have all channels on band 0"
+abbrev pub bandsAt : List ℕ → List ℕ
+bandsAt bs = cond (leb 2 (byte bs 0)) (take (byte bs 4) (drop 7 bs)) (replicate (byte bs 4) 0)
+
+-- 3, once more: "a band above 3, or a table too short for its bands, is answered with 3"
+abbrev pub bandsFine : List ℕ → Bool
+bandsFine bs = leb (bodyStart bs) (length bs) && all (λ b. leb b 3) (bandsAt bs)
+
+abbrev pub readWith : List ℕ → List Component → Read
+readWith bs l =
+    record {
+      version = byte bs 0;
+      table = record { channels = byte bs 4; bands = bandsAt bs; components = l };
+      horizon = word bs 5;
+    }
+
+-- "Header, 7 bytes: version 1; total length (2 bytes); components (nodes) 1 to 8; channels 0 to 16; horizon H", then the bands of
+-- version 2, then the components
 unfoldable pub readTable : List ℕ → Answer Read
 unfolding readComponents
 readTable bs =
-    let fourth = (readComponents (byte bs 4) (byte bs 3) 0 (drop 7 bs) after λ l. accepted (readWith bs l)) in
-    let third = cond (countFine bs) fourth (refused 3 255) in
+    let fourth = (readComponents (byte bs 4) (byte bs 3) 0 (drop (bodyStart bs) bs) after λ l. accepted (readWith bs l)) in
+    let third = cond (countFine bs && bandsFine bs) fourth (refused 3 255) in
     let second = cond (lengthFine bs) third (refused 2 255) in
     cond (versionFine bs) second (refused 1 255)

@@ -27,13 +27,15 @@ pub record Component : Type 0 where
   pub locations : List Location
   pub arcs : List Arc
 
--- The network. The horizon stands beside it, not in it.
+-- The network. The horizon stands beside it, not in it. Each channel has a band (document 02, wish 2); in version 1 all are on band 0.
 pub record Table : Type 0 where
   pub channels : ℕ
+  pub bands : List ℕ
   pub components : List Component
 
--- What a table's bytes say: the network and the horizon H.
+-- What a table's bytes say: their version, the network and the horizon H.
 pub record Read : Type 0 where
+  pub version : ℕ
   pub table : Table
   pub horizon : ℕ
 
@@ -57,6 +59,10 @@ noArc =
 
 abbrev pub noComponent : Component
 noComponent = record { initial = 0; clocks = 0; variables = 0; locations = []; arcs = [] }
+
+-- the band of a channel
+abbrev pub bandOf : Table → ℕ → ℕ
+bandOf T k = getD (T .bands) k 0
 
 abbrev pub size : Table → ℕ
 size T = length (T .components)

@@ -12,9 +12,9 @@ noQuestion = ascii "Does a question have this number?\n"
 -- "Checks, in this order": the questions by their numbers
 abbrev pub questions : List (List ℕ)
 questions =
-    noQuestion ∷ ascii "Is the first byte 1?\n"
+    noQuestion ∷ ascii "Is the first byte 1 or 2?\n"
     ∷ ascii "Is the stated length the length handed in, from 7 to 8,192?\n"
-    ∷ ascii "Are components, channels and horizon in range?\n"
+    ∷ ascii "Are components, channels, horizon and bands in range?\n"
     ∷ ascii "Does each part fit its component and end exactly there?\n"
     ∷ ascii "Is every number in its range and every mask bit a clock?\n"
     ∷ ascii "Does no receive edge list a channel twice?\n"

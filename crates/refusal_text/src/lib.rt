@@ -16,13 +16,17 @@ fn put_question_on_bytes(out: &mut [u8], at: usize, number: u8) -> usize
 {
     match number {
         0 => put(out, at, b"Does a question have this number?\n"),
-        1 => put(out, at, b"Is the first byte 1?\n"),
+        1 => put(out, at, b"Is the first byte 1 or 2?\n"),
         2 => put(
             out,
             at,
             b"Is the stated length the length handed in, from 7 to 8,192?\n",
         ),
-        3 => put(out, at, b"Are components, channels and horizon in range?\n"),
+        3 => put(
+            out,
+            at,
+            b"Are components, channels, horizon and bands in range?\n",
+        ),
         4 => put(
             out,
             at,

@@ -1,19 +1,21 @@
 -- The components of a table one after the other, and the table: by the verdict alone. Assumes nothing.
 use mathlib.Core.Path.{_≡_, refl, sym, ap, subst, _∙_}
-use mathlib.Core.Bool.{true, false}
+use mathlib.Core.Bool.{Bool, true, false, cond, _&&_}
 use mathlib.Core.List.{List, [], _∷_}
 use Prim.Native.Nat.{ℕ, suc, pred, _+_, _-_, _≤_, _<_}
 use native.Mathlib.Omega.{arith}
 use native.Mathlib.Numerals.{add-one}
-use borrow.Author.Tests.{le-leb, lt-leb, ne-eqb}
-use Rattle.model.proofs.Basics.Bools.{tests}
+use borrow.Author.Tests.{le-leb, lt-leb, leb-true}
+use Rattle.model.proofs.Basics.Bools.{and-is, tests}
+use Rattle.model.proofs.Reader.Bands.{zeros-small}
 use lib.ListN.{length, take, drop, getD, set, replicate, length-drop, drop-of-length-le}
 use lib.Seq.{drop-drop, drop-cons, getD-drop}
 use Rattle.model.specs.declared.Verdict.{Verdict}
 use Rattle.model.specs.declared.Verdict.the-variants.{Accepted, Refused}
-use Rattle.model.specs.Lists.{Answer, accepted, refused, _after_}
+use lib.Dec.{leb}
+use Rattle.model.specs.Lists.{all, Answer, accepted, refused, _after_}
 use Rattle.model.specs.Table.{Component}
-use Rattle.model.specs.Reader.{byte, word, Parsed, ok, fault, readComponent, about, atEnd, lengthFits, readComponents, versionFine, lengthFine, countFine, readWith, readTable}
+use Rattle.model.specs.Reader.{byte, word, Parsed, ok, fault, readComponent, about, atEnd, lengthFits, readComponents, versionFine, lengthFine, countFine, bodyStart, bandsAt, bandsFine, readWith, readTable}
 use Rattle.model.specs.Places.{startOf}
 use Rattle.model.specs.Calls.{verdictOf}
 use Rattle.table.specs.declared.Tried.the-variants.{Fine, Fails}
@@ -138,10 +140,14 @@ module _ (bs : List ℕ) where
   unfolding readTable
   third-refused e f g = rw (e, f, g)
 
-  pub fourth : versionFine bs ≡ true → lengthFine bs ≡ true → countFine bs ≡ true
-      → readingFrom bs (byte bs 3) (readComponents (byte bs 4) (byte bs 3) 0 (drop 7 bs)) ≡ readingOf bs
+  pub bands-refused : versionFine bs ≡ true → lengthFine bs ≡ true → countFine bs ≡ true → bandsFine bs ≡ false → refusal 3 255 ≡ readingOf bs
   unfolding readTable
-  fourth e f g = rw (e, f, g) (sym (reading-keeps bs (byte bs 3) (readComponents (byte bs 4) (byte bs 3) 0 (drop 7 bs)) (readWith bs)))
+  bands-refused e f g h = rw (e, f, g, h)
+
+  pub fourth : versionFine bs ≡ true → lengthFine bs ≡ true → countFine bs ≡ true → bandsFine bs ≡ true
+      → readingFrom bs (byte bs 3) (readComponents (byte bs 4) (byte bs 3) 0 (drop (bodyStart bs) bs)) ≡ readingOf bs
+  unfolding readTable
+  fourth e f g h = rw (e, f, g, h) (sym (reading-keeps bs (byte bs 3) (readComponents (byte bs 4) (byte bs 3) 0 (drop (bodyStart bs) bs)) (readWith bs)))
 
 -- ## What the tests of the header say
 
@@ -149,11 +155,38 @@ pub no-version : (bs : List ℕ) → length bs < 1 → versionFine bs ≡ false
 no-version [] h = refl
 no-version (b ∷ bs) h = absurd (omega arith)
 
-pub other-version : (bs : List ℕ) → (getD bs 0 0 ≡ 1 → ⊥) → versionFine bs ≡ false
-other-version bs h = ne-eqb (byte bs 0) 1 h
-
 pub its-length : (bs : List ℕ) → lengthFine bs ≡ true → (7 ≤ length bs) × (length bs ≤ 8192)
 its-length bs e = let t = simp tests at e in (t .0 .0, t .0 .1)
 
 pub its-count : (bs : List ℕ) → countFine bs ≡ true → (1 ≤ byte bs 3) × (byte bs 3 ≤ 8)
 its-count bs e = let t = simp tests at e in (t .0 .0 .0 .0, t .0 .0 .0 .1)
+
+-- ## The bands
+
+-- the numbers that are asked, whatever the version: those before the components
+pub bands-are : (bs : List ℕ) → bodyStart bs ≤ length bs → bandsFine bs ≡ all (λ b. leb b 3) (take (bodyStart bs - 7) (drop 7 bs))
+bands-are bs h = rw (le-leb (bodyStart bs) (length bs) h) (go (leb 2 (byte bs 0)))
+  where
+    go : (b : Bool) → all (λ b. leb b 3) (cond b (take (byte bs 4) (drop 7 bs)) (replicate (byte bs 4) 0))
+        ≡ all (λ b. leb b 3) (take (7 + cond b (byte bs 4) 0 - 7) (drop 7 bs))
+    go true = let z : 7 + byte bs 4 - 7 ≡ byte bs 4 = omega arith in rw z
+    go false = let z : 7 + 0 - 7 ≡ 0 = omega arith in rw z (zeros-small (byte bs 4))
+
+pub bands-short : (bs : List ℕ) → length bs < bodyStart bs → false ≡ bandsFine bs
+bands-short bs h = rw (lt-leb (bodyStart bs) (length bs) h)
+
+-- one band more is asked
+module _ (bs : List ℕ) (i from : ℕ) (h : i < from) (f : from ≤ length bs) (x : Bool) (inv : all (λ b. leb b 3) (take (from - i) (drop i bs)) ≡ x) where
+  more-asked : all (λ b. leb b 3) (getD bs i 0 ∷ take (from - (i + 1)) (drop (i + 1) bs)) ≡ x
+  more-asked =
+      let z : from - i ≡ suc (from - suc i) = omega arith in
+      rw (add-one i) (rw (z, drop-cons bs i 0 (omega arith)) at inv)
+
+  pub band-large : 3 < getD bs i 0 → false ≡ x
+  band-large g = rw (lt-leb (getD bs i 0) 3 g) at more-asked
+
+  pub band-small : getD bs i 0 ≤ 3 → all (λ b. leb b 3) (take (from - (i + 1)) (drop (i + 1) bs)) ≡ x
+  band-small g = rw (le-leb (getD bs i 0) 3 g) at more-asked
+
+pub bands-fit : (bs : List ℕ) → bandsFine bs ≡ true → bodyStart bs ≤ length bs
+bands-fit bs e = leb-true (bodyStart bs) (length bs) (and-is (leb (bodyStart bs) (length bs)) (all (λ b. leb b 3) (bandsAt bs)) .0 e .0)

@@ -2,7 +2,7 @@
 ghost use mathlib.Core.Path.{_≡_};
 ghost use Prim.Native.Nat.{ℕ, _+_, _≤_, _<_};
 ghost use lib.ListN.{length, drop, getD};
-ghost use Rattle.model.specs.Reader.{headFine, readBody, readComponent, readComponents, lengthFine, countFine};
+ghost use Rattle.model.specs.Reader.{headFine, readBody, readComponent, readComponents, lengthFine, countFine, bodyStart, bandsFine};
 ghost use Rattle.table.specs.Directory.{triedOf, refusal, readingFrom, readingOf};
 use model::Sizes;
 use model::Verdict;
@@ -98,12 +98,12 @@ fn refused(number: u8, component: u8) -> Reading
 }
 
 // The components, one after the other, to the table's end.
-fn components(table: &[u8], count: u8, channels: u8) -> Reading
-    requires { ⌜ (7 ≤ length (now table)) × (length (now table) ≤ 8192) × (1 ≤ count) × (count ≤ 8) ⌝ }
-    ensures { λ r. ⌜ r ≡ readingFrom (now (table .entry)) count (readComponents channels count 0 (drop 7 (now (table .entry)))) ⌝ }
+fn components(table: &[u8], count: u8, channels: u8, from: usize) -> Reading
+    requires { ⌜ (from ≤ length (now table)) × (length (now table) ≤ 8192) × (1 ≤ count) × (count ≤ 8) × (from ≡ bodyStart (now table)) ⌝ }
+    ensures { λ r. ⌜ r ≡ readingFrom (now (table .entry)) count (readComponents channels count 0 (drop (bodyStart (now (table .entry))) (now (table .entry)))) ⌝ }
 {
     let mut starts = [0u16; 8];
-    let mut at: usize = layout::TABLE_HEADER;
+    let mut at = from;
     let mut c: u8 = 0;
     while c < count {
         if table.len() - at < 2 {
@@ -162,6 +162,37 @@ fn count_fine(table: &[u8]) -> bool
     )
 }
 
+// Where the components start: after the header, and from version 2 on after one byte a channel.
+fn body_start(table: &[u8]) -> usize
+    requires { ⌜ 7 ≤ length (now table) ⌝ }
+    ensures { λ r. ⌜ (r ≡ bodyStart (now (table .entry))) × (7 ≤ r) × (r ≤ 262) ⌝ }
+{
+    if 2 <= table[layout::TABLE_VERSION] {
+        layout::TABLE_HEADER + parts::wide(table[layout::TABLE_CHANNELS])
+    } else {
+        layout::TABLE_HEADER
+    }
+}
+
+// Whether the bands fit and are in range.
+fn bands_fine(table: &[u8]) -> bool
+    requires { ⌜ 7 ≤ length (now table) ⌝ }
+    ensures { λ r. ⌜ r ≡ bandsFine (now (table .entry)) ⌝ }
+{
+    let from = body_start(table);
+    if table.len() < from {
+        return false;
+    }
+    let mut i: usize = layout::TABLE_HEADER;
+    while i < from {
+        if 3 < table[i] {
+            return false;
+        }
+        i += 1;
+    }
+    true
+}
+
 // Reads a table: checks 1 to 6.
 pub fn read(table: &[u8]) -> Reading
     ensures { λ r. ⌜ r ≡ readingOf (now (table .entry)) ⌝ }
@@ -169,7 +200,8 @@ pub fn read(table: &[u8]) -> Reading
     if table.len() < 1 {
         return refused(1, 255);
     }
-    if table[layout::TABLE_VERSION] != 1 {
+    let version = table[layout::TABLE_VERSION];
+    if !parts::both(1 <= version, version <= 2) {
         return refused(1, 255);
     }
     if !length_fine(table) {
@@ -178,9 +210,13 @@ pub fn read(table: &[u8]) -> Reading
     if !count_fine(table) {
         return refused(3, 255);
     }
+    if !bands_fine(table) {
+        return refused(3, 255);
+    }
     components(
         table,
         table[layout::TABLE_COMPONENTS],
         table[layout::TABLE_CHANNELS],
+        body_start(table),
     )
 }

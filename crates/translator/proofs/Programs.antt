@@ -24,12 +24,12 @@ use Rattle.translator.proofs.Standing.{valid-limits, valid-count, node-
 abbrev pub nodesFrom : List ℕ → ℕ → List ℕ
 nodesFrom bs c = each nodeBytes (drop c (readOf bs .table .components))
 
-program-split : (t : Read) → programBytes t ≡ programHead (length (programBytes t)) (size (t .table)) (t .horizon) ++ each nodeBytes (t .table .components)
+program-split : (t : Read) → programBytes t ≡ programHead (t .version) (length (programBytes t)) (size (t .table)) (t .horizon) ++ each nodeBytes (t .table .components)
 unfolding programBytes
 program-split t =
     let R = each nodeBytes (t .table .components) in
     let e : 6 + length R ≡ length (programBytes t) = omega arith in
-    ap (λ (n : ℕ). programHead n (size (t .table)) (t .horizon) ++ R) e
+    ap (λ (n : ℕ). programHead (t .version) n (size (t .table)) (t .horizon) ++ R) e
 
 pub program-long : (t : Read) → length (programBytes t) ≡ 6 + length (each nodeBytes (t .table .components))
 program-long t = ap length (program-split t) ∙ omega arith
@@ -90,11 +90,11 @@ module _ (bs : List ℕ) (b : Bytes bs) (v : Valid bs) where
       pub head-fits : 6 ≤ length o₁
       head-fits = omega (arith, put-long x, program-long (readOf bs))
 
-      pub program-put : (horizon : ℕ) → horizon ≡ word bs 5 → {o₂ : List ℕ} {k : ℕ} → Put o₁ 0 (programHead end (byte bs 3) horizon) k o₂
+      pub program-put : (horizon : ℕ) → horizon ≡ word bs 5 → {o₂ : List ℕ} {k : ℕ} → Put o₁ 0 (programHead (byte bs 0) end (byte bs 3) horizon) k o₂
           → o₂ ≡ programBytes (readOf bs) ++ drop (length (programBytes (readOf bs))) o
       program-put horizon g y =
-          let d : programHead end (byte bs 3) horizon ++ each nodeBytes (readOf bs .table .components) ≡ programBytes (readOf bs) =
-          rw (ends, valid-count bs b v, g, valid-located bs b v .horizon) (sym (program-split (readOf bs))) in
+          let d : programHead (byte bs 0) end (byte bs 3) horizon ++ each nodeBytes (readOf bs .table .components) ≡ programBytes (readOf bs) =
+          rw (ends, valid-located bs b v .version, valid-count bs b v, g, valid-located bs b v .horizon) (sym (program-split (readOf bs))) in
           let q = put-is d (put-before x y refl) in
           let z : 0 + length (programBytes (readOf bs)) ≡ length (programBytes (readOf bs)) = omega arith in
           q .same ∙ sets-eq (programBytes (readOf bs)) o 0 (omega arith) ∙ ap (λ (n : ℕ). programBytes (readOf bs) ++ drop n o) z

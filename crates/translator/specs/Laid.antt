@@ -35,5 +35,5 @@ pub record Aligned (first at : ℕ) : Type 0 where
 abbrev pub nodeHead : ℕ → ℕ → ℕ → ℕ → List ℕ
 nodeHead long locations edges initial = long / 256 ∷ long % 256 ∷ locations ∷ edges ∷ initial ∷ 0 ∷ []
 
-abbrev pub programHead : ℕ → ℕ → ℕ → List ℕ
-programHead long count horizon = 1 ∷ long / 256 ∷ long % 256 ∷ count ∷ be16 horizon
+abbrev pub programHead : ℕ → ℕ → ℕ → ℕ → List ℕ
+programHead version long count horizon = version ∷ long / 256 ∷ long % 256 ∷ count ∷ be16 horizon

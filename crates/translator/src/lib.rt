@@ -156,11 +156,11 @@ fn put_nodes(table: &[u8], starts: [u16; 8], out: &mut [u8], from: usize) -> usi
     at
 }
 
-fn put_program_head(out: &mut [u8], long: u16, count: u8, horizon: u16) -> usize
+fn put_program_head(out: &mut [u8], version: u8, long: u16, count: u8, horizon: u16) -> usize
     requires { ⌜ 6 ≤ length (now out) ⌝ }
-    ensures { λ r. ⌜ Put (now (out .entry)) 0 (programHead long count horizon) r (now (out .exit)) ⌝ }
+    ensures { λ r. ⌜ Put (now (out .entry)) 0 (programHead version long count horizon) r (now (out .exit)) ⌝ }
 {
-    out[layout::PROGRAM_VERSION] = 1;
+    out[layout::PROGRAM_VERSION] = version;
     out[layout::PROGRAM_LENGTH] = (long / 256) as u8;
     out[2] = (long % 256) as u8;
     out[layout::PROGRAM_COMPONENTS] = count;
@@ -177,6 +177,7 @@ pub fn write_program(table: &[u8], starts: [u16; 8], out: &mut [u8]) -> usize
     let end = put_nodes(table, starts, out, layout::PROGRAM_HEADER);
     put_program_head(
         out,
+        table[layout::TABLE_VERSION],
         end as u16,
         table[layout::TABLE_COMPONENTS],
         parts::word_at(table, layout::TABLE_HORIZON),

@@ -14,7 +14,7 @@ use Rattle.schedule.proofs.Fields.{laid-fits}
 use Rattle.meetings.proofs.Bounds.{meetings-few}
 use Rattle.text.specs.Words.{told}
 use Rattle.refusal_text.specs.RefusalText.{refusalText}
-use Rattle.verdict_text.specs.VerdictText.{Met, metOf, metsOf, meetingsText, verdictWith, verdictText}
+use Rattle.verdict_text.specs.VerdictText.{Met, metOf, metsOf, bandText, meetingsText, verdictWith, verdictText}
 
 -- ## What the call leaves
 
@@ -40,11 +40,12 @@ module _ (table lent : List ℕ) (room : 7175 ≤ length lent) where
       ap (λ (x : Call). metsOf (x .lent) (x .size)) laid-is ∙ mets-are (meetingsIn table) (drop (length (meetingsIn table) * 7) lent)
 
   pub refused-words : (n c : ℕ) → checkCall table ≡ Refused n c
-      → refusalText n c ++ meetingsText n (metsOf (meetingsCall table lent .lent) (meetingsCall table lent .size)) ≡ verdictText table
+      → refusalText n c ++ bandText table n (metsOf (meetingsCall table lent .lent) (meetingsCall table lent .size)) ++ meetingsText n (metsOf (meetingsCall table lent .lent) (meetingsCall table lent .size))
+      ≡ verdictText table
   unfolding verdictText
   refused-words n c e =
-      ap (λ (l : List Met). refusalText n c ++ meetingsText n l) listed-mets ∙ sym (ap (λ (v : Verdict). verdictWith v (meetingsIn table)) e)
+      ap (λ (l : List Met). refusalText n c ++ bandText table n l ++ meetingsText n l) listed-mets ∙ sym (ap (λ (v : Verdict). verdictWith table v (meetingsIn table)) e)
 
-pub accepted-words : (table : List ℕ) → checkCall table ≡ Accepted → verdictWith Accepted [] ≡ verdictText table
+pub accepted-words : (table : List ℕ) → checkCall table ≡ Accepted → verdictWith table Accepted [] ≡ verdictText table
 unfolding verdictText
-accepted-words table e = sym (ap (λ (v : Verdict). verdictWith v (meetingsIn table)) e)
+accepted-words table e = sym (ap (λ (v : Verdict). verdictWith table v (meetingsIn table)) e)

@@ -14,19 +14,20 @@ use model::Verdict;
 
 // A refusal in words, and which windows met after 10, 11 or 12. There is room for the passage at fault and all 1,024.
 fn put_refused(table: &[u8], number: u8, component: u8, out: &mut [u8]) -> usize
-    requires { ⌜ (164370 ≤ length (now out)) × (checkCall (now table) ≡ Refused number component) ⌝ }
+    requires { ⌜ (164400 ≤ length (now out)) × (checkCall (now table) ≡ Refused number component) ⌝ }
     ensures { λ r. ⌜ Counts r (now (out .exit)) ⌝ }
     ensures { λ r. ⌜ take r (now (out .exit)) ≡ verdictText (now (table .entry)) ⌝ }
 {
     let mut list = [0u32; 7175];
     let r = meetings::meetings(table, &mut list);
     let at = refusal_text::put_refusal_text(out, 0, number, component);
-    verdict_text::put_meetings(out, at, number, &list, r.size)
+    let lines = verdict_text::put_band(out, at, table, number, &list, r.size);
+    verdict_text::put_meetings(out, lines, number, &list, r.size)
 }
 
 // All that is printed of a table, at the front of out; answers how many bytes.
 fn put_printed(table: &[u8], out: &mut [u8]) -> usize
-    requires { ⌜ 164370 ≤ length (now out) ⌝ }
+    requires { ⌜ 164400 ≤ length (now out) ⌝ }
     ensures { λ r. ⌜ Counts r (now (out .exit)) ⌝ }
     ensures { λ r. ⌜ take r (now (out .exit)) ≡ verdictText (now (table .entry)) ⌝ }
 {
@@ -39,7 +40,7 @@ fn put_printed(table: &[u8], out: &mut [u8]) -> usize
 
 // The text is made, then written. What is put in out is all that is written.
 fn print(table: &[u8], out: &mut [u8])
-    requires { ⌜ 164370 ≤ length (now out) ⌝ }
+    requires { ⌜ 164400 ≤ length (now out) ⌝ }
 {
     let n = put_printed(table, out);
     if !io::write_all(STDOUT_FILENO, &out[..n]) {
@@ -48,7 +49,7 @@ fn print(table: &[u8], out: &mut [u8])
 }
 
 // The array is lent as an array first: no proof has to count its zeros then.
-fn print_in_array(table: &[u8], out: &mut [u8; 164370]) {
+fn print_in_array(table: &[u8], out: &mut [u8; 164400]) {
     print(table, out);
 }
 
@@ -56,7 +57,7 @@ fn main() {
     // One byte more than a table may have, so that a longer input is seen.
     let mut input = [0u8; 8193];
     let n = io::read_full(0, &mut input);
-    // The refusal has at most 170 bytes, the window at fault 200, and each of 1,025 lines 160.
-    let mut out = [0u8; 164370];
+    // The refusal has at most 170 bytes, the band 30, the window at fault 200, and each of 1,025 lines 160.
+    let mut out = [0u8; 164400];
     print_in_array(&input[..n], &mut out);
 }

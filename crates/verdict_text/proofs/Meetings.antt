@@ -1,13 +1,18 @@
 -- The lines of the windows that met. Assumes nothing.
 use mathlib.Core.Path.{_≡_, refl, ap}
+use mathlib.Core.Bool.{true, _&&_}
 use mathlib.Core.List.{List, _++_}
-use Prim.Native.Nat.{ℕ, zero, suc, _-_, _≤_}
+use Prim.Native.Nat.{ℕ, zero, suc, _+_, _-_, _≤_, _<_}
 use native.Mathlib.Nat.{not-suc-le-zero}
 use native.Mathlib.Omega.{arith}
-use lib.ListN.{drop}
+use borrow.Author.Tests.{ltb-true}
+use lib.Dec.{eqb, leb, ltb}
+use lib.ListN.{length, drop}
 use Rattle.model.specs.Lists.{each}
+use Rattle.model.specs.Reader.{byte}
+use Rattle.model.proofs.Basics.Bools.{and-is}
 use Rattle.text.specs.Words.{told}
-use Rattle.verdict_text.specs.VerdictText.{Met, metAt, metsOf, metLine, metLines, faultText, meetingsText}
+use Rattle.verdict_text.specs.VerdictText.{Met, metAt, metsOf, metLine, metLines, faultText, bandTold, bandLine, bandText, meetingsText}
 
 pub one-met : (number : ℕ) (fault : Met) (list : List ℕ) (n : ℕ) → n ≡ 1 → metLines number fault (metsOf list 0) ≡ metLines number fault (metsOf list (n - 1))
 one-met number fault list n e = let p : 0 ≡ n - 1 = omega (arith, e) in ap (λ (m : ℕ). metLines number fault (metsOf list m)) p
@@ -27,3 +32,14 @@ pub first-at-fault : (number : ℕ) (list : List ℕ) (n : ℕ) → (n ≡ 0 →
 unfolding meetingsText told
 first-at-fault number list n h =
     let p : suc (n - 1) ≡ n = omega (arith, h) in ap (λ (m : ℕ). meetingsText number (metsOf list m)) p
+
+-- a band that is told stands in the table
+pub told-inside : (table : List ℕ) (number channel : ℕ) → bandTold table number channel ≡ true → 7 + channel < length table
+told-inside table number channel e =
+    let h = and-is (eqb number 10 && ltb (7 + channel) (length table)) (leb 2 (byte table 0)) .0 e in
+    ltb-true (7 + channel) (length table) (and-is (eqb number 10) (ltb (7 + channel) (length table)) .0 (h .0) .1)
+
+-- it is that of the first window
+pub first-band : (table : List ℕ) (number : ℕ) (list : List ℕ) (n : ℕ) → (n ≡ 0 → ⊥) → bandLine table number (metAt list .channel) ≡ bandText table number (metsOf list n)
+unfolding bandText told
+first-band table number list n h = let p : suc (n - 1) ≡ n = omega (arith, h) in ap (λ (m : ℕ). bandText table number (metsOf list m)) p

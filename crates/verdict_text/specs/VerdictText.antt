@@ -1,12 +1,13 @@
 -- A verdict in words: a refusal in words, and after 10, 11 or 12 which windows met.
-use mathlib.Core.Bool.{cond}
+use mathlib.Core.Bool.{Bool, cond, _&&_}
 use mathlib.Core.List.{List, [], _∷_, _++_, map}
-use Prim.Native.Nat.{ℕ}
-use lib.Dec.{eqb, ltb}
-use lib.ListN.{getD}
+use Prim.Native.Nat.{ℕ, _+_}
+use lib.Dec.{eqb, leb, ltb}
+use lib.ListN.{length, getD}
 use Rattle.model.specs.declared.Verdict.{Verdict}
 use Rattle.model.specs.declared.Verdict.the-variants.{Accepted, Refused}
 use Rattle.model.specs.Lists.{orElse, each}
+use Rattle.model.specs.Reader.{byte}
 use Rattle.model.specs.Schedule.{Passage}
 use Rattle.model.specs.Calls.{checkCall}
 use Rattle.model.specs.Meetings.{meetingsIn}
@@ -81,15 +82,29 @@ unfolding decimal metLine each
 meetingsText number [] = []
 meetingsText number (fault ∷ ws) = faultText number fault ++ metLines number fault ws
 
+-- After 10, in version 2, the band of the send at fault: the byte of its channel behind the header (`Places.Located.band`). Those that it meets are
+-- on the same band.
+abbrev pub bandTold : List ℕ → ℕ → ℕ → Bool
+bandTold table number channel = eqb number 10 && ltb (7 + channel) (length table) && leb 2 (byte table 0)
+
+abbrev pub bandLine : List ℕ → ℕ → ℕ → List ℕ
+bandLine table number channel = cond (bandTold table number channel) (field "On band " (byte table (7 + channel)) ++ ascii ":\n") []
+
+unfoldable pub bandText : List ℕ → ℕ → List Met → List ℕ
+unfolding decimal
+bandText table number [] = []
+bandText table number (fault ∷ ws) = bandLine table number (fault .channel)
+
 -- ## The whole text, for any bytes
 
-abbrev pub verdictWith : Verdict → List Passage → List ℕ
-verdictWith Accepted M = ascii "accepted\n"
-verdictWith (Refused number component) M = refusalText number component ++ meetingsText number (map metOf M)
+abbrev pub verdictWith : List ℕ → Verdict → List Passage → List ℕ
+verdictWith table Accepted M = ascii "accepted\n"
+verdictWith table (Refused number component) M =
+    refusalText number component ++ bandText table number (map metOf M) ++ meetingsText number (map metOf M)
 
 unfoldable pub verdictText : List ℕ → List ℕ
-unfolding checkCall meetingsIn refusalText meetingsText
-verdictText table = verdictWith (checkCall table) (meetingsIn table)
+unfolding checkCall meetingsIn refusalText bandText meetingsText
+verdictText table = verdictWith table (checkCall table) (meetingsIn table)
 
 -- ## From the seven numbers of a passage
 

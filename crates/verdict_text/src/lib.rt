@@ -5,7 +5,7 @@ ghost use Prim.Native.Nat.{ℕ, _+_, _*_, _-_, _≤_, _<_};
 ghost use lib.ListN.{length, drop};
 ghost use Rattle.model.specs.Lists.{each};
 ghost use Rattle.text.specs.Words.{Added};
-ghost use Rattle.verdict_text.specs.VerdictText.{metAt, placeWords, windowWords, sendWords, receiveFault, faultEnd, sendFault, faultText, sendLine, receiveWords, startWords, endWords, listenerLine, metLine, metsOf, metLines, meetingsText};
+ghost use Rattle.verdict_text.specs.VerdictText.{metAt, placeWords, windowWords, sendWords, receiveFault, faultEnd, sendFault, faultText, sendLine, receiveWords, startWords, endWords, listenerLine, metLine, metsOf, metLines, bandTold, bandLine, bandText, meetingsText};
 use text::put;
 use text::put_field;
 
@@ -194,4 +194,48 @@ pub fn put_meetings(out: &mut [u8], at: usize, number: u8, list: &[u32], n: usiz
     }
     let lines = put_fault(out, at, number, list);
     put_met_lines(out, lines, number, list, n)
+}
+
+// Whether the band of a send at fault on that channel is told: after 10, in version 2.
+fn tells_band(table: &[u8], number: u8, channel: u32) -> bool
+    ensures { λ r. ⌜ r ≡ bandTold (now (table .entry)) number channel ⌝ }
+{
+    if number != 10 {
+        return false;
+    }
+    if table.len() <= 7 + channel as usize {
+        return false;
+    }
+    2 <= table[0]
+}
+
+// The line that tells it.
+fn put_band_line(out: &mut [u8], at: usize, table: &[u8], number: u8, channel: u32) -> usize
+    requires { ⌜ at + 30 ≤ length (now out) ⌝ }
+    ensures { λ r. ⌜ Added (now (out .entry)) at (bandLine (now (table .entry)) number channel) (now (out .exit)) r × (r ≤ at + 30) ⌝ }
+{
+    if !tells_band(table, number, channel) {
+        return at;
+    }
+    let band = table[7 + channel as usize] as u32;
+    let last = put_field(out, at, b"On band ", band);
+    put(out, last, b":\n")
+}
+
+// n passages, the first of them the one at fault: its band, if it is told.
+pub fn put_band(
+    out: &mut [u8],
+    at: usize,
+    table: &[u8],
+    number: u8,
+    list: &[u32],
+    n: usize,
+) -> usize
+    requires { ⌜ (at + 30 ≤ length (now out)) × (n * 7 ≤ length (now list)) ⌝ }
+    ensures { λ r. ⌜ Added (now (out .entry)) at (bandText (now (table .entry)) number (metsOf (now (list .entry)) n)) (now (out .exit)) r × (r ≤ at + 30) ⌝ }
+{
+    if n == 0 {
+        return at;
+    }
+    put_band_line(out, at, table, number, list[6])
 }

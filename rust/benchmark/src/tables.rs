@@ -44,7 +44,12 @@ impl Row {
 pub fn rows() -> Vec<Row> {
     let mut rows = vec![
         Row::new("the worked example", &worked_example(1), 8).of_length(103),
-        Row::new("four pairs", &with_passages(pairs(), 1012), 1012),
+        Row::new("four pairs", &with_passages(pairs(10), 1012), 1012),
+        Row::new(
+            "four pairs at once on four bands",
+            &with_passages(at_once(), 1012),
+            1012,
+        ),
         Row::new("a long table", &with_passages(longest(), 1024), 1024).of_length(8192),
         Row::new(
             "the same to an early tick",
@@ -84,7 +89,7 @@ pub fn refused() -> Vec<(u8, Vec<u8>)> {
     let last = whole.len() - 1;
     let (version, length, components) = (0, 2, 3);
     let tables = vec![
-        (1, with(version, 2)),
+        (1, with(version, 3)),
         (2, with(length, 1)),
         (3, with(components, 9)),
         (4, cut(&whole)),
@@ -133,10 +138,13 @@ fn worked_example(times: u16) -> Table {
     table
 }
 
-/// The table of these lanes.
+/// The table of these lanes, in version 1.
 fn plain(lanes: &[Lane], channels: u8) -> Table {
     let mut random = Random::new(Random::SEED);
-    table(&mut random, lanes, channels, 1, &Style::PLAIN)
+    let mut table = table(&mut random, lanes, channels, 1, &Style::PLAIN);
+    table.version = 1;
+    table.bands.clear();
+    table
 }
 
 /// A hub that hears 7 probes in each round, with all ticks so many times as
@@ -146,15 +154,24 @@ fn hub(times: u32) -> Table {
     plain(&plan.plain_lanes(), plan.channels)
 }
 
-/// Four senders, each with a hub of its own.
-fn pairs() -> Table {
+/// Four pairs at the same ticks, each on a band of its own.
+fn at_once() -> Table {
+    let mut table = pairs(0);
+    table.version = 2;
+    table.bands = (0..table.channels).collect();
+    table
+}
+
+/// Four senders, each with a hub of its own. Each pair begins so many ticks
+/// after the one before.
+fn pairs(apart: u32) -> Table {
     let sender = |pair: u32| {
-        let start = 10 * pair;
+        let start = apart * pair;
         let send = Step::send(start + 2, start + 5, pair as u8);
         Lane::new(vec![send, Step::internal(50, 60)])
     };
     let hub = |pair: u32| {
-        let start = 10 * pair;
+        let start = apart * pair;
         let listen = Step::listen(start + 1, start + 7, &[pair as u8]);
         let steps = vec![listen, Step::internal(45, 48), Step::internal(50, 60)];
         Lane::new(steps)
@@ -282,7 +299,7 @@ mod tests {
     /// Each one is asserted to be what it is said to be.
     #[test]
     fn all_tables_can_be_made() {
-        assert_eq!(rows().len(), 9);
+        assert_eq!(rows().len(), 10);
         assert_eq!(slow_rows().len(), 2);
         assert_eq!(refused().len(), 6);
     }

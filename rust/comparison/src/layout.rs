@@ -60,10 +60,13 @@ impl Layout {
     /// The layout of the bytes that `write_table` gives for a table.
     pub fn of(table: &Table) -> Layout {
         let mut walk = Walk::default();
-        walk.ones(&[1]);
+        walk.ones(&[*VERSIONS.end()]);
         walk.two(*LENGTHS.end() as u16);
         walk.ones(&[MAX_COMPONENTS as u8, MAX_CHANNELS]);
         walk.two(MAX_TICKS);
+        if Table::has_bands(table.version) {
+            walk.ones(&vec![MAX_BAND; table.bands.len()]);
+        }
         for component in &table.components {
             walk.component(component, table.channels);
         }

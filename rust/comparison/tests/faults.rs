@@ -24,7 +24,7 @@ macro_rules! wrong {
 }
 
 const EXTENT: Extent = Extent {
-    rounds: 10,
+    rounds: 20,
     step: 41,
 };
 
@@ -67,10 +67,11 @@ fn each_fault_is_found() {
         OnePassageMore OnePassageLess SevenAfterEight SevenAfterNine
         MessageStartsTogether MessageEndsTogether MessageFromHorizonOn MessageAtHorizon
         MessageTieToHighest MessageTieToFirstOpened MessageEndingLast MessageOfOpenForgotten
-        TimeoutToFirstPair TouchingSendsAllowed OwnSendsCollide SendsFromHorizonOnCount
+        TimeoutToFirstPair BandsIgnored ChannelsForBands TouchingSendsAllowed OwnSendsCollide SendsFromHorizonOnCount
         SendsAtHorizonCount SendsEndingLaterForgotten ListenerStartsTogether
         ListenerEndsTogether SecondListenerAllowed TouchingListenerAllowed
         ListenersFromHorizonOnForgotten OwnListenerCounts OtherChannelHeard
+        ListenersByBand TwoSendsOnTwoBandsHeard
         TwoSendsForOneListener TwoSendsOfOneComponent OwnSendHeard EntryTickMissed
         TwelveBeforeEleven ElevenBeforeTen LastAtFaultNamed MessageWrittenAs0 PassagesByEnd
     ];

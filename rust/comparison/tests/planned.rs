@@ -185,6 +185,8 @@ fn workers_are_always_accepted() {
         };
         let components = vec![worker(&mut random, &work)];
         let table = Table {
+            version: 1,
+            bands: Vec::new(),
             channels: 3,
             horizon: 900,
             components,

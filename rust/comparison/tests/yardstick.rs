@@ -37,6 +37,16 @@ fn stored_answers_are_given() {
 }
 
 #[test]
+fn second_implementation_and_yardstick_agree() {
+    let readers = Readers {
+        library: Reader::yardstick(),
+        second: Reader::second(),
+    };
+    let tallies = compare(&readers, 4, &Extent::SHORT, |_| {}).unwrap();
+    assert_eq!(gaps(&tallies, &LEAST), Vec::<String>::new());
+}
+
+#[test]
 fn library_and_yardstick_agree() {
     for seed in [Random::SEED, 1, 2, 3] {
         let tallies = compare(&Readers::fast(), seed, &Extent::SHORT, |_| {}).unwrap();

@@ -74,6 +74,8 @@ fn hub(windows: &[(u16, u16)]) -> Component {
 
 fn table(horizon: u16, components: Vec<Component>) -> Table {
     Table {
+        version: 1,
+        bands: Vec::new(),
         channels: 1,
         horizon,
         components,

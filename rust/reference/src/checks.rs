@@ -40,17 +40,27 @@ fn refuse(
 /// What a passage does for checks 10 to 12.
 #[derive(Clone, Copy)]
 enum Role {
-    /// A send with ready < H, and its channel.
-    Send(u8),
+    /// A send with ready < H.
+    Send(Sent),
     /// A receive, its channels as bits.
     Receive(u16),
     /// Anything else.
     Other,
 }
 
+/// Where a send is heard.
+#[derive(Clone, Copy)]
+struct Sent {
+    channel: u8,
+    band: u8,
+}
+
 fn role(table: &Table, passage: &Passage) -> Role {
     match &passage.edge_in(table).action {
-        Action::Send(channel) if passage.ready < u32::from(table.horizon) => Role::Send(*channel),
+        Action::Send(channel) if passage.ready < u32::from(table.horizon) => Role::Send(Sent {
+            channel: *channel,
+            band: table.band(*channel),
+        }),
         Action::Receive(pairs) => {
             Role::Receive(pairs.iter().fold(0, |bits, pair| bits | 1 << pair.channel))
         }
@@ -62,7 +72,8 @@ fn role(table: &Table, passage: &Passage) -> Role {
 /// receive.
 #[derive(Clone, Copy, Default)]
 struct Note {
-    /// It shares a tick with a later send window of another component.
+    /// It shares a tick with a later send window of another component on its
+    /// band.
     collides: bool,
     /// "For each send the components listening are noted as eight bits".
     listeners: u8,
@@ -110,14 +121,18 @@ fn take_notes(passages: &[Passage], roles: &[Role]) -> Vec<Note> {
 }
 
 /// Notes what windows `i` and `j`, which share a tick, are to each other.
+/// Document 02, wish 2: "Check 10 now concerns sends on one band only"; 11 and
+/// 12 ask for the channel, whatever its band.
 fn note_pair(passages: &[Passage], roles: &[Role], notes: &mut [Note], i: usize, j: usize) {
     match (roles[i], roles[j]) {
-        (Role::Send(_), Role::Send(_)) => notes[i].collides = true,
-        (Role::Send(channel), Role::Receive(channels)) if channels >> channel & 1 == 1 => {
+        (Role::Send(one), Role::Send(other)) if one.band == other.band => {
+            notes[i].collides = true;
+        }
+        (Role::Send(sent), Role::Receive(channels)) if channels >> sent.channel & 1 == 1 => {
             notes[i].hear(&passages[i], &passages[j]);
             notes[j].sends += 1;
         }
-        (Role::Receive(channels), Role::Send(channel)) if channels >> channel & 1 == 1 => {
+        (Role::Receive(channels), Role::Send(sent)) if channels >> sent.channel & 1 == 1 => {
             notes[j].hear(&passages[j], &passages[i]);
             notes[i].sends += 1;
         }

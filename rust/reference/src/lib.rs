@@ -1,9 +1,9 @@
 //! A second, independent implementation of document 01, "Timed cellar
-//! networks and their node programs", written from its text alone.
+//! networks and their node programs", and of document 02's wishes 1 and 2,
+//! written from their text alone.
 //!
-//! One module stands for each heading of the document, and `chart` for the first
-//! wish of document 02. Sentences in quotation
-//! marks in the comments are the document's own.
+//! One module stands for each heading of document 01, and `chart` for wish 1.
+//! Sentences in quotation marks in the comments are the documents' own.
 #![forbid(unsafe_code)]
 #![warn(missing_docs)]
 

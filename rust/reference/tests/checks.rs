@@ -45,13 +45,30 @@ fn hears(channels: &[u8]) -> Action {
     receive(&channels.iter().map(|c| (*c, 1)).collect::<Vec<_>>())
 }
 
-/// The verdict on components with four channels.
+/// The verdict on components with four channels, in version 1.
 fn refusal(horizon: u16, components: Vec<Component>) -> Option<Refusal> {
-    let table = Table {
+    answered(Table {
+        version: 1,
+        bands: Vec::new(),
         channels: 4,
         horizon,
         components,
-    };
+    })
+}
+
+/// The verdict on components with four channels on these bands.
+fn on_bands(horizon: u16, bands: [u8; 4], components: Vec<Component>) -> Option<Refusal> {
+    answered(Table {
+        version: 2,
+        bands: bands.to_vec(),
+        channels: 4,
+        horizon,
+        components,
+    })
+}
+
+/// The verdict on a table, which all pairs of passages must give too.
+fn answered(table: Table) -> Option<Refusal> {
     let answer = verdict(&write_table(&table)).err();
     let passages = schedule(&table).unwrap();
     assert_eq!(answer, by_definition(&table, &passages));
@@ -113,6 +130,59 @@ fn check_10_sends_of_two_components() {
         "the second is not counted"
     );
     assert_eq!(two(21, (5, 30), (20, 40)), Some(refused(10, 0)));
+}
+
+/// "Check 10 now concerns sends on one band only."
+#[test]
+fn check_10_sends_on_two_bands() {
+    let two = |bands, first, second| {
+        let components = vec![
+            once(first, sends(0)),
+            once((1, 99), hears(&[0])),
+            once(second, sends(1)),
+            once((1, 98), hears(&[1])),
+        ];
+        on_bands(20, bands, components)
+    };
+    let ten = Some(refused(10, 0));
+    for one in 0..4 {
+        for other in 0..4 {
+            let expected = if one == other { ten } else { None };
+            assert_eq!(two([one, other, 0, 0], (3, 5), (4, 8)), expected);
+            assert_eq!(two([one, other, 0, 0], (4, 8), (3, 5)), expected);
+            assert_eq!(two([one, other, 0, 0], (3, 5), (6, 8)), None);
+        }
+    }
+}
+
+/// The first send on whose band another one is, and 11 and 12 as before.
+#[test]
+fn only_check_10_asks_for_bands() {
+    let four = |bands| {
+        let send = |number: u8| once((3, 5), sends(number));
+        let listener = |number: u8| once((2, 6), hears(&[number]));
+        let components = (0..4).map(send).chain((0..4).map(listener));
+        on_bands(20, bands, components.collect())
+    };
+    assert_eq!(four([3, 1, 0, 2]), None);
+    assert_eq!(four([3, 1, 0, 1]), Some(refused(10, 1)));
+    assert_eq!(four([3, 1, 3, 1]), Some(refused(10, 0)));
+    let one = |bands, channel| {
+        let components = vec![once((3, 5), sends(0)), once((2, 6), hears(&[channel]))];
+        on_bands(20, bands, components)
+    };
+    assert_eq!(one([2, 2, 2, 2], 1), Some(refused(11, 0)), "one band");
+    assert_eq!(one([2, 0, 0, 0], 0), None);
+    let crowded = |bands| {
+        let components = vec![
+            once((3, 5), sends(0)),
+            once((4, 6), sends(1)),
+            once((2, 20), hears(&[0, 1])),
+        ];
+        on_bands(20, bands, components)
+    };
+    assert_eq!(crowded([0, 1, 0, 0]), Some(refused(12, 2)));
+    assert_eq!(crowded([1, 1, 0, 0]), Some(refused(10, 0)));
 }
 
 /// A passage that is entered at a window's end, ready at once, shares it.
@@ -225,8 +295,10 @@ fn by_definition(table: &Table, passages: &[Passage]) -> Option<Refusal> {
     let hears = |q: &Passage, p: &Passage| {
         channel(p).is_some_and(|c| meets(p, q) && q.edge_in(table).listens_to(c))
     };
+    let band = |p: &Passage| channel(p).map(|c| table.bands.get(c as usize).map_or(0, |b| *b));
     let collides = |p: &&Passage| {
-        channel(p).is_some() && passages.iter().any(|q| channel(q).is_some() && meets(p, q))
+        let other = |q: &Passage| band(q) == band(p) && meets(p, q);
+        channel(p).is_some() && passages.iter().any(other)
     };
     let unheard = |p: &&Passage| {
         let windows: Vec<_> = passages.iter().filter(|q| hears(q, p)).collect();

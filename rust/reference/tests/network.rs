@@ -172,6 +172,8 @@ fn single(bound: u16, low: u16, action: Action, data: Option<DataBound>) -> Tabl
     let mut edge = edge(0, 0, 0, low, action);
     edge.data_bounds = data.into_iter().collect();
     Table {
+        version: 1,
+        bands: Vec::new(),
         channels: 0,
         horizon: 9,
         components: vec![Component {

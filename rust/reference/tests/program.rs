@@ -154,6 +154,8 @@ fn a_block_with_all_bounds() {
         ..edge(0, 1, 0b01, 0, receive(&[(2, 1), (0, 0)]))
     };
     let table = Table {
+        version: 1,
+        bands: Vec::new(),
         channels: 3,
         horizon: 5,
         components: vec![Component {

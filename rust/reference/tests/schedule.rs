@@ -10,6 +10,8 @@ use reference::table::*;
 /// A table of components without channels.
 fn table(horizon: u16, components: Vec<Component>) -> Table {
     Table {
+        version: 1,
+        bands: Vec::new(),
         channels: 0,
         horizon,
         components,

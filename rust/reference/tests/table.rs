@@ -68,7 +68,7 @@ fn the_directory_tells_where_the_parts_stand() {
 #[test]
 fn check_1_the_first_byte() {
     assert_eq!(refusal(&[]), Some(refused(1, 255)));
-    for version in [0, 2, 255] {
+    for version in [0, 3, 255] {
         assert_eq!(refusal(&with(0, version)), Some(refused(1, 255)));
     }
 }
@@ -98,6 +98,53 @@ fn check_3_the_header() {
     assert_eq!(changed(|t| t.horizon = 60_000), None);
     assert_eq!(changed(|t| t.horizon = 1), None);
     assert_eq!(changed(|t| t.channels = 16), None);
+}
+
+/// The worked example in version 2, with these bytes behind the header.
+fn banded(channels: u8, bands: &[u8]) -> Vec<u8> {
+    let mut table = probe_and_hub_table();
+    table.version = 2;
+    table.channels = channels;
+    table.bands = bands.to_vec();
+    write_table(&table)
+}
+
+#[test]
+fn check_3_the_bands() {
+    for band in 0..=255 {
+        let three = (band > 3).then_some(refused(3, 255));
+        assert_eq!(refusal(&banded(1, &[band])), three, "{band}");
+        let unused = [[0; 15].as_slice(), &[band]].concat();
+        assert_eq!(refusal(&banded(16, &unused)), three, "{band}, not used");
+    }
+    let head = |channels, length| resized(&[2, 0, 0, 1, channels, 0, 20], length);
+    for channels in 1..=16 {
+        let enough = 7 + channels as usize;
+        for length in 7..enough {
+            let bytes = head(channels, length);
+            assert_eq!(refusal(&bytes), Some(refused(3, 255)), "{length}");
+        }
+        assert_eq!(refusal(&head(channels, enough)), Some(refused(4, 0)));
+    }
+    assert_eq!(refusal(&head(17, 40)), Some(refused(3, 255)));
+    assert_eq!(refusal(&head(0, 7)), Some(refused(4, 0)));
+}
+
+#[test]
+fn the_bands_are_read_and_written() {
+    let bytes = banded(3, &[1, 0, 3]);
+    assert_eq!(
+        (bytes.len(), bytes[0], &bytes[7..10]),
+        (106, 2, &[1, 0, 3][..])
+    );
+    let table = read(&bytes).unwrap();
+    assert_eq!((table.version, table.bands.as_slice()), (2, &[1, 0, 3][..]));
+    assert_eq!([0, 1, 2].map(|channel| table.band(channel)), [1, 0, 3]);
+    assert_eq!(write_table(&table), bytes);
+    let first = read(&probe_and_hub()).unwrap();
+    assert_eq!((first.version, first.bands.len(), first.band(0)), (1, 0, 0));
+    let entries = check_only(&bytes).unwrap().entries;
+    assert_eq!([entries[0].first_location, entries[1].first_edge], [17, 64]);
 }
 
 #[test]

@@ -1,4 +1,4 @@
-//! Bytes to text, for a table of version 1 whose parts all fit.
+//! Bytes to text, for a table of version 1 or 2 whose parts all fit.
 //!
 //! Ranges are not tried: a number out of range is written as it is. What the
 //! text could not say without stated counts or raw bytes is an error.
@@ -43,8 +43,9 @@ fn decode_header(
     text: &mut String,
 ) -> Result<u8, DecodeError> {
     let start = cursor.clone();
-    if cursor.byte("the version")? != 1 {
-        return Err(start.error("only tables of version 1 are read"));
+    let version = cursor.byte("the version")?;
+    if !(1..=2).contains(&version) {
+        return Err(start.error("only tables of version 1 or 2 are read"));
     }
     let length = cursor.word("the total length")?;
     if usize::from(length) != handed_in {
@@ -55,7 +56,19 @@ fn decode_header(
     let channels = cursor.byte("the number of channels")?;
     let horizon = cursor.word("the horizon")?;
     *text += &format!("horizon {horizon}\nchannels {channels}\n");
+    if version >= 2 {
+        *text += &bands_line(channels, cursor)?;
+    }
     Ok(components)
+}
+
+/// The bands of the channels, one byte each behind the header.
+fn bands_line(channels: u8, cursor: &mut Cursor) -> Result<String, DecodeError> {
+    let mut text = "bands".to_string();
+    for _ in 0..channels {
+        text += &format!(" {}", cursor.byte("a channel's band")?);
+    }
+    Ok(text + "\n")
 }
 
 /// The bytes of the next component, after its length.

@@ -7,7 +7,9 @@
 use crate::source::{ComponentPart, ComponentSource, EdgePart, EdgeSource, TablePart, TableSource};
 use crate::SourceError;
 
-const VERSION: u8 = 1;
+/// The version of a table without bands, and of one with them.
+const PLAIN: u8 = 1;
+const BANDED: u8 = 2;
 /// Bytes of the header, and of the head of a component.
 const HEADER: usize = 7;
 const COMPONENT_HEAD: usize = 7;
@@ -25,7 +27,8 @@ fn header(table: &TableSource, length: usize) -> Result<Vec<u8>, String> {
     let components = table.parts.iter().filter(|part| is_component(part)).count();
     let length: u16 = stated(table.length, length, "length")?;
     let horizon: u16 = required(table.horizon, "horizon")?;
-    let mut bytes = vec![table.version.unwrap_or(VERSION)];
+    let version = if table.bands.is_some() { BANDED } else { PLAIN };
+    let mut bytes = vec![table.version.unwrap_or(version)];
     bytes.extend(length.to_be_bytes());
     bytes.push(stated(table.components, components, "components")?);
     bytes.push(required(table.channels, "channels")?);
@@ -38,7 +41,7 @@ fn is_component(part: &TablePart) -> bool {
 }
 
 fn table_body(table: &TableSource) -> Result<Vec<u8>, SourceError> {
-    let mut bytes = Vec::new();
+    let mut bytes = table.bands.clone().unwrap_or_default();
     for part in &table.parts {
         match part {
             TablePart::Component(component) => bytes.extend(encode_component(component)?),

@@ -11,6 +11,8 @@ pub struct TableSource {
     pub components: Option<u8>,
     pub channels: Option<u8>,
     pub horizon: Option<u16>,
+    /// The bytes behind the header in version 2, as many as the line lists.
+    pub bands: Option<Vec<u8>>,
     pub parts: Vec<TablePart>,
     pub cut: Option<Cut>,
 }

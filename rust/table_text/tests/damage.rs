@@ -39,6 +39,22 @@ fn the_header_states_what_is_said() {
 }
 
 #[test]
+fn bands_stand_behind_the_header_and_make_version_2() {
+    assert_eq!(header_of("bands 0 1 3\n"), [2, 0, 10, 0, 3, 1, 2, 0, 1, 3]);
+    assert_eq!(header_of("bands\n"), [2, 0, 7, 0, 3, 1, 2]);
+    assert_eq!(header_of("bands 255\n"), [2, 0, 8, 0, 3, 1, 2, 255]);
+    let raw = header_of("bytes 0a\nbands 2\n");
+    assert_eq!(raw, [2, 0, 9, 0, 3, 1, 2, 2, 10], "raw bytes come after");
+    let stated = header_of("version 1\nbands 2\n");
+    assert_eq!(stated, [1, 0, 8, 0, 3, 1, 2, 2], "the first byte alone");
+    assert_eq!(header_of("version 2\n"), [2, 0, 7, 0, 3, 1, 2]);
+    assert_eq!(header_of("bands 0 1 3\ncut 2\n"), [2, 0, 10, 0, 3, 1, 2, 0]);
+    let bytes = header_of(&format!("{COMPONENT}bands 3 3 3\n"));
+    assert_eq!(bytes[..10], [2, 0, 27, 1, 3, 1, 2, 3, 3, 3]);
+    assert_eq!(bytes[10..], header_of(COMPONENT)[7..]);
+}
+
+#[test]
 fn bytes_of_the_table_count_in_its_length_alone() {
     let bytes = header_of("bytes 0a ff\n");
     assert_eq!(bytes, [1, 0, 9, 0, 3, 1, 2, 10, 255]);

@@ -84,13 +84,18 @@ fn drawn_component(draws: &mut Draws) -> Vec<u8> {
 
 /// A table whose parts fit, with numbers of any size in them.
 fn drawn_table(draws: &mut Draws) -> Vec<u8> {
+    let version = 1 + draws.below(2);
     let components = draws.below(9);
-    let mut body = vec![components];
-    draws.fill(&mut body, 3);
+    let channels = draws.below(256);
+    let mut body = vec![components, channels];
+    draws.fill(&mut body, 2);
+    if version == 2 {
+        draws.fill(&mut body, channels.into());
+    }
     for _ in 0..components {
         body.extend(drawn_component(draws));
     }
-    let mut bytes = vec![1];
+    let mut bytes = vec![version];
     bytes.extend(u16::try_from(body.len() + 3).unwrap().to_be_bytes());
     bytes.extend(body);
     bytes
@@ -122,7 +127,9 @@ fn drawn_tables_with_one_byte_changed() {
 fn what_does_not_decode_says_where() {
     let say = |bytes: &[u8]| decode(bytes).unwrap_err().to_string();
     assert_eq!(say(&[]), "byte 0: the version does not fit");
-    assert_eq!(say(&[2]), "byte 0: only tables of version 1 are read");
+    assert_eq!(say(&[3]), "byte 0: only tables of version 1 or 2 are read");
+    let band = "byte 8: a channel's band does not fit";
+    assert_eq!(say(&[2, 0, 8, 1, 2, 0, 9, 3]), band);
     let length = "byte 0: the stated length is 8, the table has 7 bytes";
     assert_eq!(say(&[1, 0, 8, 1, 0, 0, 9]), length);
     let none = "byte 7: a component's length does not fit";

@@ -44,6 +44,11 @@ fn words_that_begin_no_line() {
 fn lines_of_another_form() {
     assert_eq!(say("horizon\n"), "line 1: write: horizon N");
     assert_eq!(say("component 3\n  clocks 1\n"), "line 1: write: component");
+    let twice = "line 2: the bands are stated a second time";
+    assert_eq!(say("bands 0\nbands 0\n"), twice);
+    let large = "line 1: 256 does not fit a field of 1 byte (0 to 255)";
+    assert_eq!(say("bands 0 256\n"), large);
+    assert_eq!(say("bands x\n"), "line 1: 'x' is no number");
     assert_eq!(
         inside("  location x0 < 5\n"),
         "line 7: write: location x0 <= N"

@@ -17,11 +17,28 @@ fn the_empty_table_is_refused() {
 
 #[test]
 fn a_refusal_gives_its_number_and_its_component() {
-    assert_eq!(check(&with(0, 2)), refused(1, 255));
+    assert_eq!(check(&with(0, 3)), refused(1, 255));
     assert_eq!(check(&PROBE_AND_HUB[..102]), refused(2, 255));
     assert_eq!(check(&with(6, 0)), refused(3, 255));
     assert_eq!(check(&with(8, 37)), refused(4, 0));
     assert_eq!(check(&with(48, 3)), refused(5, 1));
+}
+
+#[test]
+fn version_2_has_a_band_for_each_channel_behind_the_header() {
+    let on_band = |band| {
+        let mut table = PROBE_AND_HUB.to_vec();
+        table[0] = 2;
+        table[2] += 1;
+        table.insert(7, band);
+        table
+    };
+    for band in 0..=3 {
+        assert_eq!(check(&on_band(band)), Verdict::Accepted);
+    }
+    assert_eq!(check(&on_band(4)), refused(3, 255));
+    assert_eq!(check(&[2, 0, 7, 1, 1, 0, 20]), refused(3, 255));
+    assert_eq!(check(&with(0, 2)), refused(4, 0));
 }
 
 #[test]

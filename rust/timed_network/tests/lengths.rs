@@ -38,7 +38,11 @@ fn hex(text: &str) -> Vec<u8> {
 /// The accepted tables of the vectors with their programs.
 fn programs() -> Vec<(Vec<u8>, Vec<u8>)> {
     let mut cases = Vec::new();
-    for file in ["vectors/named.tsv", "vectors/random.tsv"] {
+    for file in [
+        "vectors/named.tsv",
+        "vectors/random.tsv",
+        "vectors/bands.tsv",
+    ] {
         let text = fs::read_to_string(root().join(file)).unwrap();
         for line in text.lines() {
             let fields: Vec<&str> = line.split('\t').collect();

@@ -50,7 +50,7 @@ fn all_vectors() {
         assert_eq!(given, fields[2], "{}: {}", fields[0], fields[1]);
         count += 1;
     }
-    assert_eq!(count, 115);
+    assert_eq!(count, 127);
 }
 
 /// Each cell of the worked example by its tick: 20 ticks in 64 cells.

@@ -26,6 +26,8 @@ pub(crate) struct Window {
     pub(crate) sends: bool,
     /// The channel of the send or the channels of the receive, as bits.
     pub(crate) channels: u16,
+    /// The band of the send.
+    pub(crate) band: u8,
     /// Its place in the schedule.
     pub(crate) row: u32,
     pub(crate) ready: u32,
@@ -39,10 +41,18 @@ pub(crate) struct Window {
 impl Window {
     /// A window that has met nothing.
     #[inline]
-    pub(crate) fn new(sends: bool, channels: u16, row: usize, ready: u32, end: u32) -> Window {
+    pub(crate) fn new(
+        sends: bool,
+        channels: u16,
+        band: u8,
+        row: usize,
+        ready: u32,
+        end: u32,
+    ) -> Window {
         Window {
             sends,
             channels,
+            band,
             row: row as u32,
             ready,
             end,
@@ -69,7 +79,7 @@ pub(crate) struct Meetings {
 impl Meetings {
     /// No window was opened yet.
     pub(crate) fn new() -> Meetings {
-        let none = Window::new(false, 0, 0, 0, u32::MAX);
+        let none = Window::new(false, 0, 0, 0, 0, u32::MAX);
         Meetings {
             open: [none; COMPONENTS],
             closed: [none; COMPONENTS],
@@ -105,7 +115,7 @@ impl Meetings {
                 continue;
             }
             match (closed.sends, own.sends) {
-                (true, true) => self.note(10, closed.row, other),
+                (true, true) if closed.band == own.band => self.note(10, closed.row, other),
                 (true, false) if closed.channels & own.channels != 0 => {
                     self.note(11, closed.row, other);
                     self.count_send(&mut own, number);
@@ -136,13 +146,13 @@ impl Meetings {
         None
     }
 
-    /// A send closes: it meets the open sends and the listeners to its
-    /// channel.
+    /// A send closes: it meets the open sends on its band and the listeners to
+    /// its channel.
     fn close_send(&mut self, number: usize) {
         let mut send = self.open[number % COMPONENTS];
         for other in Bits(self.senders) {
             let window = &self.open[other % COMPONENTS];
-            if window.ready <= send.end {
+            if window.ready <= send.end && window.band == send.band {
                 let first = window.row < send.row;
                 let (row, component) = match first {
                     true => (window.row, other),

@@ -33,11 +33,11 @@ pub(crate) fn read(bytes: &[u8], table: &mut Table) -> Result<(), Refusal> {
     }
 }
 
-/// Checks 1 to 3: the channels, and the bytes behind the header.
+/// Checks 1 to 3: the channels, and the bytes behind the header and the bands.
 fn header<'a>(bytes: &'a [u8], table: &mut Table) -> Result<(u8, &'a [u8]), Refusal> {
-    if bytes.first() != Some(&1) {
+    let Some(version @ 1..=2) = bytes.first().copied() else {
         return Err(Refusal::whole(1));
-    }
+    };
     let Some((&[_, high, low, components, channels, first, second], rest)) =
         bytes.split_first_chunk::<HEAD>()
     else {
@@ -52,9 +52,25 @@ fn header<'a>(bytes: &'a [u8], table: &mut Table) -> Result<(u8, &'a [u8]), Refu
     if !in_range {
         return Err(Refusal::whole(3));
     }
+    table.version = version;
     table.horizon = horizon.into();
     table.count = components.into();
+    let rest = read_bands(table, channels, rest).ok_or(Refusal::whole(3))?;
     Ok((channels, rest))
+}
+
+/// The band of each channel, and the bytes behind the bands, if they fit and
+/// none is above 3. In version 1 no bands stand there.
+fn read_bands<'a>(table: &mut Table, channels: u8, rest: &'a [u8]) -> Option<&'a [u8]> {
+    table.bands = [0; CHANNELS];
+    if table.version < 2 {
+        return Some(rest);
+    }
+    let (bands, rest) = rest.split_at_checked(channels.into())?;
+    for (place, band) in table.bands.iter_mut().zip(bands) {
+        *place = *band;
+    }
+    table.bands.iter().all(|band| *band <= 3).then_some(rest)
 }
 
 /// Splits the next component off, its two length bytes included.

@@ -183,7 +183,8 @@ impl Sweep<'_> {
         }
         self.ends[number % COMPONENTS] = u64::from(end) << 3 | number as u64;
         if edge.kind == Kind::Receive || sends && ready < self.table.horizon {
-            let window = Window::new(sends, edge.channels, row, ready, end);
+            let band = self.table.band(edge.channel());
+            let window = Window::new(sends, edge.channels, band, row, ready, end);
             self.meetings.open(number, entry, window);
         }
     }

@@ -8,6 +8,8 @@
 
 /// "components (nodes) 1 to 8".
 pub(crate) const COMPONENTS: usize = 8;
+/// "channels 0 to 16".
+pub(crate) const CHANNELS: usize = 16;
 /// "locations 1 to 16".
 pub(crate) const LOCATIONS: usize = 16;
 /// "edges 1 to 32".
@@ -186,6 +188,9 @@ impl Component {
 
 /// A table.
 pub(crate) struct Table {
+    pub(crate) version: u8,
+    /// The band of each channel, 0 in version 1.
+    pub(crate) bands: [u8; CHANNELS],
     pub(crate) horizon: u32,
     pub(crate) count: usize,
     pub(crate) components: Box<[Component; COMPONENTS]>,
@@ -202,6 +207,8 @@ impl Default for Table {
             edges: [Edge::default(); EDGES],
         };
         Table {
+            version: 0,
+            bands: [0; CHANNELS],
             horizon: 0,
             count: 0,
             components: Box::new([component; COMPONENTS]),
@@ -210,6 +217,12 @@ impl Default for Table {
 }
 
 impl Table {
+    /// The band of a channel.
+    #[inline]
+    pub(crate) fn band(&self, channel: u8) -> u8 {
+        self.bands[usize::from(channel) % CHANNELS]
+    }
+
     /// A component by its number.
     #[inline]
     pub(crate) fn component(&self, number: usize) -> &Component {

@@ -98,7 +98,7 @@ impl Code for Out<'_> {
 pub(crate) fn write(table: &Table, bytes: &[u8], program: &mut [u8]) {
     let length = program.len();
     let mut out = Out(program);
-    out.bytes([1]);
+    out.bytes([table.version]);
     out.two(length);
     out.bytes([table.count as u8]);
     out.two(table.horizon as usize);

@@ -44,6 +44,7 @@ fn all_vectors() {
         "vectors/named.tsv",
         "vectors/random.tsv",
         "vectors/chart.tsv",
+        "vectors/bands.tsv",
     ] {
         for line in text(file).lines() {
             let fields: Vec<&str> = line.split('\t').collect();

@@ -6,13 +6,13 @@ use mathlib.Core.List.{List, [], _∷_, map}
 use mathlib.Core.Option.{Option, none}
 use Prim.Native.Nat.{ℕ, _≤_, _<_, max}
 use native.Mathlib.Omega.{arith}
-use borrow.Author.Tests.{leb-true, le-leb}
+use borrow.Author.Tests.{leb-true, le-leb, eqb-true, eq-eqb}
 use lib.Dec.{leb}
 use lib.ListN.{length, length-map}
 use Rattle.model.specs.Lists.{only, first, _∈_, here, there, accepted}
-use Rattle.model.specs.Table.{Table}
+use Rattle.model.specs.Table.{Table, bandOf}
 use Rattle.model.specs.Schedule.{Passage, withMessage}
-use Rattle.model.specs.Checks.{shareTick, isSend, isReceive, mayHear, collides, unheard, crowded, checked, noPassage, passageAt, InWindow, Hears, Heard, Independent}
+use Rattle.model.specs.Checks.{shareTick, isSend, isReceive, mayHear, collides, unheard, crowded, checked, disturb, noPassage, passageAt, InWindow, Hears, Heard, SendsOn, Independent}
 use Rattle.model.proofs.Basics.Bools.{and-is}
 use Rattle.model.proofs.Basics.Members.{not-in, each-of, in-at, number-of, only-is, once-is, one-left, fewer, fewer-left}
 use Rattle.model.proofs.Checks.Heard.{Windows, Apart, Listener, checked-is, collides-none, listener, unheard-none, crowded-none, send-is, hears-is}
@@ -36,6 +36,20 @@ may-hear-is T r s a b = (
       let t = share-is r s a b .0 (h .3) in
       record { receive = h .0; other = h .1; named = h .2; tick = t .0; inReceive = t .1; inSend = t .2 },
   λ h. hears-is T r s .1 (h .receive, h .other, h .named, share-is r s a b .1 (h .tick, h .inReceive, h .inSend)),
+)
+
+-- a send is one on some channel
+sends-is : (T : Table) (H : ℕ) (s : Passage) → (isSend T H s ≡ true) ↔ ((k : ℕ) × SendsOn T H k s)
+sends-is T H s = (
+  λ e. let h = send-is T H s .0 e in (h .0, record { channel = h .1; ready = h .2 }),
+  λ h. send-is T H s .1 (h .0, h .1 .channel, h .1 .ready),
+)
+
+-- two sends disturb each other exactly if their channels have one band
+pub disturb-is : (T : Table) (H : ℕ) (s o : Passage) (j k : ℕ) → SendsOn T H j s → SendsOn T H k o → (disturb T s o ≡ true) ↔ (bandOf T j ≡ bandOf T k)
+disturb-is T H s o j k a b = (
+  λ e. eqb-true (bandOf T j) (bandOf T k) (rw (a .channel, b .channel) at e),
+  λ e. rw (a .channel, b .channel) (eq-eqb (bandOf T j) (bandOf T k) e),
 )
 
 module _ (T : Table) (H : ℕ) (S : List Passage) (wins : Windows S) where
@@ -99,14 +113,20 @@ module _ (T : Table) (H : ℕ) (S : List Passage) (wins : Windows S) where
     λ ok.
         let c = checked-is T H S S .0 ok in
         record {
-          apart = λ s o ms mo es eo d b t u v. collides-none T H S .0 (c .1) s ms es o mo eo d b (share-is s o (wins s ms) (wins o mo) .1 (t, u, v));
+          apart = λ s o j k ms mo es eo d b t u v.
+              collides-none T H S .0 (c .1) s ms (sends-is T H s .1 (j, es)) o mo (sends-is T H o .1 (k, eo)) d (disturb-is T H s o j k es eo .1 b)
+              (share-is s o (wins s ms) (wins o mo) .1 (t, u, v));
           heard = λ s m e. heard-of s m (unheard-none T H S .0 (c .2) s m e);
           single = λ r m e. single-is r m .0 (crowded-none T H S .0 (c .3) r m e);
         },
     λ i.
         checked-is T H S S .1 (
           refl,
-          collides-none T H S .1 (λ s ms es o mo eo d b e. let t = share-is s o (wins s ms) (wins o mo) .0 e in i .apart s o ms mo es eo d b (t .0) (t .1) (t .2)),
+          collides-none T H S .1 (λ s ms es o mo eo d b e.
+              let t = share-is s o (wins s ms) (wins o mo) .0 e in
+              let (j, x) = sends-is T H s .0 es in
+              let (k, y) = sends-is T H o .0 eo in
+              i .apart s o j k ms mo x y d (disturb-is T H s o j k x y .0 b) (t .0) (t .1) (t .2)),
           unheard-none T H S .1 (λ s m e. listener-of s m (i .heard s m e)),
           crowded-none T H S .1 (λ r m e. single-is r m .1 (i .single r m e)),
         ),
@@ -119,11 +139,14 @@ module _ (T : Table) (h H : ℕ) (less : h ≤ H) where
   pub send-up : (s : Passage) → isSend T h s ≡ true → isSend T H s ≡ true
   send-up s e = let g = send-is T h s .0 e in send-is T H s .1 (g .0, g .1, omega arith)
 
+  sends-up : (s : Passage) (k : ℕ) → SendsOn T h k s → SendsOn T H k s
+  sends-up s k e = record { channel = e .channel; ready = omega (arith, e .ready) }
+
   -- passages that are independent up to a horizon are so up to a lower one: fewer sends count
   pub independent-lower : (S : List Passage) → Independent T H S → Independent T h S
   independent-lower S i =
       record {
-        apart = λ s o ms mo es eo. i .apart s o ms mo (send-up s es) (send-up o eo);
+        apart = λ s o j k ms mo es eo. i .apart s o j k ms mo (sends-up s j es) (sends-up o k eo);
         heard = λ s m e. i .heard s m (send-up s e);
         single = λ r m e a b u v f g. i .single r m e a b u v (send-up (passageAt S a) f) (send-up (passageAt S b) g);
       }

@@ -97,6 +97,6 @@ pub program-bytes : (t : Read) → InLimits t → length (programBytes t) < 6553
 unfolding programBytes
 program-bytes t h small =
     let R = each nodeBytes (t .table .components) in
-    more {x = 1} (omega arith) (all-join (be16-bytes (6 + length R) (omega arith))
+    more {x = t .version} (omega (arith, h .mostVersion)) (all-join (be16-bytes (6 + length R) (omega arith))
     (more {x = length (t .table .components)} (omega arith) (all-join (be16-bytes (t .horizon) (omega arith))
     (each-bytes nodeBytes (λ C k. node-bytes (t .table .channels) C (h .channels) k) (h .components)))))

@@ -105,7 +105,7 @@ module _ (t : Read) where
   unfolding programBytes
   nodes-stand =
       let R = each nodeBytes (t .table .components) in
-      let header = (1 ∷ be16 (6 + length R)) ++ (size (t .table) ∷ be16 (t .horizon)) in
+      let header = (t .version ∷ be16 (6 + length R)) ++ (size (t .table) ∷ be16 (t .horizon)) in
       stands-second (programBytes t) 0 header R (stands-whole refl)
 
   -- the fourth byte is the number of nodes, and the header is whole

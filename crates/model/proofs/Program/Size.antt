@@ -16,7 +16,7 @@ use Rattle.model.specs.declared.DataGuard.{DataGuard}
 use Rattle.model.specs.declared.Update.{Update}
 use Rattle.model.specs.Lists.{All, empty, more, each, from, below}
 use Rattle.model.specs.Table.{Arc, Component, Read, sizesOf, noLocation, noArc, noComponent, size, componentOf, locationOf}
-use Rattle.model.specs.Bytes.{locationBytes, kindOf, itemCount, arcBytes, bodyBytes, componentBytes, tableBytes}
+use Rattle.model.specs.Bytes.{locationBytes, kindOf, itemCount, arcBytes, bodyBytes, componentBytes, bandBytes, tableBytes}
 use Rattle.model.specs.Limits.{ArcIn, ComponentIn, InLimits}
 use Rattle.model.specs.Places.{itemsLength}
 use Rattle.model.specs.Window.{masked}
@@ -308,7 +308,7 @@ pub program-size : (t : Read) → InLimits t → length (programBytes t) ≤ 2 *
 unfolding programBytes tableBytes arcCount
 program-size t h =
     let Cs = t .table .components in
-    omega (arith, each-total nodeBytes Cs, each-total componentBytes Cs, nodes-most (t .table .channels) (h .components))
+    omega (arith, each-total nodeBytes Cs, each-total componentBytes Cs, nodes-most (t .table .channels) (h .components), length-append (bandBytes (t .version) (t .table .bands)) (each componentBytes Cs))
 
 few-arcs : (t : Read) → InLimits t → arcCount t ≤ 256
 unfolding arcCount

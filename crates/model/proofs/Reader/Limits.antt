@@ -1,6 +1,6 @@
 -- A table that is read is in the limits, whatever the numbers handed in, bytes or not: the reader tests all that the limits say. Assumes nothing.
-use mathlib.Core.Path.{_≡_, refl, sym, ap, subst}
-use mathlib.Core.Bool.{true}
+use mathlib.Core.Path.{_≡_, refl, sym, ap, subst, _∙_}
+use mathlib.Core.Bool.{true, _&&_}
 use mathlib.Core.List.{List, [], _∷_, _++_}
 use Prim.Native.Nat.{ℕ, zero, suc, pred, _+_}
 use native.Mathlib.Omega.{arith}
@@ -9,10 +9,11 @@ use lib.Seq.{length-take-le}
 use Rattle.model.specs.declared.Sizes.{Sizes}
 use Rattle.model.specs.Lists.{All, empty, more, each, accepted}
 use Rattle.model.specs.Table.{Arc, Component, Read, sizesOf}
-use Rattle.model.specs.Bytes.{locationBytes, clockGuardBytes, dataGuardBytes, itemBytes, arcHead, arcBytes, bodyBytes, componentBytes, tableBytes}
+use Rattle.model.specs.Bytes.{locationBytes, clockGuardBytes, dataGuardBytes, itemBytes, arcHead, arcBytes, bodyBytes, componentBytes, bandBytes, tableBytes}
 use Rattle.model.specs.Limits.{LocationIn, ClockGuardIn, DataGuardIn, ArcIn, ComponentIn, InLimits}
-use Rattle.model.specs.Reader.{byte, word, ok, many, readLocation, readClockGuard, readDataGuard, readItems, countsFine, edgeFine, arcWith, readArcBody, readArc, headFine, sizesAt, componentWith, readBody, readComponent, about, atEnd, lengthFits, readComponents, versionFine, lengthFine, countFine, readWith, readTable}
-use Rattle.model.proofs.Basics.Bools.{tests}
+use Rattle.model.specs.Reader.{byte, word, ok, many, readLocation, readClockGuard, readDataGuard, readItems, countsFine, edgeFine, arcWith, readArcBody, readArc, headFine, sizesAt, componentWith, readBody, readComponent, about, atEnd, lengthFits, readComponents, versionFine, lengthFine, countFine, bodyStart, bandsAt, bandsFine, readWith, readTable}
+use Rattle.model.proofs.Basics.Bools.{and-is, tests}
+use Rattle.model.proofs.Reader.Bands.{bands-in, bands-said}
 use Rattle.model.proofs.Reader.Parts.{refused-clash, after-ok, cond-accepted, about-ok, accepted-same, then-ok, ok-same, finished-ok, head-ok}
 use Rattle.model.proofs.Reader.PartLimits.{holds-is, Tells, many-tells, more-long, location-tells, clockGuard-tells, dataGuard-tells, items-tell}
 
@@ -131,9 +132,9 @@ module _ (channels : ℕ) where
 -- ## The table
 
 -- the lengths of a table's bytes
-table-long : (t : Read) → length (tableBytes t) ≡ 7 + length (each componentBytes (t .table .components))
+table-long : (t : Read) → length (tableBytes t) ≡ 7 + length (bandBytes (t .version) (t .table .bands)) + length (each componentBytes (t .table .components))
 unfolding tableBytes
-table-long t = omega arith
+table-long t = omega (arith, length-append (bandBytes (t .version) (t .table .bands)) (each componentBytes (t .table .components)))
 
 -- a table that is read is in the limits
 pub read-limits : (bs : List ℕ) (t : Read) → readTable bs ≡ accepted t → InLimits t
@@ -141,18 +142,24 @@ unfolding readTable
 read-limits bs t e =
     let first = cond-accepted (versionFine bs) _ 1 255 e in
     let second = cond-accepted (lengthFine bs) _ 2 255 (first .1) in
-    let third = cond-accepted (countFine bs) _ 3 255 (second .1) in
-    let k = after-ok (readComponents (byte bs 4) (byte bs 3) 0 (drop 7 bs)) _ (third .1) in
-    let c = components-tell (byte bs 4) (byte bs 3) 0 (drop 7 bs) (k .0) (k .1) in
+    let third = cond-accepted (countFine bs && bandsFine bs) _ 3 255 (second .1) in
+    let both = and-is (countFine bs) (bandsFine bs) .0 (third .0) in
+    let k = after-ok (readComponents (byte bs 4) (byte bs 3) 0 (drop (bodyStart bs) bs)) _ (third .1) in
+    let c = components-tell (byte bs 4) (byte bs 3) 0 (drop (bodyStart bs) bs) (k .0) (k .1) in
+    let v = simp tests at (first .0) in
     let n = simp tests at (second .0) in
-    let m = simp tests at (third .0) in
+    let m = simp tests at (both .0) in
+    let long : length (drop 7 bs) ≡ length (bandBytes (byte bs 0) (bandsAt bs)) + length (drop (bodyStart bs) bs) = ap length (bands-said bs) ∙ length-append (bandBytes (byte bs 0) (bandsAt bs)) (drop (bodyStart bs) bs) in
     subst InLimits (accepted-same (k .2))
     (record {
+      leastVersion = v .0;
+      mostVersion = v .1;
+      bands = bands-in bs (n .0 .0) (both .1);
       leastComponents = omega (arith, c .0);
       mostComponents = omega (arith, c .0);
       channels = omega arith;
       leastHorizon = omega arith;
       mostHorizon = omega arith;
-      bytes = omega (arith, n .0 .0, n .0 .1, c .2, length-drop 7 bs, table-long (readWith bs (k .0)));
+      bytes = omega (arith, n .0 .0, n .0 .1, c .2, long, length-drop 7 bs, table-long (readWith bs (k .0)));
       components = c .1;
     })

@@ -1,17 +1,19 @@
 -- The law of places: in the bytes of an accepted table its parts stand where they are looked for, and are in the limits. Assumes nothing.
-use mathlib.Core.Path.{_≡_, refl, sym, ap, _∙_}
-use mathlib.Core.Bool.{true}
+use mathlib.Core.Path.{_≡_, refl, sym, ap, subst, _∙_}
+use mathlib.Core.Bool.{Bool, true, false, cond}
 use mathlib.Core.List.{List, [], _∷_, _++_}
-use Prim.Native.Nat.{ℕ, suc, _+_, _*_, _<_}
+use Prim.Native.Nat.{ℕ, suc, _+_, _*_, _≤_, _<_}
 use native.Mathlib.Omega.{arith}
+use borrow.Author.Tests.{le-leb}
+use lib.Dec.{leb}
 use lib.ListN.{length, getD}
 use Rattle.model.specs.declared.Location.{Location}
 use Rattle.model.specs.declared.Sizes.{Sizes}
 use Rattle.model.specs.Lists.{empty, more, Bytes, be16, each, Answer, accepted, refused}
 use Rattle.model.specs.Table.{Component, Read, sizesOf, noLocation, noArc, noComponent, size, componentOf, locationOf, arcOf}
-use Rattle.model.specs.Bytes.{locationBytes, arcBytes, bodyBytes, componentBytes, tableBytes}
+use Rattle.model.specs.Bytes.{bandBytes, locationBytes, arcBytes, bodyBytes, componentBytes, tableBytes}
 use Rattle.model.specs.Limits.{LocationIn, ArcIn, ComponentIn, InLimits}
-use Rattle.model.specs.Reader.{byte, word, locationFine, locationAt, readTable}
+use Rattle.model.specs.Reader.{byte, word, locationFine, locationAt, bodyStart, readTable}
 use Rattle.model.specs.Places.{arcLength, arcAt, startOf, locationPlace, arcPlace, ComponentAt, Located, readFrom, readOf, isAccepted, Valid, componentIn}
 use Rattle.model.proofs.Basics.Bools.{clash}
 use Rattle.model.proofs.Basics.Words.{word-back}
@@ -94,20 +96,55 @@ unfolding componentBytes
 component-length C r = word-back (2 + length (bodyBytes C)) ∙ omega arith
 
 module _ (t : Read) (h : InLimits t) (bs : List ℕ) (st : Stands bs 0 (tableBytes t)) where
+  -- behind the header: the bands, then the components
+  behind : Stands bs 7 (bandBytes (t .version) (t .table .bands) ++ each componentBytes (t .table .components))
+  unfolding tableBytes
+  behind =
+      let R = bandBytes (t .version) (t .table .bands) ++ each componentBytes (t .table .components) in
+      let header = (t .version ∷ be16 (7 + length R)) ++ (length (t .table .components) ∷ t .table .channels ∷ be16 (t .horizon)) in
+      stands-second bs 0 header R st
+
+  -- the version, and the number of channels
+  its-version : byte bs 0 ≡ t .version
+  unfolding tableBytes
+  its-version = stands-byte st 0 (omega arith)
+
+  its-channels : byte bs 4 ≡ t .table .channels
+  unfolding tableBytes
+  its-channels = stands-byte st 4 (omega arith)
+
+  -- where the components start
+  start : 7 + length (bandBytes (t .version) (t .table .bands)) ≡ bodyStart bs
+  start = rw (its-version, its-channels) (go (leb 2 (t .version)))
+    where
+      go : (b : Bool) → 7 + length (cond b (t .table .bands) []) ≡ 7 + cond b (t .table .channels) 0
+      go true = ap (λ n. 7 + n) (h .bands .count)
+      go false = refl
+
+  -- in version 2 the bands stand there
+  bands-stand : 2 ≤ t .version → Stands bs 7 (t .table .bands)
+  bands-stand v =
+      let e : bandBytes (t .version) (t .table .bands) ≡ t .table .bands = rw (le-leb 2 (t .version) v) in
+      subst (Stands bs 7) e (stands-first bs 7 (bandBytes (t .version) (t .table .bands)) (each componentBytes (t .table .components)) behind)
+
   -- component c
   pub component-stands : (c : ℕ) → c < size (t .table) → Stands bs (startOf bs c) (componentBytes (componentOf (t .table) c))
   unfolding tableBytes startOf
   component-stands =
       let R = each componentBytes (t .table .components) in
-      let header = (1 ∷ be16 (7 + length R)) ++ (length (t .table .components) ∷ t .table .channels ∷ be16 (t .horizon)) in
+      let B = bandBytes (t .version) (t .table .bands) in
+      let second = stands-second bs 7 B R behind in
       walk componentBytes (λ l. word l 0) (ComponentIn (t .table .channels)) (λ C r i. component-length C r) bs noComponent (startOf bs)
-      (λ c. ap (λ n. startOf bs c + n) (word-drop bs (startOf bs c))) (h .components) (stands-second bs 0 header R st)
+      (λ c. ap (λ n. startOf bs c + n) (word-drop bs (startOf bs c))) (h .components) (stands-at start second)
 
   -- a table that stands at 0 is what is looked for
   table-at : Located bs t
   unfolding tableBytes
   table-at =
       record {
+        version = its-version;
+        bandsFit = λ v. omega (arith, bands-stand v .fits, h .bands .count);
+        band = λ v k l. stands-byte (bands-stand v) k (omega (arith, h .bands .count, l));
         count = stands-byte st 3 (omega arith);
         channels = stands-byte st 4 (omega arith);
         horizon = stands-says (λ l. word l 5) (λ r. word-back (t .horizon)) st;

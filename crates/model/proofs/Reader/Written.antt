@@ -2,9 +2,10 @@
 use mathlib.Core.Path.{_≡_, ap}
 use mathlib.Core.Bool.{Bool, true, false, cond}
 use mathlib.Core.Logic.{_⊎_, inl, inr}
-use mathlib.Core.List.{List, _∷_}
+use mathlib.Core.List.{List, [], _∷_, _++_}
 use Prim.Native.Nat.{ℕ, zero, suc, _+_, _^_, _≤_, _<_}
 use native.Mathlib.Omega.{arith}
+use lib.Dec.{leb}
 use lib.ListN.{length, length-append}
 use Rattle.model.specs.declared.Action.{Action}
 use Rattle.model.specs.declared.Action.the-variants.{Internal, Send, Receive}
@@ -16,7 +17,7 @@ use Rattle.model.specs.declared.Pair.{Pair}
 use Rattle.model.specs.declared.Sizes.{Sizes}
 use Rattle.model.specs.Lists.{All, empty, more, Bytes, each}
 use Rattle.model.specs.Table.{Arc, Component, Read, sizesOf}
-use Rattle.model.specs.Bytes.{unsigned, locationBytes, clockGuardBytes, dataGuardBytes, updateBytes, pairBytes, kindOf, itemCount, itemBytes, arcHead, arcBytes, bodyBytes, componentBytes, tableBytes}
+use Rattle.model.specs.Bytes.{unsigned, locationBytes, clockGuardBytes, dataGuardBytes, updateBytes, pairBytes, kindOf, itemCount, itemBytes, arcHead, arcBytes, bodyBytes, componentBytes, bandBytes, tableBytes}
 use Rattle.model.specs.Limits.{LocationIn, ClockGuardIn, DataGuardIn, UpdateIn, PairIn, ActionIn, ArcIn, ComponentIn, InLimits}
 use Rattle.model.proofs.Basics.Words.{all-join, each-bytes, be16-bytes, unsigned-small}
 use Rattle.model.proofs.Reader.Items.{kind-small}
@@ -113,13 +114,27 @@ each-few (more {x = C} {xs = Cs} h a) n =
     let few : length (componentBytes C) ≤ 8192 = omega arith in
     more (h, few) (each-few a (omega arith))
 
+-- the bands are bytes
+bands-bytes : (version : ℕ) {bands : List ℕ} → All (λ b. b ≤ 3) bands → Bytes (bandBytes version bands)
+bands-bytes version {bands} a = go (leb 2 version) (small a)
+  where
+    small : {l : List ℕ} → All (λ b. b ≤ 3) l → Bytes l
+    small empty = empty
+    small (more {x = b} h a) = byte-more b (omega arith) (small a)
+
+    go : (b : Bool) → Bytes bands → Bytes (cond b bands [])
+    go true k = k
+    go false k = empty
+
 -- the bytes of a table in the limits are bytes
 pub written-bytes : (t : Read) → InLimits t → Bytes (tableBytes t)
 unfolding tableBytes
 written-bytes t h =
     let Cs = t .table .components in
-    let n : 7 + length (each componentBytes Cs) ≤ 8192 = omega (arith, h .bytes) in
+    let B = bandBytes (t .version) (t .table .bands) in
+    let n : 7 + length B + length (each componentBytes Cs) ≤ 8192 = omega (arith, h .bytes, length-append B (each componentBytes Cs)) in
+    let bands = bands-bytes (t .version) (h .bands .most) in
     let rest = each-bytes componentBytes (component-bytes (t .table .channels) (h .channels)) (each-few (h .components) (omega arith)) in
-    let size = byte-more 1 (omega arith) (be16-bytes (7 + length (each componentBytes Cs)) (omega arith)) in
+    let size = byte-more (t .version) (omega (arith, h .mostVersion)) (be16-bytes (7 + length (B ++ each componentBytes Cs)) (omega (arith, length-append B (each componentBytes Cs)))) in
     let counts = byte-more (length Cs) (omega arith) (byte-more (t .table .channels) (omega arith) (be16-bytes (t .horizon) (omega arith))) in
-    all-join (all-join size counts) rest
+    all-join (all-join size counts) (all-join bands rest)

@@ -4,7 +4,7 @@ use mathlib.Core.Path.{_≡_, refl, sym, ap, _∙_}
 use Prim.Native.Nat.{ℕ, _+_, _-_, _≤_}
 use native.Mathlib.Omega.{arith}
 use lib.ListN.{length, take, drop}
-use Rattle.model.specs.Reader.{readComponent, readComponents}
+use Rattle.model.specs.Reader.{readComponent, readComponents, bodyStart}
 use Rattle.model.specs.Places.{startOf}
 use Rattle.model.specs.Calls.{verdictOf}
 use Rattle.table.specs.Directory.{triedOf}
@@ -14,17 +14,17 @@ use Rattle.table.proofs.components.Statement.{statement}
 use Rattle.table.proofs.components.Tie as tie
 
 abbrev Inv-loop : tie.InvT-loop
-Inv-loop s count channels starts₀ at₀ c₀ starts at c =
+Inv-loop s count channels from starts₀ at₀ c₀ starts at c =
     (c ≤ count) × (at ≤ length s) × (at ≡ startOf s c) × (starts ≡ startsOf s c)
-    × (verdictOf (readComponents channels (count - c) c (drop at s)) ≡ verdictOf (readComponents channels count 0 (drop 7 s)))
+    × (verdictOf (readComponents channels (count - c) c (drop at s)) ≡ verdictOf (readComponents channels count 0 (drop (bodyStart s) s)))
 
 abbrev μ-loop : tie.MeasureT-loop
-μ-loop s count channels starts₀ at₀ c₀ starts at c = count - c
+μ-loop s count channels from starts₀ at₀ c₀ starts at c = count - c
 
 loop-holds : tie.Need-loop-holds Inv-loop μ-loop
 unfolding startOf startsOf
 loop-holds c =
-    let z : c .before .args .count - 0 ≡ c .before .args .count = omega arith in (search needs, search needs, refl, refl, rw z)
+    let z : c .before .args .count - 0 ≡ c .before .args .count = omega arith in (search needs, search needs, c .before .pre .4, refl, rw (z, c .before .pre .4))
 
 sub-if1 : tie.Need-sub-if1 Inv-loop μ-loop
 sub-if1 c = search needs
@@ -37,7 +37,7 @@ returns c =
     let a = c .before .before .before .before .before .args in
     let s = a .table .now in
     let l = c .before .before .before .loop in
-    let all = readComponents (a .channels) (a .count) 0 (drop 7 s) in
+    let all = readComponents (a .channels) (a .count) 0 (drop (bodyStart s) s) in
     let e = no-length (a .channels) (l .c) s (l .at) 0 (verdictOf all) (a .count - l .c) (omega arith) (l .inv .4) (c .before .if1 .taken) in
     c .refused .ensures ∙ says-refused s (a .count) all e
 
@@ -58,7 +58,7 @@ returns-2 c =
     let a = c .before .before .before .before .before .before .before .args in
     let s = a .table .now in
     let l = c .before .before .before .before .before .loop in
-    let all = readComponents (a .channels) (a .count) 0 (drop 7 s) in
+    let all = readComponents (a .channels) (a .count) 0 (drop (bodyStart s) s) in
     let e = too-long (a .channels) (l .c) s (l .at) (c .before .before .word-at .result) (verdictOf all) (a .count - l .c) (omega arith) (l .inv .4) (omega arith) (c .before .before .word-at .ensures) (c .before .if2 .taken) in
     c .refused2 .ensures ∙ says-refused s (a .count) all e
 
@@ -88,7 +88,7 @@ returns-3 c =
     let a = c .before .before .before .before .before .before .before .before .before .before .before .before .args in
     let s = a .table .now in
     let l = c .before .before .before .before .before .before .before .before .before .before .loop in
-    let all = readComponents (a .channels) (a .count) 0 (drop 7 s) in
+    let all = readComponents (a .channels) (a .count) 0 (drop (bodyStart s) s) in
     let n = c .before .before .before .before .before .before .before .word-at .result in
     let z : l .at + n - l .at ≡ n = omega arith in
     let t : c .before .before .before .before .component .result ≡ triedOf (readComponent (a .channels) (take n (drop (l .at) s))) =
@@ -125,7 +125,7 @@ loop-again c =
     let a = c .before .before .before .before .before .before .before .before .before .before .args in
     let s = a .table .now in
     let l = c .before .before .before .before .before .before .before .before .loop in
-    let all = readComponents (a .channels) (a .count) 0 (drop 7 s) in
+    let all = readComponents (a .channels) (a .count) 0 (drop (bodyStart s) s) in
     let n = c .before .before .before .before .before .word-at .result in
     let z : l .at + n - l .at ≡ n = omega arith in
     let t : c .before .before .component .result ≡ triedOf (readComponent (a .channels) (take n (drop (l .at) s))) =
@@ -150,7 +150,7 @@ returns-4 c =
     let a = c .before .before .before .before .before .args in
     let s = a .table .now in
     let l = c .before .before .before .loop in
-    let all = readComponents (a .channels) (a .count) 0 (drop 7 s) in
+    let all = readComponents (a .channels) (a .count) 0 (drop (bodyStart s) s) in
     let d : a .count - 1 + 1 ≡ l .c = omega arith in
     let e = bytes-over (a .channels) (l .c) s (l .at) (verdictOf all) (a .count - l .c) (omega arith) (l .inv .4) (a .count - 1) d (c .before .if3 .taken) in
     c .refused4 .ensures ∙ says-refused s (a .count) all e
@@ -160,7 +160,7 @@ returns-5 c =
     let a = c .before .before .before .before .args in
     let s = a .table .now in
     let l = c .before .before .loop in
-    let all = readComponents (a .channels) (a .count) 0 (drop 7 s) in
+    let all = readComponents (a .channels) (a .count) 0 (drop (bodyStart s) s) in
     let d : l .c ≡ a .count = omega arith in
     let e = at-the-end (a .channels) (l .c) s (l .at) (verdictOf all) (a .count - l .c) (omega arith) (l .inv .4) (c .if3 .left) in
     says-accepted s (a .count) all (l .starts) e (l .inv .3 ∙ ap (startsOf s) d)

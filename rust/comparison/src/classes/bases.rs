@@ -2,7 +2,7 @@
 
 use crate::random::Random;
 use crate::tables::{of_length, table, Shape, Values, WORKED_EXAMPLE};
-use reference::table::{read_table, write_table, Table};
+use reference::table::{read_table, write_table, Table, MAX_CHANNELS};
 
 /// A valid table and its bytes.
 pub(super) struct Base {
@@ -23,9 +23,18 @@ pub(super) fn worked_example() -> Base {
     Base::new(table.expect("the worked example is accepted"))
 }
 
-/// The worked example and some generated tables of up to about 1,000 bytes.
+/// The worked example in version 2, with 16 channels and all four bands.
+pub(super) fn worked_example_on_bands() -> Base {
+    let mut table = worked_example().table;
+    table.version = 2;
+    table.channels = MAX_CHANNELS;
+    table.bands = (0..MAX_CHANNELS).map(|channel| channel % 4).collect();
+    Base::new(table)
+}
+
+/// The worked example, also with bands, and some generated tables of up to about 1,000 bytes.
 pub(super) fn a_few(random: &mut Random) -> Vec<Base> {
-    let mut bases = vec![worked_example()];
+    let mut bases = vec![worked_example(), worked_example_on_bands()];
     bases.push(Base::new(table(random, &Shape::small())));
     bases.push(Base::new(of_length(random, 300, Values::Any)));
     bases.push(Base::new(of_length(random, 600, Values::Ends)));

@@ -5,6 +5,7 @@ use super::planned::{drawn, hub_and_probes};
 use super::Extent;
 use crate::difference::Outcome;
 use crate::random::Random;
+use crate::tables::bands;
 use crate::tables::planned::{Size, Style};
 use crate::trial::Trial;
 use reference::table::*;
@@ -88,8 +89,12 @@ pub(super) fn windows(trial: &mut Trial, random: &mut Random, extent: &Extent) -
     for _ in 0..3 * extent.rounds {
         let horizon = horizon(random);
         let count = random.within(1..=8);
+        let channels = 1;
+        let (version, bands) = bands::drawn(random, channels);
         let table = Table {
-            channels: 1,
+            version,
+            bands,
+            channels,
             horizon,
             components: (0..count).map(|_| alone(random, horizon)).collect(),
         };

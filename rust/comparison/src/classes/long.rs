@@ -6,6 +6,7 @@ use super::Extent;
 use crate::difference::Outcome;
 use crate::random::Random;
 use crate::readers::refused;
+use crate::tables::bands;
 use crate::tables::planned::{greatest_horizon, passages, Size, Style};
 use crate::trial::Trial;
 use reference::table::*;
@@ -71,7 +72,10 @@ fn end_after(trial: &mut Trial, random: &mut Random, last: usize, number: u8) ->
     let openings = (last - others) as i16;
     let mut components = vec![waiting(); others];
     components.insert(component, counting(openings, number));
+    let (version, bands) = bands::drawn(random, 0);
     let mut table = Table {
+        version,
+        bands,
         channels: 0,
         horizon: MAX_TICKS,
         components,

@@ -65,7 +65,7 @@ const fn class(name: &'static str, run: fn(&mut Trial, &mut Random, &Extent) -> 
 }
 
 /// All classes, in the order in which they are tried.
-pub const CLASSES: [Class; 53] = [
+pub const CLASSES: [Class; 56] = [
     class("vectors", stored::vectors),
     class("corpus", stored::corpus),
     class("random bytes", random_bytes::anything),
@@ -86,6 +86,7 @@ pub const CLASSES: [Class; 53] = [
     class("a hub and its probes", planned::regular),
     class("planned tables", planned::sparse),
     class("planned tables, many edges", planned::crowded),
+    class("two plans on two bands", planned::two_bands),
     class("planned tables, late ticks", planned::far),
     class("internal loops", planned::workers),
     class("planned tables and internal loops", planned::mixed),
@@ -95,6 +96,10 @@ pub const CLASSES: [Class; 53] = [
     class("windows of one tick", near_misses::no_candidate),
     class("counters that overflow", near_misses::overflow),
     class("two senders on one tick", near_misses::senders),
+    class(
+        "two senders on one tick, by bands",
+        near_misses::senders_on_bands,
+    ),
     class("listeners too short, none or two", near_misses::listeners),
     class("one listener for two sends", near_misses::one_for_two),
     class("plans with windows moved", close::moved_windows),
@@ -112,6 +117,7 @@ pub const CLASSES: [Class; 53] = [
     class("runs of a hub and its probes", running::regular),
     class("runs of planned tables", running::sparse),
     class("runs of planned tables, many edges", running::crowded),
+    class("runs of two plans on two bands", running::two_bands),
     class("runs of internal loops", running::workers),
     class("runs of planned tables and internal loops", running::mixed),
     class("runs of windows close together", running::close),

@@ -5,12 +5,13 @@ use super::Extent;
 use crate::difference::Outcome;
 use crate::random::Random;
 use crate::readers::refused;
+use crate::tables::bands;
 use crate::tables::planned::{
     near_passages, passages, table, Lane, Plan, Size, Slot, Step, Style, Work,
 };
 use crate::trial::Trial;
 use reference::schedule::Passage;
-use reference::table::{write_table, Operation, Table, Update, MAX_TICKS};
+use reference::table::{write_table, Action, Operation, Table, Update, MAX_TICKS};
 use std::collections::BTreeSet;
 use timed_network::Verdict;
 
@@ -49,6 +50,9 @@ fn try_changes(
         let right = written(random, &plan, &plan.plain_lanes());
         trial.expect(&write_table(&right), Verdict::Accepted)?;
         let mut wrong = written(random, &changed, &changed.plain_lanes());
+        if number == 10 {
+            bands::on_one_band(random, &mut wrong);
+        }
         trial.expect_number(&write_table(&wrong), number)?;
         let horizon = wrong.horizon;
         for _ in 0..3 {
@@ -63,6 +67,55 @@ fn try_changes(
 /// Two senders on one tick: the second one starts when the first one ends.
 pub(super) fn senders(trial: &mut Trial, random: &mut Random, extent: &Extent) -> Outcome {
     try_changes(trial, random, extent, 10, collide)
+}
+
+/// The same in version 2: past 10 if the two are on two bands.
+pub(super) fn senders_on_bands(trial: &mut Trial, random: &mut Random, extent: &Extent) -> Outcome {
+    for _ in 0..4 * extent.rounds {
+        let plan = drawn(random);
+        let Some(changed) = collide(random, &plan) else {
+            continue;
+        };
+        let mut table = written(random, &changed, &changed.plain_lanes());
+        bands::apart(random, &mut table, 0);
+        bands::on_one_band(random, &mut table);
+        trial.expect_number(&write_table(&table), 10)?;
+        let collided = collisions(&table);
+        for _ in 0..3 {
+            table.bands = bands::of_each(random, table.channels);
+            let bytes = write_table(&table);
+            let disturbed = collided
+                .iter()
+                .any(|[one, other]| table.band(*one) == table.band(*other));
+            match disturbed {
+                true => trial.expect_number(&bytes, 10)?,
+                false => trial.expect_past(&bytes, 10)?,
+            }
+        }
+    }
+    Ok(())
+}
+
+/// The channels of the sends of two components that share a tick, in the
+/// schedule of a table.
+fn collisions(table: &Table) -> Vec<[u8; 2]> {
+    let horizon = u32::from(table.horizon);
+    let sends: Vec<(Passage, u8)> = passages(table)
+        .into_iter()
+        .filter_map(|passage| match passage.edge_in(table).action {
+            Action::Send(channel) if passage.ready < horizon => Some((passage, channel)),
+            _ => None,
+        })
+        .collect();
+    let mut pairs = Vec::new();
+    for (number, (one, channel)) in sends.iter().enumerate() {
+        for (other, second) in &sends[..number] {
+            if one.component != other.component && one.shares_a_tick(other) {
+                pairs.push([*channel, *second]);
+            }
+        }
+    }
+    pairs
 }
 
 fn collide(random: &mut Random, plan: &Plan) -> Option<Plan> {

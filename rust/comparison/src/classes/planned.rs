@@ -3,6 +3,7 @@
 use super::Extent;
 use crate::difference::Outcome;
 use crate::random::Random;
+use crate::tables::bands;
 use crate::tables::planned::{
     near_passages, shortened, table, worker, Plan, Size, Style, WorkerSize,
 };
@@ -84,6 +85,38 @@ pub(super) fn crowded(trial: &mut Trial, random: &mut Random, extent: &Extent) -
     Ok(())
 }
 
+/// Two plans beside each other, the channels of each on bands of its own: what
+/// one sends disturbs nobody in the other.
+pub(super) fn two_bands(trial: &mut Trial, random: &mut Random, extent: &Extent) -> Outcome {
+    for _ in 0..3 * extent.rounds {
+        let table = side_by_side(random);
+        accept(trial, random, table, 2)?;
+    }
+    Ok(())
+}
+
+/// Two such plans, with rounds of their own.
+pub(super) fn side_by_side(random: &mut Random) -> Table {
+    let [one, other] = [0, 1].map(|_| {
+        let size = Size::small(random);
+        Plan::draw(random, &size)
+    });
+    let mut lanes = one.lanes(random);
+    lanes.extend(
+        other
+            .lanes(random)
+            .iter()
+            .map(|lane| lane.raised(one.channels)),
+    );
+    let rounds = random.within(1..=3) as u32;
+    let horizon = horizon_of(one.round.max(other.round) * rounds);
+    let style = Style::sparse(random);
+    let channels = one.channels + other.channels;
+    let mut table = table(random, &lanes, channels, horizon, &style);
+    bands::apart(random, &mut table, one.channels);
+    shortened(table, MAX_PASSAGES)
+}
+
 /// Plans whose second round begins shortly before the last horizon that there
 /// is, so that its windows lie past any number of 16 bits.
 pub(super) fn far(trial: &mut Trial, random: &mut Random, extent: &Extent) -> Outcome {
@@ -144,7 +177,10 @@ pub(super) fn workers_alone(random: &mut Random) -> Table {
         .map(|_| any_worker(random, channels, 8000 / count))
         .collect();
     let most = random.pick(&[30, 400, usize::from(MAX_TICKS)]);
+    let (version, bands) = bands::drawn(random, MAX_CHANNELS);
     Table {
+        version,
+        bands,
         channels: MAX_CHANNELS,
         horizon: random.within(1..=most) as u16,
         components,
@@ -168,12 +204,12 @@ pub(super) fn with_workers(random: &mut Random) -> Table {
     let free = MAX_COMPONENTS - table.components.len();
     let length = write_table(&table).len();
     for _ in 0..free {
-        let room = (8192 - length) / free;
+        let room = (8192 - usize::from(MAX_CHANNELS) - length) / free;
         table
             .components
             .push(any_worker(random, size.channels, room));
     }
     random.shuffle(&mut table.components);
-    table.channels = MAX_CHANNELS;
+    bands::with_channels(random, &mut table, MAX_CHANNELS);
     table
 }

@@ -5,8 +5,9 @@ use super::Extent;
 use crate::bytes::{set_two, state_length};
 use crate::difference::Outcome;
 use crate::random::Random;
+use crate::tables::bands;
 use crate::trial::Trial;
-use reference::table::{MAX_CHANNELS, MAX_COMPONENTS, MAX_TICKS};
+use reference::table::{Table, MAX_CHANNELS, MAX_COMPONENTS, MAX_TICKS, VERSIONS};
 
 /// A length: mostly a short one, sometimes past 8,192.
 fn length(random: &mut Random) -> usize {
@@ -28,13 +29,18 @@ fn fill(random: &mut Random, length: usize) -> Vec<u8> {
     (0..length).map(byte).collect()
 }
 
-/// Random bytes; in two of three cases the first is 1.
+/// A version that check 1 takes.
+fn version(random: &mut Random) -> u8 {
+    random.count(&VERSIONS)
+}
+
+/// Random bytes; in two of three cases the first is that of a version.
 pub(super) fn anything(trial: &mut Trial, random: &mut Random, extent: &Extent) -> Outcome {
     for _ in 0..20 * extent.rounds {
         let length = length(random);
         let mut bytes = random.bytes(length);
         if length > 0 && !random.once_in(3) {
-            bytes[0] = 1;
+            bytes[0] = version(random);
         }
         trial.compare(&bytes)?;
     }
@@ -46,7 +52,7 @@ pub(super) fn length_stated(trial: &mut Trial, random: &mut Random, extent: &Ext
     for _ in 0..20 * extent.rounds {
         let length = length(random).max(3);
         let mut bytes = fill(random, length);
-        bytes[0] = 1;
+        bytes[0] = version(random);
         state_length(&mut bytes);
         trial.compare(&bytes)?;
     }
@@ -90,14 +96,19 @@ fn component_head(random: &mut Random) -> Vec<u8> {
     numbers.iter().map(|number| *number as u8).collect()
 }
 
-/// These bytes behind a header in range, mostly one of a single component.
+/// These bytes behind a header in range, mostly one of a single component;
+/// in version 2 mostly with bands in range.
 fn with_header(random: &mut Random, rest: &[u8]) -> Vec<u8> {
     let most = random.pick(&[1, 1, MAX_COMPONENTS]);
     let components = random.within(1..=most) as u8;
     let channels = random.count(&(0..=MAX_CHANNELS));
     let horizon = random.within(1..=MAX_TICKS.into()) as u16;
-    let mut bytes = vec![1, 0, 0, components, channels, 0, 0];
+    let version = version(random);
+    let mut bytes = vec![version, 0, 0, components, channels, 0, 0];
     set_two(&mut bytes, 5, horizon);
+    if Table::has_bands(version) && !random.once_in(4) {
+        bytes.extend(bands::of_each(random, channels));
+    }
     bytes.extend(rest);
     state_length(&mut bytes);
     bytes

@@ -1,7 +1,9 @@
 //! Runs of accepted tables under lists of choices of all manners.
 
 use super::close::{close_windows, moved_plan};
-use super::planned::{drawn, hub_and_probes, late_ticks, with_workers, workers_alone};
+use super::planned::{
+    drawn, hub_and_probes, late_ticks, side_by_side, with_workers, workers_alone,
+};
 use super::Extent;
 use crate::difference::{Outcome, Stop};
 use crate::random::Random;
@@ -10,7 +12,7 @@ use crate::runs::choices::{draw, spoil, Manner};
 use crate::runs::Subject;
 use crate::stored::{self, Stored};
 use crate::tables::planned::{greatest_horizon, near_passages, passages, shortened, Size, Style};
-use crate::tables::WORKED_EXAMPLE;
+use crate::tables::{bands, WORKED_EXAMPLE};
 use crate::trial::Trial;
 use demand::{Demand, TICK};
 use reference::table::*;
@@ -112,6 +114,15 @@ pub(super) fn crowded(trial: &mut Trial, random: &mut Random, extent: &Extent) -
         let size = short_ticks(random);
         let style = Style::crowded(random);
         let table = drawn(random, &size, &style);
+        run_table(trial, random, table, 3000)?;
+    }
+    Ok(())
+}
+
+/// Two plans on bands of their own: their sends are made at once.
+pub(super) fn two_bands(trial: &mut Trial, random: &mut Random, extent: &Extent) -> Outcome {
+    for _ in 0..2 * extent.rounds {
+        let table = side_by_side(random);
         run_table(trial, random, table, 3000)?;
     }
     Ok(())
@@ -245,7 +256,10 @@ fn old_clock(random: &mut Random) -> Table {
             edge(2, 2, 0, 0),
         ],
     };
+    let (version, bands) = bands::drawn(random, 0);
     Table {
+        version,
+        bands,
         channels: 0,
         horizon: first + random.within(20..=60) as u16,
         components: vec![component],

@@ -4,6 +4,7 @@ use super::Extent;
 use crate::difference::Outcome;
 use crate::random::Random;
 use crate::readers::refused;
+use crate::tables::bands;
 use crate::tables::planned::{table, Lane, Step, Style, Target, Work};
 use crate::trial::Trial;
 use reference::table::write_table;
@@ -30,13 +31,16 @@ fn listen(names: &[u8]) -> Work {
     Step::listen(0, 1, names).work
 }
 
-/// The bytes of a table of these lanes, plainly written or not.
+/// The bytes of a table of these lanes, plainly written or not, all channels
+/// on one band.
 fn written(random: &mut Random, lanes: &[Lane], horizon: u16) -> Vec<u8> {
     let style = match random.once_in(2) {
         true => Style::sparse(random),
         false => Style::PLAIN,
     };
-    write_table(&table(random, lanes, 2, horizon, &style))
+    let mut table = table(random, lanes, 2, horizon, &style);
+    bands::on_one_band(random, &mut table);
+    write_table(&table)
 }
 
 /// A send that one of two components makes to a third one.

@@ -1,7 +1,7 @@
 //! Well-formed tables of an exact length.
 
 use super::edges::{edge, form_of_length, Own};
-use super::{with_edges, Values, HEAD, LOCATION};
+use super::{bands, with_edges, Values, HEAD, LOCATION};
 use crate::random::Random;
 use reference::table::*;
 
@@ -16,16 +16,24 @@ const COMPONENT: [usize; 2] = [
     HEAD + LOCATION + MAX_EDGES as usize * EDGE[1],
 ];
 /// The least length that [`of_length`] can give.
-pub const SHORTEST_EXACT: usize = HEAD + COMPONENT[0];
+pub const SHORTEST_EXACT: usize = HEAD + MAX_CHANNELS as usize + COMPONENT[0];
 
 /// A table of exactly so many bytes, from [`SHORTEST_EXACT`] on. It is well
 /// formed if these are at most 8,192.
 pub fn of_length(random: &mut Random, length: usize, values: Values) -> Table {
     let channels = random.count(&(0..=MAX_CHANNELS));
-    let lengths = split(random, length - HEAD, COMPONENT, MAX_COMPONENTS);
+    let (version, bands) = bands::drawn(random, channels);
+    let lengths = split(
+        random,
+        length - HEAD - bands.len(),
+        COMPONENT,
+        MAX_COMPONENTS,
+    );
     let one = |length| component(random, channels, length, values);
     let components = lengths.into_iter().map(one).collect();
     Table {
+        version,
+        bands,
         channels,
         horizon: values.horizon(random),
         components,

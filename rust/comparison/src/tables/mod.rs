@@ -4,6 +4,7 @@
 //! They are built as the second implementation's types, so that they can be
 //! changed before `write_table` turns them into bytes.
 
+pub mod bands;
 mod edges;
 mod exact;
 pub mod planned;
@@ -21,6 +22,8 @@ use std::ops::RangeInclusive;
 const HEAD: usize = 7;
 /// The bytes of a location.
 const LOCATION: usize = 3;
+/// The most bytes that the bands take.
+const BANDS: usize = MAX_CHANNELS as usize + 1;
 
 /// How many of each thing a table has, and which numbers it has.
 ///
@@ -96,10 +99,13 @@ impl Shape {
 pub fn table(random: &mut Random, shape: &Shape) -> Table {
     let components = random.count(&shape.components);
     let channels = random.count(&shape.channels);
-    let room = (LENGTHS.end() - HEAD) / usize::from(components).max(1);
+    let room = (LENGTHS.end() - HEAD - BANDS) / usize::from(components).max(1);
     let one = |_| component(random, shape, channels, room);
     let components = (0..components).map(one).collect();
+    let (version, bands) = bands::drawn(random, channels);
     Table {
+        version,
+        bands,
         channels,
         horizon: shape.values.horizon(random),
         components,

@@ -44,6 +44,26 @@ fn names(table: &Table, receive: &Passage, send: &Passage) -> bool {
     }
 }
 
+/// The channel of a send.
+fn channel(table: &Table, send: &Passage) -> Option<u8> {
+    match send.edge(table).action {
+        Action::Send(channel) => Some(channel),
+        _ => None,
+    }
+}
+
+/// The band of a send's channel.
+fn band(table: &Table, send: &Passage) -> Option<u8> {
+    let band = |channel| table.bands.get(usize::from(channel)).copied();
+    channel(table, send).map(|channel| band(channel).unwrap_or(0))
+}
+
+/// Whether one is a receive that names a channel on the band of the other.
+fn names_band(table: &Table, receive: &Passage, send: &Passage) -> bool {
+    let same = |pair: &Pair| Some(table.band(pair.channel)) == band(table, send);
+    matches!(receive.edge(table).action, Action::Receive(pairs) if pairs.iter().any(same))
+}
+
 fn share(one: &Passage, other: &Passage) -> bool {
     one.ready <= other.end && other.ready <= one.end
 }
@@ -105,13 +125,23 @@ impl All<'_> {
         share(one, other) && !(missed && self.fault == Fault::EntryTickMissed)
     }
 
+    /// "Check 10 now concerns sends on one band only."
+    fn disturb(&self, one: &Passage, other: &Passage) -> bool {
+        let table = self.table;
+        match self.fault {
+            Fault::BandsIgnored => true,
+            Fault::ChannelsForBands => channel(table, one) == channel(table, other),
+            _ => band(table, one) == band(table, other),
+        }
+    }
+
     fn collides(&self, own: &Passage) -> bool {
         let others = self.list.iter().filter(|other| {
             let apart = other.component != own.component;
             let itself = std::ptr::eq(*other, own);
             apart || self.fault == Fault::OwnSendsCollide && !itself
         });
-        let mut sends = others.filter(|other| self.is_send(other));
+        let mut sends = others.filter(|other| self.is_send(other) && self.disturb(own, other));
         self.is_send(own)
             && sends.any(|other| match self.fault {
                 Fault::TouchingSendsAllowed => overlap(own, other),
@@ -148,6 +178,7 @@ impl All<'_> {
         let edge = other.edge(self.table);
         let named = match self.fault {
             Fault::OtherChannelHeard => matches!(edge.action, Action::Receive(_)),
+            Fault::ListenersByBand => names_band(self.table, other, send),
             _ => names(self.table, other, send),
         };
         let apart = other.component != send.component || self.fault == Fault::OwnListenerCounts;
@@ -166,7 +197,12 @@ impl All<'_> {
             let apart = send.component != own.component || self.fault == Fault::OwnSendHeard;
             self.is_send(send) && apart && names(self.table, own, send) && self.meet(own, send)
         });
-        let mut components: Vec<usize> = heard.map(|send| send.component).collect();
+        let heard: Vec<&Passage> = heard.collect();
+        if self.fault == Fault::TwoSendsOnTwoBandsHeard {
+            let one = |send: &&&Passage| self.disturb(send, heard[0]);
+            return heard.iter().filter(one).count() > 1;
+        }
+        let mut components: Vec<usize> = heard.iter().map(|send| send.component).collect();
         match self.fault {
             Fault::TwoSendsForOneListener => return false,
             Fault::TwoSendsOfOneComponent => {

@@ -47,6 +47,8 @@ pub enum Fault {
     MessageOfOpenForgotten,
     TimeoutToFirstPair,
     // Checks 10 to 12.
+    BandsIgnored,
+    ChannelsForBands,
     TouchingSendsAllowed,
     OwnSendsCollide,
     SendsFromHorizonOnCount,
@@ -59,6 +61,8 @@ pub enum Fault {
     ListenersFromHorizonOnForgotten,
     OwnListenerCounts,
     OtherChannelHeard,
+    ListenersByBand,
+    TwoSendsOnTwoBandsHeard,
     TwoSendsForOneListener,
     TwoSendsOfOneComponent,
     OwnSendHeard,

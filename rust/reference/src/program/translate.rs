@@ -18,11 +18,12 @@ pub fn program_length(table: &Table) -> usize {
 
 /// Writes the program of a table into exactly [`program_length`] bytes:
 /// "Version 1; total length (2 bytes); component count; H (2 bytes)", then
-/// each component.
+/// each component. Document 02, wish 2: "A program begins with its table's
+/// version".
 pub fn write_program(table: &Table, bytes: &mut [u8]) {
     let length = bytes.len();
     let mut out = Out { bytes, at: 0 };
-    out.byte(1);
+    out.byte(table.version);
     out.two(length as u16);
     out.byte(table.components.len() as u8);
     out.two(table.horizon);

@@ -20,6 +20,10 @@ pub const LENGTHS: std::ops::RangeInclusive<usize> = 7..=8192;
 pub const MAX_COMPONENTS: usize = 8;
 /// "channels 0 to 16".
 pub const MAX_CHANNELS: u8 = 16;
+/// Document 02, wish 2: "check 1 takes both versions", 1 and 2.
+pub const VERSIONS: std::ops::RangeInclusive<u8> = 1..=2;
+/// Document 02, wish 2: "its band, 0 to 3".
+pub const MAX_BAND: u8 = 3;
 /// "locations 1 to 16".
 pub const MAX_LOCATIONS: u8 = 16;
 /// "clocks 1 to 4".
@@ -57,15 +61,33 @@ impl Refusal {
     }
 }
 
-/// A table: "Header [...]. Then each component".
+/// A table: "Header [...]. Then each component". Document 02, wish 2: "Table
+/// version 2 has, after the header, one byte per channel with its band".
 #[derive(Clone, Debug, PartialEq, Eq)]
 pub struct Table {
+    /// "version 1", or 2.
+    pub version: u8,
+    /// The band of each channel; none stand in a table of version 1.
+    pub bands: Vec<u8>,
     /// "channels 0 to 16".
     pub channels: u8,
     /// "horizon H, 1 to 60,000".
     pub horizon: u16,
     /// "components (nodes) 1 to 8", in their order.
     pub components: Vec<Component>,
+}
+
+impl Table {
+    /// Whether bands stand behind the header: in version 2, and whatever
+    /// later version has them too.
+    pub fn has_bands(version: u8) -> bool {
+        version >= 2
+    }
+
+    /// The band of a channel: "Version 1 tables have all channels on band 0".
+    pub fn band(&self, channel: u8) -> u8 {
+        self.bands.get(channel as usize).copied().unwrap_or(0)
+    }
 }
 
 /// One component of a table.

@@ -28,10 +28,13 @@ pub(super) type Part<T> = Result<T, Fault>;
 
 /// The header's numbers.
 #[derive(Clone, Copy)]
-pub(super) struct Header {
+pub(super) struct Header<'a> {
+    pub(super) version: u8,
     pub(super) components: u8,
     pub(super) channels: u8,
     pub(super) horizon: u16,
+    /// The bands behind the header, none in version 1.
+    pub(super) bands: &'a [u8],
 }
 
 /// The numbers of a component's first 7 bytes after its length.
@@ -69,9 +72,10 @@ pub(super) struct Reader<'a> {
     rest: &'a [u8],
 }
 
-/// Checks 1 to 3, and a reader of what follows the header.
-pub(super) fn header(bytes: &[u8]) -> Result<(Header, Reader<'_>), Refusal> {
-    if bytes.first() != Some(&1) {
+/// Checks 1 to 3, and a reader of what follows the header and the bands.
+pub(super) fn header(bytes: &[u8]) -> Result<(Header<'_>, Reader<'_>), Refusal> {
+    let version = *bytes.first().ok_or(Refusal::whole(1))?;
+    if !VERSIONS.contains(&version) {
         return Err(Refusal::whole(1));
     }
     let Some((head, rest)) = bytes.split_first_chunk::<7>() else {
@@ -80,18 +84,35 @@ pub(super) fn header(bytes: &[u8]) -> Result<(Header, Reader<'_>), Refusal> {
     if two(head[1], head[2]) as usize != bytes.len() || !LENGTHS.contains(&bytes.len()) {
         return Err(Refusal::whole(2));
     }
-    let header = Header {
-        components: head[3],
-        channels: head[4],
-        horizon: two(head[5], head[6]),
-    };
-    let in_range = (1..=MAX_COMPONENTS as u8).contains(&header.components)
-        && header.channels <= MAX_CHANNELS
-        && (1..=MAX_TICKS).contains(&header.horizon);
+    let (components, channels, horizon) = (head[3], head[4], two(head[5], head[6]));
+    let in_range = (1..=MAX_COMPONENTS as u8).contains(&components)
+        && channels <= MAX_CHANNELS
+        && (1..=MAX_TICKS).contains(&horizon);
     if !in_range {
         return Err(Refusal::whole(3));
     }
+    let (bands, rest) = bands(version, channels, rest)?;
+    let header = Header {
+        version,
+        components,
+        channels,
+        horizon,
+        bands,
+    };
     Ok((header, Reader { rest }))
+}
+
+/// The bands behind the header, and what follows them: "a band above 3, or a
+/// table too short for its bands, is answered with 3".
+fn bands(version: u8, channels: u8, rest: &[u8]) -> Result<(&[u8], &[u8]), Refusal> {
+    let count = match Table::has_bands(version) {
+        true => channels as usize,
+        false => 0,
+    };
+    match rest.split_at_checked(count) {
+        Some((bands, rest)) if bands.iter().all(|band| *band <= MAX_BAND) => Ok((bands, rest)),
+        _ => Err(Refusal::whole(3)),
+    }
 }
 
 impl<'a> Reader<'a> {

@@ -15,6 +15,8 @@ pub fn read_table(bytes: &[u8]) -> Result<Table, Refusal> {
     let last = header.components - 1;
     reader.end().map_err(|fault| fault.of(last))?;
     Ok(Table {
+        version: header.version,
+        bands: header.bands.to_vec(),
         channels: header.channels,
         horizon: header.horizon,
         components,

@@ -4,10 +4,11 @@ use super::*;
 
 /// The bytes of a table, its lengths and counts put in. Nothing is tried: a
 /// table out of range gives bytes that the reader refuses. Lengths and counts
-/// that their fields cannot hold lose their upper bits.
+/// that their fields cannot hold lose their upper bits. The bands are written
+/// as they are, fewer or more than there are channels, if the version has any.
 pub fn write_table(table: &Table) -> Vec<u8> {
     let mut bytes = vec![
-        1,
+        table.version,
         0,
         0,
         table.components.len() as u8,
@@ -15,6 +16,9 @@ pub fn write_table(table: &Table) -> Vec<u8> {
         (table.horizon >> 8) as u8,
         table.horizon as u8,
     ];
+    if Table::has_bands(table.version) {
+        bytes.extend(&table.bands);
+    }
     for component in &table.components {
         write_component(component, &mut bytes);
     }

@@ -17,6 +17,8 @@ pub fn probe_and_hub() -> Vec<u8> {
 /// The worked example as a table, to be changed by a test.
 pub fn probe_and_hub_table() -> Table {
     Table {
+        version: 1,
+        bands: Vec::new(),
         channels: 1,
         horizon: 20,
         components: vec![probe(), hub()],
@@ -125,7 +127,7 @@ pub struct Vector {
 /// All cases of the files, in their order. A missing file fails the test.
 pub fn vectors() -> Vec<Vector> {
     let mut all = Vec::new();
-    for file in ["named.tsv", "random.tsv", "chart.tsv"] {
+    for file in ["named.tsv", "random.tsv", "chart.tsv", "bands.tsv"] {
         let path = vector_folder().join(file);
         let text = std::fs::read_to_string(&path)
             .unwrap_or_else(|error| panic!("{}: {error}", path.display()));

@@ -21,6 +21,7 @@ fn forms(level: Level) -> &'static [&'static str] {
             "components N",
             "channels N",
             "horizon N",
+            "bands N N",
             "cut N",
             "component",
             "bytes 00 ff, or: bytes 00 times N",

@@ -42,6 +42,7 @@ fn table_line(table: &mut TableSource, line: &Line, inside: &[Line]) -> Result<(
         ["components", number] => line.set(&mut table.components, number),
         ["channels", number] => line.set(&mut table.channels, number),
         ["horizon", number] => line.set(&mut table.horizon, number),
+        ["bands", bands @ ..] => set_bands(table, line, bands),
         ["cut", number] => set_cut(table, line, number),
         ["bytes", ..] => {
             table.parts.push(TablePart::Bytes(line.raw_bytes()?));
@@ -49,6 +50,15 @@ fn table_line(table: &mut TableSource, line: &Line, inside: &[Line]) -> Result<(
         }
         _ => Err(misfit(line, Level::Table)),
     }
+}
+
+fn set_bands(table: &mut TableSource, line: &Line, words: &[&str]) -> Result<(), SourceError> {
+    if table.bands.is_some() {
+        return Err(line.error("the bands are stated a second time"));
+    }
+    let bands: Result<Vec<u8>, SourceError> = words.iter().map(|word| line.number(word)).collect();
+    table.bands = Some(bands?);
+    Ok(())
 }
 
 fn set_cut(table: &mut TableSource, line: &Line, word: &str) -> Result<(), SourceError> {

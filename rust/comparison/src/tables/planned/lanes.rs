@@ -97,6 +97,19 @@ impl Lane {
         }
     }
 
+    /// The same with all channels this much higher.
+    pub fn raised(&self, by: u8) -> Lane {
+        let mut lane = self.clone();
+        for step in &mut lane.steps {
+            match &mut step.work {
+                Work::Internal(_) => {}
+                Work::Send(channel) => *channel += by,
+                Work::Listen(pairs, _) => pairs.iter_mut().for_each(|pair| pair.0 += by),
+            }
+        }
+        lane
+    }
+
     /// The ticks of a round.
     pub fn round(&self) -> u32 {
         self.steps.last().map_or(0, |step| step.end)

@@ -19,11 +19,13 @@ pub use slots::{Plan, Size, Slot};
 pub use style::Style;
 pub use worker::{worker, Work as WorkerSize};
 
+use super::bands;
 use crate::random::Random;
 use reference::table::{write_table, Table, LENGTHS};
 
 /// The table of these lanes, one component a lane. If it would be too long in
 /// this style it gets fewer edges that are not taken, or is written plainly.
+/// There is room for bands behind its header, if it has none.
 pub fn table(
     random: &mut Random,
     lanes: &[Lane],
@@ -34,7 +36,7 @@ pub fn table(
     for decoys in [style.decoys, style.decoys / 3, 0] {
         let style = Style { decoys, ..*style };
         let table = in_style(random, lanes, channels, horizon, &style);
-        if write_table(&table).len() <= *LENGTHS.end() {
+        if write_table(&table).len() + usize::from(channels) <= *LENGTHS.end() {
             return table;
         }
     }
@@ -48,8 +50,11 @@ fn in_style(
     horizon: u16,
     style: &Style,
 ) -> Table {
+    let (version, bands) = bands::drawn(random, channels);
     let one = |lane: &Lane| component(random, lane, channels, style);
     Table {
+        version,
+        bands,
         channels,
         horizon,
         components: lanes.iter().map(one).collect(),

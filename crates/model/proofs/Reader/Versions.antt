@@ -1,0 +1,217 @@
+-- A table of version 1 gets what document 01 gave it: verdict, schedule, program, run and meetings; and the chart of that schedule. Assumes nothing.
+use mathlib.Core.Path.{_≡_, refl, sym, ap, _∙_}
+use mathlib.Core.Bool.{Bool, true, false, cond, _&&_}
+use mathlib.Core.List.{List, [], _∷_}
+use mathlib.Core.Option.{Option, none, some}
+use Prim.Native.Nat.{ℕ, zero, suc}
+use native.Mathlib.Omega.{arith}
+use borrow.Author.Tests.{eq-eqb}
+use lib.Dec.{leb, eqb}
+use lib.ListN.{length, drop, getD, replicate}
+use Rattle.model.specs.Lists.{any, only, first, each, Answer, accepted, refused, _after_}
+use Rattle.model.specs.Table.{Component, Read, bandOf}
+use Rattle.model.specs.Limits.{InLimits}
+use Rattle.model.specs.Reader.{byte, word, readComponents, lengthFine, countFine, bodyStart, bandsAt, bandsFine, versionFine, readWith, readTable}
+use Rattle.model.specs.Schedule.{Passage, others, schedule}
+use Rattle.model.specs.Checks.{shareTick, disturb, isSend, meets, collides, unheard, crowded, limit, checked, acceptedSchedule, acceptedScheduleOf}
+use Rattle.model.specs.Program.{programBytes}
+use Rattle.model.specs.Run.{run}
+use Rattle.model.specs.Calls.{verdictOf, scheduleWith, bytesWith, acceptedScheduleIn, checkCall, scheduleCall, translateCall, runPlanned, runRead, runCall}
+use Rattle.model.specs.Meetings.{sendsMet, listenersMet, sendsHeard, withMet, concerned, concernedIn, listOr, meetingsIn, meetingsCall}
+use Rattle.model.specs.Chart.{chart, chartCall}
+use Rattle.model.specs.Versions.{readWith01, readTable01, meets01, collides01, checked01, acceptedScheduleOf01, programBytes01, checkCall01, scheduleCall01, translateCall01, chartCall01, runWith01, runRead01, runCall01, concerned01, meetingsIn01, meetingsCall01}
+use Rattle.model.proofs.Basics.Bools.{and-is}
+use Rattle.model.proofs.Reader.Bands.{zeros-small}
+use Rattle.model.proofs.Reader.Parts.{after-ok, cond-accepted, accepted-same}
+use Rattle.model.proofs.Basics.Members.{first-some}
+use Rattle.model.proofs.Checks.Heard.{send-is}
+use Rattle.model.proofs.Reader.Limits.{read-limits}
+
+-- ## Equal questions
+
+-- what is done after equal answers
+after-same : {A B : Type 0} (a : Answer A) (f g : A → Answer B) → ((x : A) → a ≡ accepted x → f x ≡ g x) → (a after f) ≡ (a after g)
+after-same (accepted x) f g h = h x refl
+after-same (refused n c) f g h = refl
+
+-- an equal test of each passage
+module _ (p q : Passage → Bool) (f : (o : Passage) → p o ≡ q o) where
+  any-same : (l : List Passage) → any p l ≡ any q l
+  any-same [] = refl
+  any-same (o ∷ l) = rw (f o, any-same l)
+
+  only-same : (l : List Passage) → only p l ≡ only q l
+  only-same [] = refl
+  only-same (o ∷ l) = rw (f o, only-same l)
+
+  first-same : (l : List Passage) → first p l ≡ first q l
+  first-same [] = refl
+  first-same (o ∷ l) = rw (f o, first-same l)
+
+-- ## The reader
+
+module _ (bs : List ℕ) (one : byte bs 0 ≡ 1) where
+  -- no bands stand behind the header, and all are 0
+  no-bands : (bodyStart bs ≡ 7) × (bandsAt bs ≡ replicate (byte bs 4) 0)
+  no-bands = let f : leb 2 (byte bs 0) ≡ false = rw one in (rw f (omega arith), rw f)
+
+  -- 3 asks nothing more
+  no-question : lengthFine bs ≡ true → bandsFine bs ≡ true
+  no-question e =
+      let l = and-is (leb 7 (length bs) && leb (length bs) 8192) (eqb (word bs 1) (length bs)) .0 e in
+      let m = and-is (leb 7 (length bs)) (leb (length bs) 8192) .0 (l .0) in
+      rw (no-bands .0, no-bands .1, m .0) (zeros-small (byte bs 4))
+
+  -- bytes that begin with 1 are read, or refused, as document 01 says
+  pub same-reading : readTable bs ≡ readTable01 bs
+  unfolding readTable readTable01
+  same-reading =
+      let v : versionFine bs ≡ true = rw one in
+      let f : eqb (byte bs 0) 1 ≡ true = rw one in
+      rw (v, f) (go (lengthFine bs) refl)
+    where
+      told : (l : List Component) → accepted (readWith bs l) ≡ accepted (readWith01 bs l)
+      told l = ap accepted (rw one)
+
+      counted : (t : Bool)
+          → cond (t && true) (readComponents (byte bs 4) (byte bs 3) 0 (drop 7 bs) after λ l. accepted (readWith bs l)) (refused 3 255)
+          ≡ cond t (readComponents (byte bs 4) (byte bs 3) 0 (drop 7 bs) after λ l. accepted (readWith01 bs l)) (refused 3 255)
+      counted true = after-same (readComponents (byte bs 4) (byte bs 3) 0 (drop 7 bs)) (λ l. accepted (readWith bs l)) (λ l. accepted (readWith01 bs l)) (λ l e. told l)
+      counted false = refl
+
+      go : (t : Bool) → lengthFine bs ≡ t
+          → cond t (cond (countFine bs && bandsFine bs) (readComponents (byte bs 4) (byte bs 3) 0 (drop (bodyStart bs) bs) after λ l. accepted (readWith bs l)) (refused 3 255)) (refused 2 255)
+          ≡ cond t (cond (countFine bs) (readComponents (byte bs 4) (byte bs 3) 0 (drop 7 bs) after λ l. accepted (readWith01 bs l)) (refused 3 255)) (refused 2 255)
+      go false e = refl
+      go true e = rw (no-question e, no-bands .0) (counted (countFine bs))
+
+-- the version of what is read is the first byte
+read-version : (bs : List ℕ) (t : Read) → readTable bs ≡ accepted t → t .version ≡ byte bs 0
+unfolding readTable
+read-version bs t e =
+    let first = cond-accepted (versionFine bs) _ 1 255 e in
+    let second = cond-accepted (lengthFine bs) _ 2 255 (first .1) in
+    let third = cond-accepted (countFine bs && bandsFine bs) _ 3 255 (second .1) in
+    let k = after-ok (readComponents (byte bs 4) (byte bs 3) 0 (drop (bodyStart bs) bs)) _ (third .1) in
+    sym (ap (λ (u : Read). u .version) (accepted-same (k .2)))
+
+-- ## Check 10 and the schedule
+
+zero-band : (n k : ℕ) → _≡_ {A = ℕ} (getD (replicate n 0) k 0) 0
+zero-band zero k = refl
+zero-band (suc n) zero = refl
+zero-band (suc n) (suc k) = zero-band n k
+
+module _ (t : Read) (h : InLimits t) (one : t .version ≡ 1) where
+  -- any two sends disturb each other
+  pub all-disturb : (H : ℕ) (s o : Passage) → isSend (t .table) H s ≡ true → isSend (t .table) H o ≡ true → disturb (t .table) s o ≡ true
+  all-disturb H s o a b =
+      let j = send-is (t .table) H s .0 a in
+      let k = send-is (t .table) H o .0 b in
+      let z : t .table .bands ≡ replicate (t .table .channels) 0 = h .bands .first (omega (arith, one)) in
+      let zero-at : (i : ℕ) → bandOf (t .table) i ≡ 0 = λ i. ap (λ l. getD l i 0) z ∙ zero-band (t .table .channels) i in
+      rw (j .1, k .1) (eq-eqb (bandOf (t .table) (j .0)) (bandOf (t .table) (k .0)) (zero-at (j .0) ∙ sym (zero-at (k .0))))
+
+  -- a send meets those that it met
+  same-meets : (H : ℕ) (s : Passage) → isSend (t .table) H s ≡ true → (o : Passage) → meets (t .table) H s o ≡ meets01 (t .table) H s o
+  same-meets H s e o = pick (isSend (t .table) H o) refl
+    where
+      drop-true : (b : Bool) → (b && true && shareTick s o) ≡ (b && shareTick s o)
+      drop-true true = refl
+      drop-true false = refl
+
+      pick : (b : Bool) → isSend (t .table) H o ≡ b → (b && others o s && disturb (t .table) s o && shareTick s o) ≡ (b && others o s && shareTick s o)
+      pick true f = rw (all-disturb H s o e f) (drop-true (others o s))
+      pick false f = refl
+
+  -- so check 10 asks what it asked
+  pub same-collides : (H : ℕ) (S : List Passage) (s : Passage) → collides (t .table) H S s ≡ collides01 (t .table) H S s
+  same-collides H S s = go (isSend (t .table) H s) refl
+    where
+      go : (b : Bool) → isSend (t .table) H s ≡ b → (b && any (meets (t .table) H s) S) ≡ (b && any (meets01 (t .table) H s) S)
+      go true e = any-same (meets (t .table) H s) (meets01 (t .table) H s) (same-meets H s e) S
+      go false e = refl
+
+  pub same-first : (H : ℕ) (S : List Passage) → first (collides (t .table) H S) S ≡ first (collides01 (t .table) H S) S
+  same-first H S = first-same (collides (t .table) H S) (collides01 (t .table) H S) (same-collides H S) S
+
+  -- 7 to 12 answer what they answered, with the schedule
+  pub same-schedule : acceptedScheduleOf t ≡ acceptedScheduleOf01 t
+  unfolding acceptedSchedule checked checked01
+  same-schedule =
+      after-same (schedule limit (t .table) (t .horizon)) (checked (t .table) (t .horizon)) (checked01 (t .table) (t .horizon)) (λ S e. rw (same-first (t .horizon) S))
+
+  -- and the windows that met are those that did
+  pub same-concerned : (H : ℕ) (S : List Passage) → concerned (t .table) H S ≡ concerned01 (t .table) H S
+  unfolding concerned concerned01
+  same-concerned H S = met (first (collides (t .table) H S) S) refl ∙ rw (same-first H S)
+    where
+      further : List Passage
+      further = withMet (listenersMet (t .table) S) (first (unheard (t .table) H S) S) (withMet (sendsHeard (t .table) H S) (first (crowded (t .table) H S) S) [])
+
+      met : (o : Option Passage) → first (collides (t .table) H S) S ≡ o → withMet (sendsMet (t .table) H S) o further ≡ withMet (λ s. only (meets01 (t .table) H s) S) o further
+      met none e = refl
+      met (some v) e =
+          let h = first-some (collides (t .table) H S) S e in
+          let sends = and-is (isSend (t .table) H v) (any (meets (t .table) H v) S) .0 (h .1) in
+          ap (λ (l : List Passage). v ∷ l) (only-same (meets (t .table) H v) (meets01 (t .table) H v) (same-meets H v (sends .0)) S)
+
+-- ## The program
+
+pub same-program : (t : Read) → t .version ≡ 1 → programBytes t ≡ programBytes01 t
+unfolding programBytes programBytes01
+same-program t one = rw one
+
+-- ## The calls
+
+module _ (bs : List ℕ) (one : byte bs 0 ≡ 1) where
+  -- what is read is in the limits, of version 1
+  known : (t : Read) → readTable01 bs ≡ accepted t → InLimits t × (t .version ≡ 1)
+  known t e = let r = same-reading bs one ∙ e in (read-limits bs t r, read-version bs t r ∙ one)
+
+  -- what is done with the table read
+  read-same : {A : Type 0} (f g : Read → Answer A) → ((t : Read) → InLimits t → t .version ≡ 1 → f t ≡ g t) → (readTable bs after f) ≡ (readTable01 bs after g)
+  read-same {A} f g h =
+      ap (λ (a : Answer Read). a after f) (same-reading bs one) ∙ after-same (readTable01 bs) f g (λ t e. let k = known t e in h t (k .0) (k .1))
+
+  pub same-check : checkCall bs ≡ checkCall01 bs
+  unfolding checkCall acceptedScheduleIn checkCall01
+  same-check = ap verdictOf (read-same acceptedScheduleOf acceptedScheduleOf01 same-schedule)
+
+  pub same-schedule-call : (lent : List ℕ) → scheduleCall bs lent ≡ scheduleCall01 bs lent
+  unfolding scheduleCall acceptedScheduleIn scheduleCall01
+  same-schedule-call lent = ap (scheduleWith lent) (read-same acceptedScheduleOf acceptedScheduleOf01 same-schedule)
+
+  pub same-translate : (lent : List ℕ) → translateCall bs lent ≡ translateCall01 bs lent
+  unfolding translateCall translateCall01
+  same-translate lent =
+      ap (bytesWith lent)
+      (read-same (λ t. acceptedScheduleOf t after λ S. accepted (programBytes t)) (λ t. acceptedScheduleOf01 t after λ S. accepted (programBytes01 t))
+      (λ t h v. rw (same-schedule t h v, same-program t v)))
+
+  pub same-chart : (lent : List ℕ) → chartCall bs lent ≡ chartCall01 bs lent
+  unfolding chartCall chartCall01
+  same-chart lent =
+      ap (bytesWith lent)
+      (read-same (λ t. acceptedScheduleOf t after λ S. accepted (chart (t .table) (t .horizon) S))
+      (λ t. acceptedScheduleOf01 t after λ S. accepted (chart (t .table) (t .horizon) S)) (λ t h v. rw (same-schedule t h v)))
+
+  pub same-meetings : (lent : List ℕ) → meetingsCall bs lent ≡ meetingsCall01 bs lent
+  unfolding meetingsCall meetingsIn meetingsCall01
+  same-meetings lent =
+      let m : meetingsIn bs ≡ meetingsIn01 bs = ap listOr (read-same concernedIn (λ t. schedule limit (t .table) (t .horizon) after λ S. accepted (concerned01 (t .table) (t .horizon) S)) (λ t h v.
+      after-same (schedule limit (t .table) (t .horizon)) (λ S. accepted (concerned (t .table) (t .horizon) S)) (λ S. accepted (concerned01 (t .table) (t .horizon) S)) (λ S e.
+      ap accepted (same-concerned t h v (t .horizon) S)))) in
+      rw (same-check, m)
+
+  pub same-run : (choices lent : List ℕ) → runCall bs choices lent ≡ runCall01 bs choices lent
+  unfolding runCall runCall01
+  same-run choices lent = rw (same-reading bs one) (read (readTable01 bs) known)
+    where
+      scheduled : (t : Read) (a : Answer (List Passage)) → t .version ≡ 1 → runPlanned t a choices lent ≡ runWith01 t choices lent a
+      scheduled t (accepted S) v = rw (same-program t v)
+      scheduled t (refused n c) v = refl
+
+      read : (a : Answer Read) → ((t : Read) → a ≡ accepted t → InLimits t × (t .version ≡ 1)) → runRead a choices lent ≡ runRead01 choices lent a
+      read (accepted t) h = let k = h t refl in rw (same-schedule t (k .0) (k .1)) (scheduled t (acceptedScheduleOf01 t) (k .1))
+      read (refused n c) h = refl

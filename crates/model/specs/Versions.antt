@@ -1,0 +1,123 @@
+-- Document 01 as it stood before document 02's wish 2, kept to say what tables of version 1 got: their reader, check 10, schedule, program and
+-- calls, not defined through those of today. What a table of version 1 got then, it gets now (the laws are in proofs/Reader/Versions.antt).
+-- Where document 01's definition still stands as it was (a component's parts, the passages, checks 11 and 12, a node's bytes, the run's
+-- statements), it is used.
+use mathlib.Core.Bool.{Bool, cond, _&&_}
+use mathlib.Core.List.{List, [], _∷_, _++_, map}
+use Prim.Native.Nat.{ℕ, _+_, _*_}
+use lib.Dec.{ltb, eqb}
+use lib.ListN.{length, drop, replicate}
+use Rattle.model.specs.declared.Verdict.{Verdict}
+use Rattle.model.specs.Lists.{any, only, first, be16, each, Answer, accepted, refused, _after_}
+use Rattle.model.specs.Table.{Component, Table, Read, size}
+use Rattle.model.specs.Reader.{byte, word, readComponents, lengthFine, countFine}
+use Rattle.model.specs.Schedule.{Passage, own, others, schedule, sevenOf}
+use Rattle.model.specs.Checks.{shareTick, isSend, unheard, crowded, faultOf, limit}
+use Rattle.model.specs.Program.{nodeBytes}
+use Rattle.model.specs.Run.{Setting, readyOfNth, run, observationBytes}
+use Rattle.model.specs.Calls.{Call, RunCall, laid, verdictOf, scheduleWith, bytesWith, notRun, ran}
+use Rattle.model.specs.Meetings.{MeetingsCall, listenersMet, sendsHeard, withMet, listOr, about}
+use Rattle.model.specs.Chart.{chart}
+
+-- ## 1 to 6
+
+-- a table of document 01 has no bands; in today's value it is one of version 1, all channels on band 0
+abbrev pub readWith01 : List ℕ → List Component → Read
+readWith01 bs l =
+    record {
+      version = 1;
+      table = record { channels = byte bs 4; bands = replicate (byte bs 4) 0; components = l };
+      horizon = word bs 5;
+    }
+
+-- 1. "Is the first byte 1?" 3: "components, channels, horizon". The components stand right after the header's 7 bytes.
+unfoldable pub readTable01 : List ℕ → Answer Read
+unfolding readComponents
+readTable01 bs =
+    let fourth = (readComponents (byte bs 4) (byte bs 3) 0 (drop 7 bs) after λ l. accepted (readWith01 bs l)) in
+    let third = cond (countFine bs) fourth (refused 3 255) in
+    let second = cond (lengthFine bs) third (refused 2 255) in
+    cond (eqb (byte bs 0) 1) second (refused 1 255)
+
+-- ## 7 to 12
+
+-- 10. "Do no two send windows of different components share a tick?", whatever their channels
+abbrev pub meets01 : Table → ℕ → Passage → Passage → Bool
+meets01 T H s o = isSend T H o && others o s && shareTick s o
+
+abbrev pub collides01 : Table → ℕ → List Passage → Passage → Bool
+collides01 T H S s = isSend T H s && any (meets01 T H s) S
+
+unfoldable pub checked01 : Table → ℕ → List Passage → Answer (List Passage)
+checked01 T H S =
+    faultOf 10 (first (collides01 T H S) S)
+    (faultOf 11 (first (unheard T H S) S) (faultOf 12 (first (crowded T H S) S) (accepted S)))
+
+abbrev pub acceptedScheduleOf01 : Read → Answer (List Passage)
+acceptedScheduleOf01 t = schedule limit (t .table) (t .horizon) after λ S. checked01 (t .table) (t .horizon) S
+
+-- ## The program
+
+-- "Version 1; total length (2 bytes); component count; H (2 bytes)."
+unfoldable pub programBytes01 : Read → List ℕ
+unfolding each nodeBytes
+programBytes01 t =
+    let rest = each nodeBytes (t .table .components) in
+    (1 ∷ be16 (6 + length rest)) ++ ((size (t .table) ∷ be16 (t .horizon)) ++ rest)
+
+-- ## The calls
+
+unfoldable pub checkCall01 : List ℕ → Verdict
+unfolding readTable01 schedule checked01
+checkCall01 table = verdictOf (readTable01 table after acceptedScheduleOf01)
+
+unfoldable pub scheduleCall01 : List ℕ → List ℕ → Call
+unfolding readTable01 schedule checked01 each
+scheduleCall01 table lent = scheduleWith lent (readTable01 table after acceptedScheduleOf01)
+
+unfoldable pub translateCall01 : List ℕ → List ℕ → Call
+unfolding readTable01 schedule checked01 programBytes01
+translateCall01 table lent = bytesWith lent (readTable01 table after λ t. acceptedScheduleOf01 t after λ S. accepted (programBytes01 t))
+
+-- the chart (wish 1), of document 01's reader and schedule
+unfoldable pub chartCall01 : List ℕ → List ℕ → Call
+unfolding readTable01 schedule checked01 chart
+chartCall01 table lent =
+    bytesWith lent (readTable01 table after λ t. acceptedScheduleOf01 t after λ S. accepted (chart (t .table) (t .horizon) S))
+
+abbrev pub settingOf01 : Read → List Passage → Setting
+settingOf01 t S =
+    record {
+      program = programBytes01 t;
+      horizon = t .horizon;
+      counts = map (λ C. record { clocks = C .clocks; variables = C .variables }) (t .table .components);
+      ready = λ c k. readyOfNth (own c S) k;
+    }
+
+abbrev pub runWith01 : Read → List ℕ → List ℕ → Answer (List Passage) → RunCall
+runWith01 t choices lent (refused n c) = notRun n c lent
+runWith01 t choices lent (accepted S) =
+    cond (ltb (length lent) (length S * 32)) (notRun 13 255 lent)
+    (cond (ltb 1000000 (length choices)) (notRun 14 255 lent) (ran (run (settingOf01 t S) choices) lent))
+
+abbrev pub runRead01 : List ℕ → List ℕ → Answer Read → RunCall
+runRead01 choices lent (refused n c) = notRun n c lent
+runRead01 choices lent (accepted t) = runWith01 t choices lent (acceptedScheduleOf01 t)
+
+unfoldable pub runCall01 : List ℕ → List ℕ → List ℕ → RunCall
+unfolding readTable01 schedule checked01 programBytes01 run observationBytes each
+runCall01 table choices lent = runRead01 choices lent (readTable01 table)
+
+-- the windows that met
+unfoldable pub concerned01 : Table → ℕ → List Passage → List Passage
+concerned01 T H S =
+    withMet (λ s. only (meets01 T H s) S) (first (collides01 T H S) S)
+    (withMet (listenersMet T S) (first (unheard T H S) S) (withMet (sendsHeard T H S) (first (crowded T H S) S) []))
+
+abbrev pub meetingsIn01 : List ℕ → List Passage
+meetingsIn01 table =
+    listOr (readTable01 table after λ t. schedule limit (t .table) (t .horizon) after λ S. accepted (concerned01 (t .table) (t .horizon) S))
+
+unfoldable pub meetingsCall01 : List ℕ → List ℕ → MeetingsCall
+unfolding readTable01 schedule concerned01 checkCall01 each
+meetingsCall01 table lent = about (checkCall01 table) (laid (length (meetingsIn01 table)) (each sevenOf (meetingsIn01 table)) lent)
