@@ -33,31 +33,31 @@ pub const LINK: usize = 8;
 // How many numbers a row has.
 pub const WIDTH: usize = 9;
 
-fn wide(x: u8) -> u32
-    ensures { λ r. ⌜ (r ≡ x) × (r < 256) ⌝ }
+fn wide(byte: u8) -> u32
+    ensures { λ r. ⌜ (r ≡ byte) × (r < 256) ⌝ }
 {
-    x as u32
+    byte as u32
 }
 
 // Number k of row i.
-pub fn number(l: &[u32], i: usize, k: usize) -> u32
-    requires { ⌜ i * 9 + k < length (now l) ⌝ }
-    ensures { λ r. ⌜ r ≡ num (now (l .entry)) i k ⌝ }
+pub fn number(rows: &[u32], i: usize, field: usize) -> u32
+    requires { ⌜ i * 9 + field < length (now rows) ⌝ }
+    ensures { λ r. ⌜ r ≡ num (now (rows .entry)) i field ⌝ }
 {
-    l[i * WIDTH + k]
+    rows[i * WIDTH + field]
 }
 
 // The same, where the number is a place or a row.
-pub fn index(l: &[u32], i: usize, k: usize) -> usize
-    requires { ⌜ i * 9 + k < length (now l) ⌝ }
-    ensures { λ r. ⌜ r ≡ num (now (l .entry)) i k ⌝ }
+pub fn index(rows: &[u32], i: usize, field: usize) -> usize
+    requires { ⌜ i * 9 + field < length (now rows) ⌝ }
+    ensures { λ r. ⌜ r ≡ num (now (rows .entry)) i field ⌝ }
 {
-    l[i * WIDTH + k] as usize
+    rows[i * WIDTH + field] as usize
 }
 
 // Writes row i; message none (255).
 pub fn put_row(
-    l: &mut [u32],
+    rows: &mut [u32],
     i: usize,
     component: u8,
     edge: u8,
@@ -68,43 +68,43 @@ pub fn put_row(
     place: usize,
     back: usize,
 )
-    requires { ⌜ (i * 9 + 9 ≤ length (now l)) × (place < 65536) × (back < 65536) × (i ≤ 1024) ⌝ }
-    ensures { λ _. ⌜ now (l .exit) ≡ sets (now (l .entry)) (i * 9) (component ∷ edge ∷ location ∷ entry ∷ ready ∷ end ∷ 255 ∷ place ∷ back ∷ []) ⌝ }
+    requires { ⌜ (i * 9 + 9 ≤ length (now rows)) × (place < 65536) × (back < 65536) × (i ≤ 1024) ⌝ }
+    ensures { λ _. ⌜ now (rows .exit) ≡ sets (now (rows .entry)) (i * 9) (component ∷ edge ∷ location ∷ entry ∷ ready ∷ end ∷ 255 ∷ place ∷ back ∷ []) ⌝ }
 {
     let at = i * WIDTH;
-    l[at] = component as u32;
-    l[at + EDGE] = edge as u32;
-    l[at + LOCATION] = location as u32;
-    l[at + ENTRY] = entry;
-    l[at + READY] = ready;
-    l[at + END] = end;
-    l[at + MESSAGE] = 255;
-    l[at + PLACE] = place as u32;
-    l[at + LINK] = back as u32;
+    rows[at] = component as u32;
+    rows[at + EDGE] = edge as u32;
+    rows[at + LOCATION] = location as u32;
+    rows[at + ENTRY] = entry;
+    rows[at + READY] = ready;
+    rows[at + END] = end;
+    rows[at + MESSAGE] = 255;
+    rows[at + PLACE] = place as u32;
+    rows[at + LINK] = back as u32;
 }
 
 // The rows before row j, walked backward: one past the last that ends at the tick or later (0 where there is none). A row that ended
 // before the tick leads to its link: the rows between ended no later.
-pub fn open_before(l: &[u32], j: usize, tick: u32) -> usize
-    requires { ⌜ Linked (now l) j ⌝ }
-    ensures { λ r. ⌜ (r ≤ j) × ((i : ℕ) → r ≤ i → i < j → num (now (l .entry)) i 5 < tick) ⌝ }
+pub fn open_before(rows: &[u32], j: usize, tick: u32) -> usize
+    requires { ⌜ Linked (now rows) j ⌝ }
+    ensures { λ r. ⌜ (r ≤ j) × ((i : ℕ) → r ≤ i → i < j → num (now (rows .entry)) i 5 < tick) ⌝ }
 {
     let mut k = j;
     while 0 < k {
-        if tick <= number(l, k - 1, END) {
+        if tick <= number(rows, k - 1, END) {
             return k;
         }
-        k = index(l, k - 1, LINK);
+        k = index(rows, k - 1, LINK);
     }
     k
 }
 
 // The channel that the edge at the front sends on (255: none).
-pub fn sent(h: &[u8]) -> u8
-    requires { ⌜ EdgeStands (now h) ⌝ }
-    ensures { λ r. ⌜ messageOf r ≡ channelOf (arcAt (now (h .entry))) ⌝ }
+pub fn sent(edge: &[u8]) -> u8
+    requires { ⌜ EdgeStands (now edge) ⌝ }
+    ensures { λ r. ⌜ messageOf r ≡ channelOf (arcAt (now (edge .entry))) ⌝ }
 {
-    let action = decoder::action_at(h);
+    let action = decoder::action_at(edge);
     match action {
         Action::Internal => 255,
         Action::Send(channel) => channel,
@@ -113,14 +113,14 @@ pub fn sent(h: &[u8]) -> u8
 }
 
 // Whether the edge at the front lists the channel (255: no).
-pub fn lists(h: &[u8], channel: u8) -> bool
-    requires { ⌜ EdgeStands (now h) ⌝ }
-    ensures { λ r. ⌜ r ≡ names (arcAt (now (h .entry))) (messageOf channel) ⌝ }
+pub fn lists(edge: &[u8], channel: u8) -> bool
+    requires { ⌜ EdgeStands (now edge) ⌝ }
+    ensures { λ r. ⌜ r ≡ names (arcAt (now (edge .entry))) (messageOf channel) ⌝ }
 {
     if channel == 255 {
         return false;
     }
-    let action = decoder::action_at(h);
+    let action = decoder::action_at(edge);
     match action {
         Action::Internal => {
             return false;
@@ -130,10 +130,10 @@ pub fn lists(h: &[u8], channel: u8) -> bool
         }
         Action::Receive => {}
     }
-    let mut at = decoder::items_place(h);
-    let mut k = h[6];
+    let mut at = decoder::items_place(edge);
+    let mut k = edge[6];
     while 0 < k {
-        if h[at] == channel {
+        if edge[at] == channel {
             return true;
         }
         at += 2;
@@ -143,12 +143,12 @@ pub fn lists(h: &[u8], channel: u8) -> bool
 }
 
 // Whether row i's edge receives.
-pub fn row_receives(s: &[u8], l: &[u32], i: usize) -> bool
-    requires { ⌜ RowKnown (now s) (now l) i ⌝ }
-    ensures { λ r. ⌜ r ≡ listens (passageArc (readOf (now (s .entry)) .table) (rowPassage (now (l .entry)) i)) ⌝ }
+pub fn row_receives(table: &[u8], rows: &[u32], i: usize) -> bool
+    requires { ⌜ RowKnown (now table) (now rows) i ⌝ }
+    ensures { λ r. ⌜ r ≡ listens (passageArc (readOf (now (table .entry)) .table) (rowPassage (now (rows .entry)) i)) ⌝ }
 {
-    let at = index(l, i, PLACE);
-    let action = decoder::action_at(&s[at..]);
+    let at = index(rows, i, PLACE);
+    let action = decoder::action_at(&table[at..]);
     match action {
         Action::Internal => false,
         Action::Send(_) => false,
@@ -157,178 +157,197 @@ pub fn row_receives(s: &[u8], l: &[u32], i: usize) -> bool
 }
 
 // The channel that row i's edge sends on (255: none).
-pub fn row_sent(s: &[u8], l: &[u32], i: usize) -> u8
-    requires { ⌜ RowKnown (now s) (now l) i ⌝ }
-    ensures { λ r. ⌜ messageOf r ≡ channelOf (passageArc (readOf (now (s .entry)) .table) (rowPassage (now (l .entry)) i)) ⌝ }
+pub fn row_sent(table: &[u8], rows: &[u32], i: usize) -> u8
+    requires { ⌜ RowKnown (now table) (now rows) i ⌝ }
+    ensures { λ r. ⌜ messageOf r ≡ channelOf (passageArc (readOf (now (table .entry)) .table) (rowPassage (now (rows .entry)) i)) ⌝ }
 {
-    let at = index(l, i, PLACE);
-    sent(&s[at..])
+    let at = index(rows, i, PLACE);
+    sent(&table[at..])
 }
 
 // Whether row i's edge lists the channel (255: no).
-pub fn row_lists(s: &[u8], l: &[u32], i: usize, channel: u8) -> bool
-    requires { ⌜ RowKnown (now s) (now l) i ⌝ }
-    ensures { λ r. ⌜ r ≡ names (passageArc (readOf (now (s .entry)) .table) (rowPassage (now (l .entry)) i)) (messageOf channel) ⌝ }
+pub fn row_lists(table: &[u8], rows: &[u32], i: usize, channel: u8) -> bool
+    requires { ⌜ RowKnown (now table) (now rows) i ⌝ }
+    ensures { λ r. ⌜ r ≡ names (passageArc (readOf (now (table .entry)) .table) (rowPassage (now (rows .entry)) i)) (messageOf channel) ⌝ }
 {
-    let at = index(l, i, PLACE);
-    lists(&s[at..], channel)
+    let at = index(rows, i, PLACE);
+    lists(&table[at..], channel)
 }
 
 // Whether row j is of another component than row i, starts after its ready and before the tick h, and ends before its end.
-fn in_time(l: &[u32], i: usize, j: usize, h: u32) -> bool
-    requires { ⌜ (i * 9 + 9 ≤ length (now l)) × (j * 9 + 9 ≤ length (now l)) ⌝ }
-    ensures { λ r. ⌜ r ≡ inTime h (rowPassage (now (l .entry)) i) (rowPassage (now (l .entry)) j) ⌝ }
+fn in_time(rows: &[u32], i: usize, j: usize, horizon: u32) -> bool
+    requires { ⌜ (i * 9 + 9 ≤ length (now rows)) × (j * 9 + 9 ≤ length (now rows)) ⌝ }
+    ensures { λ r. ⌜ r ≡ inTime horizon (rowPassage (now (rows .entry)) i) (rowPassage (now (rows .entry)) j) ⌝ }
 {
-    let ready = number(l, j, READY);
-    let after = parts::both(number(l, i, READY) < ready, ready < h);
-    let inside = parts::both(after, number(l, j, END) < number(l, i, END));
-    parts::both(number(l, i, COMPONENT) != number(l, j, COMPONENT), inside)
+    let ready = number(rows, j, READY);
+    let after = parts::both(number(rows, i, READY) < ready, ready < horizon);
+    let inside = parts::both(after, number(rows, j, END) < number(rows, i, END));
+    parts::both(
+        number(rows, i, COMPONENT) != number(rows, j, COMPONENT),
+        inside,
+    )
 }
 
 // Whether row i hears row j.
-pub fn hears(s: &[u8], l: &[u32], i: usize, j: usize, h: u32) -> bool
-    requires { ⌜ RowKnown (now s) (now l) i × RowKnown (now s) (now l) j ⌝ }
-    ensures { λ r. ⌜ r ≡ heardBy (readOf (now (s .entry)) .table) h (rowPassage (now (l .entry)) i) (rowPassage (now (l .entry)) j) ⌝ }
+pub fn hears(table: &[u8], rows: &[u32], i: usize, j: usize, horizon: u32) -> bool
+    requires { ⌜ RowKnown (now table) (now rows) i × RowKnown (now table) (now rows) j ⌝ }
+    ensures { λ r. ⌜ r ≡ heardBy (readOf (now (table .entry)) .table) horizon (rowPassage (now (rows .entry)) i) (rowPassage (now (rows .entry)) j) ⌝ }
 {
-    if !in_time(l, i, j, h) {
+    if !in_time(rows, i, j, horizon) {
         return false;
     }
-    row_lists(s, l, i, row_sent(s, l, j))
+    row_lists(table, rows, i, row_sent(table, rows, j))
 }
 
-fn ends_sooner(l: &[u32], j: usize, b: usize) -> bool
-    requires { ⌜ (j * 9 + 9 ≤ length (now l)) × (b * 9 + 9 ≤ length (now l)) ⌝ }
-    ensures { λ r. ⌜ r ≡ endsSooner (rowPassage (now (l .entry)) j) (rowPassage (now (l .entry)) b) ⌝ }
+fn ends_sooner(rows: &[u32], j: usize, best: usize) -> bool
+    requires { ⌜ (j * 9 + 9 ≤ length (now rows)) × (best * 9 + 9 ≤ length (now rows)) ⌝ }
+    ensures { λ r. ⌜ r ≡ endsSooner (rowPassage (now (rows .entry)) j) (rowPassage (now (rows .entry)) best) ⌝ }
 {
-    let end = number(l, j, END);
-    let other = number(l, b, END);
-    let lower = number(l, j, COMPONENT) < number(l, b, COMPONENT);
+    let end = number(rows, j, END);
+    let other = number(rows, best, END);
+    let lower = number(rows, j, COMPONENT) < number(rows, best, COMPONENT);
     parts::either(end < other, parts::both(end == other, lower))
 }
 
 // The row best so far (n where there is none), or row j where that ends sooner.
-fn nearer(l: &[u32], best: usize, j: usize, n: usize) -> usize
-    requires { ⌜ (n * 9 ≤ length (now l)) × (j < n) ⌝ }
-    ensures { λ r. ⌜ bestOf (now (l .entry)) n r ≡ sooner (bestOf (now (l .entry)) n best) (rowPassage (now (l .entry)) j) ⌝ }
+fn nearer(rows: &[u32], best: usize, j: usize, count: usize) -> usize
+    requires { ⌜ (count * 9 ≤ length (now rows)) × (j < count) ⌝ }
+    ensures { λ r. ⌜ bestOf (now (rows .entry)) count r ≡ sooner (bestOf (now (rows .entry)) count best) (rowPassage (now (rows .entry)) j) ⌝ }
 {
-    if n <= best {
+    if count <= best {
         return j;
     }
-    if ends_sooner(l, j, best) { j } else { best }
+    if ends_sooner(rows, j, best) { j } else { best }
 }
 
 // The best so far, or row j where row i hears it and it ends sooner.
-fn heard(s: &[u8], l: &[u32], best: usize, i: usize, j: usize, n: usize, h: u32) -> usize
-    requires { ⌜ RowsPlaced (now s) (now l) n × (i < n) × (j < n) ⌝ }
-    ensures { λ r. ⌜ bestOf (now (l .entry)) n r ≡ heardRow (now (s .entry)) (now (l .entry)) h i j (bestOf (now (l .entry)) n best) ⌝ }
+fn heard(
+    table: &[u8],
+    rows: &[u32],
+    best: usize,
+    i: usize,
+    j: usize,
+    count: usize,
+    horizon: u32,
+) -> usize
+    requires { ⌜ RowsPlaced (now table) (now rows) count × (i < count) × (j < count) ⌝ }
+    ensures { λ r. ⌜ bestOf (now (rows .entry)) count r ≡ heardRow (now (table .entry)) (now (rows .entry)) horizon i j (bestOf (now (rows .entry)) count best) ⌝ }
 {
-    if hears(s, l, i, j, h) {
-        nearer(l, best, j, n)
+    if hears(table, rows, i, j, horizon) {
+        nearer(rows, best, j, count)
     } else {
         best
     }
 }
 
 // The row best so far among later ones (n where there is none), or row j where that does not end sooner.
-fn nearer_before(l: &[u32], best: usize, j: usize, n: usize) -> usize
-    requires { ⌜ (n * 9 ≤ length (now l)) × (j < n) ⌝ }
-    ensures { λ r. ⌜ bestOf (now (l .entry)) n r ≡ soonerFirst (rowPassage (now (l .entry)) j) (bestOf (now (l .entry)) n best) ⌝ }
+fn nearer_before(rows: &[u32], best: usize, j: usize, count: usize) -> usize
+    requires { ⌜ (count * 9 ≤ length (now rows)) × (j < count) ⌝ }
+    ensures { λ r. ⌜ bestOf (now (rows .entry)) count r ≡ soonerFirst (rowPassage (now (rows .entry)) j) (bestOf (now (rows .entry)) count best) ⌝ }
 {
-    if n <= best {
+    if count <= best {
         return j;
     }
-    if ends_sooner(l, best, j) { best } else { j }
+    if ends_sooner(rows, best, j) { best } else { j }
 }
 
 // The best so far among later rows, or row j where row i hears it and none of them ends sooner.
-fn heard_before(s: &[u8], l: &[u32], best: usize, i: usize, j: usize, n: usize, h: u32) -> usize
-    requires { ⌜ RowsPlaced (now s) (now l) n × (i < n) × (j < n) ⌝ }
-    ensures { λ r. ⌜ bestOf (now (l .entry)) n r ≡ heardFirst (now (s .entry)) (now (l .entry)) h i j (bestOf (now (l .entry)) n best) ⌝ }
+fn heard_before(
+    table: &[u8],
+    rows: &[u32],
+    best: usize,
+    i: usize,
+    j: usize,
+    count: usize,
+    horizon: u32,
+) -> usize
+    requires { ⌜ RowsPlaced (now table) (now rows) count × (i < count) × (j < count) ⌝ }
+    ensures { λ r. ⌜ bestOf (now (rows .entry)) count r ≡ heardFirst (now (table .entry)) (now (rows .entry)) horizon i j (bestOf (now (rows .entry)) count best) ⌝ }
 {
-    if hears(s, l, i, j, h) {
-        nearer_before(l, best, j, n)
+    if hears(table, rows, i, j, horizon) {
+        nearer_before(rows, best, j, count)
     } else {
         best
     }
 }
 
 // The row before row i whose message it hears, n where there is none. Rows that ended before its entry are passed over by their links.
-fn seek_before(s: &[u8], l: &[u32], n: usize, i: usize, h: u32) -> usize
-    requires { ⌜ RowsPlaced (now s) (now l) n × (i < n) ⌝ }
-    ensures { λ r. ⌜ bestOf (now (l .entry)) n r ≡ earliest (heardBy (readOf (now (s .entry)) .table) h (rowPassage (now (l .entry)) i)) (rowsOf (now (l .entry)) i) none ⌝ }
+fn seek_before(table: &[u8], rows: &[u32], count: usize, i: usize, horizon: u32) -> usize
+    requires { ⌜ RowsPlaced (now table) (now rows) count × (i < count) ⌝ }
+    ensures { λ r. ⌜ bestOf (now (rows .entry)) count r ≡ earliest (heardBy (readOf (now (table .entry)) .table) horizon (rowPassage (now (rows .entry)) i)) (rowsOf (now (rows .entry)) i) none ⌝ }
 {
-    let entry = number(l, i, ENTRY);
-    let mut best = n;
-    let mut j = open_before(l, i, entry);
+    let entry = number(rows, i, ENTRY);
+    let mut best = count;
+    let mut j = open_before(rows, i, entry);
     while 0 < j {
         let k = j - 1;
-        best = heard_before(s, l, best, i, k, n, h);
-        j = open_before(l, k, entry);
+        best = heard_before(table, rows, best, i, k, count, horizon);
+        j = open_before(rows, k, entry);
     }
     best
 }
 
 // The row whose message row i hears, n where there is none. Rows that open at its end or later end too late.
-fn seek(s: &[u8], l: &[u32], n: usize, i: usize, h: u32) -> usize
-    requires { ⌜ RowsPlaced (now s) (now l) n × (i < n) ⌝ }
-    ensures { λ r. ⌜ bestOf (now (l .entry)) n r ≡ earliest (heardBy (readOf (now (s .entry)) .table) h (rowPassage (now (l .entry)) i)) (rowsOf (now (l .entry)) n) none ⌝ }
+fn seek(table: &[u8], rows: &[u32], count: usize, i: usize, horizon: u32) -> usize
+    requires { ⌜ RowsPlaced (now table) (now rows) count × (i < count) ⌝ }
+    ensures { λ r. ⌜ bestOf (now (rows .entry)) count r ≡ earliest (heardBy (readOf (now (table .entry)) .table) horizon (rowPassage (now (rows .entry)) i)) (rowsOf (now (rows .entry)) count) none ⌝ }
 {
-    let until = number(l, i, END);
-    let mut best = seek_before(s, l, n, i, h);
+    let until = number(rows, i, END);
+    let mut best = seek_before(table, rows, count, i, horizon);
     let mut j = i;
-    while j < n {
-        if until <= number(l, j, ENTRY) {
+    while j < count {
+        if until <= number(rows, j, ENTRY) {
             return best;
         }
-        best = heard(s, l, best, i, j, n, h);
+        best = heard(table, rows, best, i, j, count, horizon);
         j += 1;
     }
     best
 }
 
 // The message of the passage of row i among n rows (255: none).
-pub fn message(s: &[u8], l: &[u32], n: usize, i: usize, h: u32) -> u8
-    requires { ⌜ RowsPlaced (now s) (now l) n × (i < n) ⌝ }
-    ensures { λ r. ⌜ messageOf r ≡ messageIn (readOf (now (s .entry)) .table) h (rowsOf (now (l .entry)) n) (rowPassage (now (l .entry)) i) ⌝ }
+pub fn message(table: &[u8], rows: &[u32], count: usize, i: usize, horizon: u32) -> u8
+    requires { ⌜ RowsPlaced (now table) (now rows) count × (i < count) ⌝ }
+    ensures { λ r. ⌜ messageOf r ≡ messageIn (readOf (now (table .entry)) .table) horizon (rowsOf (now (rows .entry)) count) (rowPassage (now (rows .entry)) i) ⌝ }
 {
-    if !row_receives(s, l, i) {
-        return row_sent(s, l, i);
+    if !row_receives(table, rows, i) {
+        return row_sent(table, rows, i);
     }
-    let best = seek(s, l, n, i, h);
-    if best < n {
-        return row_sent(s, l, best);
+    let best = seek(table, rows, count, i, horizon);
+    if best < count {
+        return row_sent(table, rows, best);
     }
     255
 }
 
 // Gives row i that message.
-pub fn put_message(l: &mut [u32], i: usize, message: u8)
-    requires { ⌜ (i * 9 + 9 ≤ length (now l)) × (i ≤ 1024) ⌝ }
-    ensures { λ _. ⌜ now (l .exit) ≡ set (now (l .entry)) (i * 9 + 6) message ⌝ }
+pub fn put_message(rows: &mut [u32], i: usize, message: u8)
+    requires { ⌜ (i * 9 + 9 ≤ length (now rows)) × (i ≤ 1024) ⌝ }
+    ensures { λ _. ⌜ now (rows .exit) ≡ set (now (rows .entry)) (i * 9 + 6) message ⌝ }
 {
-    l[i * WIDTH + MESSAGE] = wide(message);
+    rows[i * WIDTH + MESSAGE] = wide(message);
 }
 
 // The message of the passage of row i among n rows (255: none), which the row has if it ends before the tick h.
-fn message_then(s: &[u8], l: &[u32], n: usize, i: usize, h: u32) -> u32
-    requires { ⌜ RowsPlaced (now s) (now l) n × (i < n) × (num (now l) i 5 < h → Told (now s) h (now l) n i) ⌝ }
-    ensures { λ r. ⌜ messageOf r ≡ messageIn (readOf (now (s .entry)) .table) h (rowsOf (now (l .entry)) n) (rowPassage (now (l .entry)) i) ⌝ }
+fn message_then(table: &[u8], rows: &[u32], count: usize, i: usize, horizon: u32) -> u32
+    requires { ⌜ RowsPlaced (now table) (now rows) count × (i < count) × (num (now rows) i 5 < horizon → Told (now table) horizon (now rows) count i) ⌝ }
+    ensures { λ r. ⌜ messageOf r ≡ messageIn (readOf (now (table .entry)) .table) horizon (rowsOf (now (rows .entry)) count) (rowPassage (now (rows .entry)) i) ⌝ }
 {
-    if number(l, i, END) < h {
-        return number(l, i, MESSAGE);
+    if number(rows, i, END) < horizon {
+        return number(rows, i, MESSAGE);
     }
-    wide(message(s, l, n, i, h))
+    wide(message(table, rows, count, i, horizon))
 }
 
 // Gives each of n rows its message; those that end before the tick h have theirs. (The other numbers stay.)
-pub fn put_messages(s: &[u8], l: &mut [u32], n: usize, h: u32)
-    requires { ⌜ RowsPlaced (now s) (now l) n × ((i : ℕ) → i < n → num (now l) i 5 < h → Told (now s) h (now l) n i) ⌝ }
-    ensures { λ _. ⌜ MessagesPut (now (s .entry)) h n (now (l .entry)) (now (l .exit)) ⌝ }
+pub fn put_messages(table: &[u8], rows: &mut [u32], count: usize, horizon: u32)
+    requires { ⌜ RowsPlaced (now table) (now rows) count × ((i : ℕ) → i < count → num (now rows) i 5 < horizon → Told (now table) horizon (now rows) count i) ⌝ }
+    ensures { λ _. ⌜ MessagesPut (now (table .entry)) horizon count (now (rows .entry)) (now (rows .exit)) ⌝ }
 {
     let mut i: usize = 0;
-    while i < n {
-        let m = message_then(s, l, n, i, h);
-        l[i * WIDTH + MESSAGE] = m;
+    while i < count {
+        let m = message_then(table, rows, count, i, horizon);
+        rows[i * WIDTH + MESSAGE] = m;
         i += 1;
     }
 }

@@ -47,22 +47,22 @@ pub struct Scheduled {
     pub count: usize,
 }
 
-fn wide(x: u8) -> usize
-    ensures { λ r. ⌜ (r ≡ x) × (r < 256) ⌝ }
+fn wide(byte: u8) -> usize
+    ensures { λ r. ⌜ (r ≡ byte) × (r < 256) ⌝ }
 {
-    x as usize
+    byte as usize
 }
 
-fn wide16(x: u16) -> usize
-    ensures { λ r. ⌜ (r ≡ x) × (r < 65536) ⌝ }
+fn wide16(word: u16) -> usize
+    ensures { λ r. ⌜ (r ≡ word) × (r < 65536) ⌝ }
 {
-    x as usize
+    word as usize
 }
 
-fn wide32(x: u16) -> u32
-    ensures { λ r. ⌜ (r ≡ x) × (r < 65536) ⌝ }
+fn wide32(word: u16) -> u32
+    ensures { λ r. ⌜ (r ≡ word) × (r < 65536) ⌝ }
 {
-    x as u32
+    word as u32
 }
 
 fn listed(count: usize) -> Scheduled
@@ -75,25 +75,25 @@ fn listed(count: usize) -> Scheduled
 }
 
 // A refusal: its number and the component concerned; no passages.
-fn refused(number: u8, c: usize) -> Scheduled
-    requires { ⌜ c < 8 ⌝ }
-    ensures { λ r. ⌜ (r .verdict ≡ Refused number c) × (r .count ≡ 0) ⌝ }
+fn refused(number: u8, component: usize) -> Scheduled
+    requires { ⌜ component < 8 ⌝ }
+    ensures { λ r. ⌜ (r .verdict ≡ Refused number component) × (r .count ≡ 0) ⌝ }
 {
     Scheduled {
-        verdict: Verdict::Refused(number, c as u8),
+        verdict: Verdict::Refused(number, component as u8),
         count: 0,
     }
 }
 
 // Clocks and variables start at 0, at the initial location.
-fn start_entry(s: &[u8], start: usize) -> Entry
-    requires { ⌜ start + 3 < length (now s) ⌝ }
-    ensures { λ r. ⌜ (r .location ≡ byte (now (s .entry)) (start + 3)) × (r .tick ≡ 0) × (r .clocks ≡ 0 ∷ 0 ∷ 0 ∷ 0 ∷ []) × (r .values ≡ pos 0 ∷ pos 0 ∷ pos 0 ∷ pos 0 ∷ []) ⌝ }
+fn start_entry(table: &[u8], start: usize) -> Entry
+    requires { ⌜ start + 3 < length (now table) ⌝ }
+    ensures { λ r. ⌜ (r .location ≡ byte (now (table .entry)) (start + 3)) × (r .tick ≡ 0) × (r .clocks ≡ 0 ∷ 0 ∷ 0 ∷ 0 ∷ []) × (r .values ≡ pos 0 ∷ pos 0 ∷ pos 0 ∷ pos 0 ∷ []) ⌝ }
 {
     let clocks = [0u32; 4];
     let values = [0i16; 4];
     Entry {
-        location: s[start + 3],
+        location: table[start + 3],
         tick: 0,
         clocks,
         values,
@@ -117,44 +117,44 @@ fn soonest(ends: &[u32], count: usize) -> usize
 }
 
 // Writes row n: the passage over that edge, entered there, with that link.
-fn put_opened(l: &mut [u32], n: usize, c: u8, at: Entry, t: TakenEdge, back: usize)
-    requires { ⌜ (n * 9 + 9 ≤ length (now l)) × (n < 1024) × (t .place < 65536) × (back < 65536) × (at .tick ≤ 60000) × (t .ready ≤ 65535) × (t .end ≤ 65535) ⌝ }
-    ensures { λ _. ⌜ now (l .exit) ≡ sets (now (l .entry)) (n * 9) (c ∷ t .edge ∷ at .location ∷ at .tick ∷ (at .tick + t .ready) ∷ (at .tick + t .end) ∷ 255 ∷ t .place ∷ back ∷ []) ⌝ }
+fn put_opened(rows: &mut [u32], row: usize, component: u8, at: Entry, taken: TakenEdge, back: usize)
+    requires { ⌜ (row * 9 + 9 ≤ length (now rows)) × (row < 1024) × (taken .place < 65536) × (back < 65536) × (at .tick ≤ 60000) × (taken .ready ≤ 65535) × (taken .end ≤ 65535) ⌝ }
+    ensures { λ _. ⌜ now (rows .exit) ≡ sets (now (rows .entry)) (row * 9) (component ∷ taken .edge ∷ at .location ∷ at .tick ∷ (at .tick + taken .ready) ∷ (at .tick + taken .end) ∷ 255 ∷ taken .place ∷ back ∷ []) ⌝ }
 {
     rows::put_row(
-        l,
-        n,
-        c,
-        t.edge,
+        rows,
+        row,
+        component,
+        taken.edge,
         at.location,
         at.tick,
-        at.tick + t.ready,
-        at.tick + t.end,
-        t.place,
+        at.tick + taken.ready,
+        at.tick + taken.end,
+        taken.place,
         back,
     );
 }
 
 // A passage of component c closes at its end: its message, where it leads to with that, and what opens there.
 fn next_turn(
-    s: &[u8],
-    l: &[u32],
-    n: usize,
+    table: &[u8],
+    rows: &[u32],
+    count: usize,
     start: usize,
-    c: u8,
+    component: u8,
     node: Node,
     end: u32,
-    h: u32,
+    horizon: u32,
     index: &[u16],
 ) -> Turn
-    requires { ⌜ RowsPlaced (now s) (now l) n × (start ≡ startOf (now s) c) × Stands (now l) n c node end × (end ≤ 60000) × Indexed (now s) (now index) c start ⌝ }
-    ensures { λ r. ⌜ Turned (now (s .entry)) (now (l .entry)) n c h node end r ⌝ }
+    requires { ⌜ RowsPlaced (now table) (now rows) count × (start ≡ startOf (now table) component) × Stands (now rows) count component node end × (end ≤ 60000) × Indexed (now table) (now index) component start ⌝ }
+    ensures { λ r. ⌜ Turned (now (table .entry)) (now (rows .entry)) count component horizon node end r ⌝ }
 {
     let place = node.place;
     let entry = node.entry;
-    let message = rows::message(s, l, n, node.row, h);
-    let at = window::leave(&s[place..], message, end, entry);
-    let opening = window::open(s, start, c, at, index);
+    let message = rows::message(table, rows, count, node.row, horizon);
+    let at = window::leave(&table[place..], message, end, entry);
+    let opening = window::open(table, start, component, at, index);
     Turn {
         message,
         at,
@@ -163,12 +163,12 @@ fn next_turn(
 }
 
 // What is kept of a passage over that edge, entered there, in that row.
-fn kept(at: Entry, t: TakenEdge, row: usize) -> Node
-    ensures { λ r. ⌜ r ≡ keptOf at t row ⌝ }
+fn kept(at: Entry, taken: TakenEdge, row: usize) -> Node
+    ensures { λ r. ⌜ r ≡ keptOf at taken row ⌝ }
 {
     Node {
         entry: at,
-        place: t.place,
+        place: taken.place,
         row,
     }
 }
@@ -190,47 +190,47 @@ fn no_node() -> Node {
 }
 
 // Notes the edges of all components by the location that they leave.
-fn index_edges(s: &[u8], starts: [u16; 8], index: &mut [u16])
-    requires { ⌜ Valid (now s) × (starts ≡ startsOf (now s) (byte (now s) 3)) × (640 ≤ length (now index)) × ((c q : ℕ) → c < 8 → q < 16 → firstFrom (now index) c q ≡ 32) ⌝ }
-    ensures { λ _. ⌜ EdgesIndexed (now (s .entry)) (now (index .exit)) ⌝ }
+fn index_edges(table: &[u8], starts: [u16; 8], index: &mut [u16])
+    requires { ⌜ Valid (now table) × (starts ≡ startsOf (now table) (byte (now table) 3)) × (640 ≤ length (now index)) × ((component q : ℕ) → component < 8 → q < 16 → firstFrom (now index) component q ≡ 32) ⌝ }
+    ensures { λ _. ⌜ EdgesIndexed (now (table .entry)) (now (index .exit)) ⌝ }
 {
-    let count = wide(s[3]);
-    let mut c: usize = 0;
-    while c < count {
-        window::index::put_edges(s, wide16(starts[c]), c, index);
-        c += 1;
+    let count = wide(table[3]);
+    let mut component: usize = 0;
+    while component < count {
+        window::index::put_edges(table, wide16(starts[component]), component, index);
+        component += 1;
     }
 }
 
 // The openings at tick 0, components 0 upward: rows 0 upward.
-fn begin(s: &[u8], starts: [u16; 8], l: &mut [u32], index: &[u16]) -> Opened
-    requires { ⌜ Valid (now s) × (starts ≡ startsOf (now s) (byte (now s) 3)) × (9216 ≤ length (now l)) × EdgesIndexed (now s) (now index) ⌝ }
-    ensures { λ r. ⌜ Begins (now (s .entry)) (now (l .exit)) r ⌝ }
+fn begin(table: &[u8], starts: [u16; 8], rows: &mut [u32], index: &[u16]) -> Opened
+    requires { ⌜ Valid (now table) × (starts ≡ startsOf (now table) (byte (now table) 3)) × (9216 ≤ length (now rows)) × EdgesIndexed (now table) (now index) ⌝ }
+    ensures { λ r. ⌜ Begins (now (table .entry)) (now (rows .exit)) r ⌝ }
 {
-    let count = wide(s[3]);
+    let count = wide(table[3]);
     let none = no_node();
     let mut nodes = [none; 8];
     let mut ends = [0u32; 8];
-    let mut c: usize = 0;
-    while c < count {
-        let start = wide16(starts[c]);
-        let at = start_entry(s, start);
-        let o = window::open(s, start, c as u8, at, index);
-        match o {
-            Opening::Fails(k) => {
+    let mut component: usize = 0;
+    while component < count {
+        let start = wide16(starts[component]);
+        let at = start_entry(table, start);
+        let opening = window::open(table, start, component as u8, at, index);
+        match opening {
+            Opening::Fails(number) => {
                 return Opened {
-                    verdict: Verdict::Refused(k, c as u8),
+                    verdict: Verdict::Refused(number, component as u8),
                     nodes,
                     ends,
                 };
             }
-            Opening::Opens(t) => {
-                put_opened(l, c, c as u8, at, t, c);
-                nodes[c] = kept(at, t, c);
-                ends[c] = at.tick + t.end;
+            Opening::Opens(taken) => {
+                put_opened(rows, component, component as u8, at, taken, component);
+                nodes[component] = kept(at, taken, component);
+                ends[component] = at.tick + taken.end;
             }
         }
-        c += 1;
+        component += 1;
     }
     Opened {
         verdict: Verdict::Accepted,
@@ -241,88 +241,103 @@ fn begin(s: &[u8], starts: [u16; 8], l: &mut [u32], index: &[u16]) -> Opened
 
 // While the least end of an open passage is below the horizon, that passage closes, gets its message, and its component's next opens.
 fn go_on(
-    s: &[u8],
+    table: &[u8],
     starts: [u16; 8],
-    l: &mut [u32],
+    rows: &mut [u32],
     from: [Node; 8],
     until: [u32; 8],
     index: &[u16],
 ) -> Scheduled
-    requires { ⌜ Valid (now s) × (starts ≡ startsOf (now s) (byte (now s) 3)) × (9216 ≤ length (now l)) × Started (now s) (now l) from until × EdgesIndexed (now s) (now index) ⌝ }
-    ensures { λ r. ⌜ Listed (now (s .entry)) (unfinished (now (s .entry))) r (now (l .exit)) ⌝ }
+    requires { ⌜ Valid (now table) × (starts ≡ startsOf (now table) (byte (now table) 3)) × (9216 ≤ length (now rows)) × Started (now table) (now rows) from until × EdgesIndexed (now table) (now index) ⌝ }
+    ensures { λ r. ⌜ Listed (now (table .entry)) (unfinished (now (table .entry))) r (now (rows .exit)) ⌝ }
 {
-    let count = wide(s[3]);
-    let h = wide32(parts::word_at(s, 5));
+    let count = wide(table[3]);
+    let horizon = wide32(parts::word_at(table, 5));
     let mut nodes = from;
     let mut ends = until;
-    let mut n = count;
+    let mut filled = count;
     loop {
-        let c = soonest(&ends, count);
-        let end = ends[c];
-        if h <= end {
-            return listed(n);
+        let component = soonest(&ends, count);
+        let end = ends[component];
+        if horizon <= end {
+            return listed(filled);
         }
-        if 1024 <= n {
-            return refused(7, c);
+        if 1024 <= filled {
+            return refused(7, component);
         }
-        let node = nodes[c];
-        let t = next_turn(s, l, n, wide16(starts[c]), c as u8, node, end, h, index);
-        let at = t.at;
-        let o = t.opening;
-        match o {
-            Opening::Fails(k) => {
-                return refused(k, c);
+        let node = nodes[component];
+        let turn = next_turn(
+            table,
+            rows,
+            filled,
+            wide16(starts[component]),
+            component as u8,
+            node,
+            end,
+            horizon,
+            index,
+        );
+        let at = turn.at;
+        let opening = turn.opening;
+        match opening {
+            Opening::Fails(number) => {
+                return refused(number, component);
             }
-            Opening::Opens(e) => {
-                let back = rows::open_before(l, n, at.tick + e.end + 1);
-                put_opened(l, n, c as u8, at, e, back);
-                rows::put_message(l, node.row, t.message);
-                nodes[c] = kept(at, e, n);
-                ends[c] = at.tick + e.end;
+            Opening::Opens(next) => {
+                let back = rows::open_before(rows, filled, at.tick + next.end + 1);
+                put_opened(rows, filled, component as u8, at, next, back);
+                rows::put_message(rows, node.row, turn.message);
+                nodes[component] = kept(at, next, filled);
+                ends[component] = at.tick + next.end;
             }
         }
-        n += 1;
+        filled += 1;
     }
 }
 
 // Makes the schedule (checks 7 to 9), messages included.
-pub fn schedule_rows(s: &[u8], starts: [u16; 8], l: &mut [u32]) -> Scheduled
-    requires { ⌜ Valid (now s) × (starts ≡ startsOf (now s) (byte (now s) 3)) × (9216 ≤ length (now l)) ⌝ }
-    ensures { λ r. ⌜ Filled (now (s .entry)) (scheduleOf (now (s .entry))) r (now (l .exit)) ⌝ }
+pub fn schedule_rows(table: &[u8], starts: [u16; 8], rows: &mut [u32]) -> Scheduled
+    requires { ⌜ Valid (now table) × (starts ≡ startsOf (now table) (byte (now table) 3)) × (9216 ≤ length (now rows)) ⌝ }
+    ensures { λ r. ⌜ Filled (now (table .entry)) (scheduleOf (now (table .entry))) r (now (rows .exit)) ⌝ }
 {
     let mut index = [32u16; 640];
-    index_edges(s, starts, &mut index);
-    let b = begin(s, starts, l, &index);
-    let v = b.verdict;
-    match v {
-        Verdict::Refused(k, c) => Scheduled {
-            verdict: Verdict::Refused(k, c),
+    index_edges(table, starts, &mut index);
+    let begun = begin(table, starts, rows, &index);
+    let verdict = begun.verdict;
+    match verdict {
+        Verdict::Refused(number, component) => Scheduled {
+            verdict: Verdict::Refused(number, component),
             count: 0,
         },
         Verdict::Accepted => {
-            let nodes = b.nodes;
-            let ends = b.ends;
-            let r = go_on(s, starts, l, nodes, ends, &index);
-            rows::put_messages(s, l, r.count, wide32(parts::word_at(s, 5)));
+            let nodes = begun.nodes;
+            let ends = begun.ends;
+            let r = go_on(table, starts, rows, nodes, ends, &index);
+            rows::put_messages(table, rows, r.count, wide32(parts::word_at(table, 5)));
             r
         }
     }
 }
 
 // The same with checks 10 to 12.
-pub fn plan_rows(s: &[u8], starts: [u16; 8], l: &mut [u32]) -> Scheduled
-    requires { ⌜ Valid (now s) × (starts ≡ startsOf (now s) (byte (now s) 3)) × (9216 ≤ length (now l)) ⌝ }
-    ensures { λ r. ⌜ Filled (now (s .entry)) (acceptedScheduleIn (now (s .entry))) r (now (l .exit)) ⌝ }
+pub fn plan_rows(table: &[u8], starts: [u16; 8], rows: &mut [u32]) -> Scheduled
+    requires { ⌜ Valid (now table) × (starts ≡ startsOf (now table) (byte (now table) 3)) × (9216 ≤ length (now rows)) ⌝ }
+    ensures { λ r. ⌜ Filled (now (table .entry)) (acceptedScheduleIn (now (table .entry))) r (now (rows .exit)) ⌝ }
 {
-    let r = schedule_rows(s, starts, l);
-    let v = r.verdict;
-    match v {
+    let r = schedule_rows(table, starts, rows);
+    let verdict = r.verdict;
+    match verdict {
         Verdict::Refused(_, _) => r,
         Verdict::Accepted => {
-            let w = checks::check_messages(s, l, r.count, wide32(parts::word_at(s, 5)));
-            match w {
-                Verdict::Refused(k, c) => Scheduled {
-                    verdict: Verdict::Refused(k, c),
+            let checked = checks::check_messages(
+                table,
+                rows,
+                r.count,
+                wide32(parts::word_at(table, 5)),
+            );
+            match checked {
+                Verdict::Refused(number, component) => Scheduled {
+                    verdict: Verdict::Refused(number, component),
                     count: 0,
                 },
                 Verdict::Accepted => r,
@@ -332,28 +347,28 @@ pub fn plan_rows(s: &[u8], starts: [u16; 8], l: &mut [u32]) -> Scheduled
 }
 
 // The seven fields of row i, as passage number k of the list.
-pub fn put_seven(l: &[u32], i: usize, out: &mut [u32], k: usize)
-    requires { ⌜ (i * 9 + 9 ≤ length (now l)) × (k * 7 + 7 ≤ length (now out)) × (k ≤ 1024) ⌝ }
-    ensures { λ _. ⌜ now (out .exit) ≡ sets (now (out .entry)) (k * 7) (sevenOf (rowPassage (now (l .entry)) i)) ⌝ }
+pub fn put_seven(rows: &[u32], i: usize, out: &mut [u32], k: usize)
+    requires { ⌜ (i * 9 + 9 ≤ length (now rows)) × (k * 7 + 7 ≤ length (now out)) × (k ≤ 1024) ⌝ }
+    ensures { λ _. ⌜ now (out .exit) ≡ sets (now (out .entry)) (k * 7) (sevenOf (rowPassage (now (rows .entry)) i)) ⌝ }
 {
     let at = k * 7;
-    out[at] = rows::number(l, i, rows::COMPONENT);
-    out[at + 1] = rows::number(l, i, rows::EDGE);
-    out[at + 2] = rows::number(l, i, rows::LOCATION);
-    out[at + 3] = rows::number(l, i, rows::ENTRY);
-    out[at + 4] = rows::number(l, i, rows::READY);
-    out[at + 5] = rows::number(l, i, rows::END);
-    out[at + 6] = rows::number(l, i, rows::MESSAGE);
+    out[at] = rows::number(rows, i, rows::COMPONENT);
+    out[at + 1] = rows::number(rows, i, rows::EDGE);
+    out[at + 2] = rows::number(rows, i, rows::LOCATION);
+    out[at + 3] = rows::number(rows, i, rows::ENTRY);
+    out[at + 4] = rows::number(rows, i, rows::READY);
+    out[at + 5] = rows::number(rows, i, rows::END);
+    out[at + 6] = rows::number(rows, i, rows::MESSAGE);
 }
 
 // Copies the seven fields of n rows; what lies past them stays.
-pub fn put_fields(l: &[u32], n: usize, out: &mut [u32])
-    requires { ⌜ (n * 9 ≤ length (now l)) × (n * 7 ≤ length (now out)) × (n ≤ 1024) ⌝ }
-    ensures { λ _. ⌜ now (out .exit) ≡ each sevenOf (rowsOf (now (l .entry)) n) ++ drop (n * 7) (now (out .entry)) ⌝ }
+pub fn put_fields(rows: &[u32], count: usize, out: &mut [u32])
+    requires { ⌜ (count * 9 ≤ length (now rows)) × (count * 7 ≤ length (now out)) × (count ≤ 1024) ⌝ }
+    ensures { λ _. ⌜ now (out .exit) ≡ each sevenOf (rowsOf (now (rows .entry)) count) ++ drop (count * 7) (now (out .entry)) ⌝ }
 {
     let mut i: usize = 0;
-    while i < n {
-        put_seven(l, i, out, i);
+    while i < count {
+        put_seven(rows, i, out, i);
         i += 1;
     }
 }

@@ -25,7 +25,7 @@ either-requires c κs = search needs
 returns : tie.Need-returns
 returns c =
     let a = c .before .before .before .before .before .before .before .args in
-    ends-sooner-is (a .l .now) (a .j) (a .b) (c .before .before .before .before .before .number .ensures) (c .before .before .before .before .number2 .ensures) (c .before .before .before .number3 .ensures) (c .before .before .number4 .ensures) (c .before .both .ensures) (c .either .ensures)
+    ends-sooner-is (a .rows .now) (a .j) (a .best) (c .before .before .before .before .before .number .ensures) (c .before .before .before .before .number2 .ensures) (c .before .before .before .number3 .ensures) (c .before .before .number4 .ensures) (c .before .both .ensures) (c .either .ensures)
 
 pub ends-sooner-spec : {M : Type 1} → statement M
 ends-sooner-spec =

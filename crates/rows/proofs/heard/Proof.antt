@@ -10,7 +10,7 @@ hears-requires : tie.Need-hears-requires
 hears-requires c κs =
     let e = c .before .before in
     let a = e .args in
-    (row-known (a .s .now) (a .l .now) (a .n) (a .i) (e .pre .0) (e .pre .1), row-known (a .s .now) (a .l .now) (a .n) (a .j) (e .pre .0) (e .pre .2))
+    (row-known (a .table .now) (a .rows .now) (a .count) (a .i) (e .pre .0) (e .pre .1), row-known (a .table .now) (a .rows .now) (a .count) (a .j) (e .pre .0) (e .pre .2))
 
 nearer-requires : tie.Need-nearer-requires
 nearer-requires c κs =
@@ -20,12 +20,12 @@ nearer-requires c κs =
 returns : tie.Need-returns
 returns c =
     let a = c .before .before .before .before .before .args in
-    row-heard (a .s .now) (a .l .now) (a .h) (a .i) (a .j) (bestOf (a .l .now) (a .n) (a .best)) _ (sym (c .before .before .hears .ensures) ∙ c .before .if1 .taken) (c .nearer .ensures)
+    row-heard (a .table .now) (a .rows .now) (a .horizon) (a .i) (a .j) (bestOf (a .rows .now) (a .count) (a .best)) _ (sym (c .before .before .hears .ensures) ∙ c .before .if1 .taken) (c .nearer .ensures)
 
 returns-2 : tie.Need-returns-2
 returns-2 c =
     let a = c .before .before .before .before .args in
-    row-unheard (a .s .now) (a .l .now) (a .h) (a .i) (a .j) (bestOf (a .l .now) (a .n) (a .best)) (sym (c .before .hears .ensures) ∙ c .if1 .left)
+    row-unheard (a .table .now) (a .rows .now) (a .horizon) (a .i) (a .j) (bestOf (a .rows .now) (a .count) (a .best)) (sym (c .before .hears .ensures) ∙ c .if1 .left)
 
 pub heard-spec : {M : Type 1} → statement M
 heard-spec = tie.close (tie.spec hears-requires nearer-requires returns returns-2)

@@ -10,7 +10,7 @@ hears-requires : tie.Need-hears-requires
 hears-requires c κs =
     let e = c .before .before in
     let a = e .args in
-    (row-known (a .s .now) (a .l .now) (a .n) (a .i) (e .pre .0) (e .pre .1), row-known (a .s .now) (a .l .now) (a .n) (a .j) (e .pre .0) (e .pre .2))
+    (row-known (a .table .now) (a .rows .now) (a .count) (a .i) (e .pre .0) (e .pre .1), row-known (a .table .now) (a .rows .now) (a .count) (a .j) (e .pre .0) (e .pre .2))
 
 nearer-before-requires : tie.Need-nearer-before-requires
 nearer-before-requires c κs =
@@ -20,12 +20,12 @@ nearer-before-requires c κs =
 returns : tie.Need-returns
 returns c =
     let a = c .before .before .before .before .before .args in
-    first-heard (a .s .now) (a .l .now) (a .h) (a .i) (a .j) (bestOf (a .l .now) (a .n) (a .best)) _ (sym (c .before .before .hears .ensures) ∙ c .before .if1 .taken) (c .nearer-before .ensures)
+    first-heard (a .table .now) (a .rows .now) (a .horizon) (a .i) (a .j) (bestOf (a .rows .now) (a .count) (a .best)) _ (sym (c .before .before .hears .ensures) ∙ c .before .if1 .taken) (c .nearer-before .ensures)
 
 returns-2 : tie.Need-returns-2
 returns-2 c =
     let a = c .before .before .before .before .args in
-    first-unheard (a .s .now) (a .l .now) (a .h) (a .i) (a .j) (bestOf (a .l .now) (a .n) (a .best)) (sym (c .before .hears .ensures) ∙ c .if1 .left)
+    first-unheard (a .table .now) (a .rows .now) (a .horizon) (a .i) (a .j) (bestOf (a .rows .now) (a .count) (a .best)) (sym (c .before .hears .ensures) ∙ c .if1 .left)
 
 pub heard-before-spec : {M : Type 1} → statement M
 heard-before-spec = tie.close (tie.spec hears-requires nearer-before-requires returns returns-2)

@@ -16,7 +16,7 @@ in-time-requires c κs =
 returns : tie.Need-returns
 returns c =
     let e = c .before .before .before .before in
-    not-in-time (readOf (e .args .s .now) .table) (e .args .h) (rowPassage (e .args .l .now) (e .args .i)) (rowPassage (e .args .l .now) (e .args .j)) (sym (c .before .in-time .ensures) ∙ not-true _ (c .if1 .taken))
+    not-in-time (readOf (e .args .table .now) .table) (e .args .horizon) (rowPassage (e .args .rows .now) (e .args .i)) (rowPassage (e .args .rows .now) (e .args .j)) (sym (c .before .in-time .ensures) ∙ not-true _ (c .if1 .taken))
 
 row-sent-requires : tie.Need-row-sent-requires
 row-sent-requires c κs = c .before .before .before .before .pre .1
@@ -27,7 +27,7 @@ row-lists-requires c κs = c .before .before .before .before .before .pre .0
 returns-2 : tie.Need-returns-2
 returns-2 c =
     let e = c .before .before .before .before .before .before in
-    heard-in-time (readOf (e .args .s .now) .table) (e .args .h) (rowPassage (e .args .l .now) (e .args .i)) (rowPassage (e .args .l .now) (e .args .j)) (c .row-lists .result) (sym (c .before .before .before .in-time .ensures) ∙ not-false _ (c .before .before .if1 .left)) (c .row-lists .ensures ∙ ap (names (passageArc (readOf (e .args .s .now) .table) (rowPassage (e .args .l .now) (e .args .i)))) (c .before .row-sent .ensures))
+    heard-in-time (readOf (e .args .table .now) .table) (e .args .horizon) (rowPassage (e .args .rows .now) (e .args .i)) (rowPassage (e .args .rows .now) (e .args .j)) (c .row-lists .result) (sym (c .before .before .before .in-time .ensures) ∙ not-false _ (c .before .before .if1 .left)) (c .row-lists .ensures ∙ ap (names (passageArc (readOf (e .args .table .now) .table) (rowPassage (e .args .rows .now) (e .args .i)))) (c .before .row-sent .ensures))
 
 pub hears-spec : {M : Type 1} → statement M
 hears-spec =

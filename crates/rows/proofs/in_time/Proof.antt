@@ -34,7 +34,7 @@ both-requires-3 c κs = search needs
 returns : tie.Need-returns
 returns c =
     let a = c .before .before .before .before .before .before .before .before .before .before .args in
-    in-time-is (a .l .now) (a .i) (a .j) (a .h) (c .before .before .before .before .before .before .before .before .number .ensures) (c .before .before .before .before .before .before .before .number2 .ensures) (c .before .before .before .before .before .before .both .ensures)
+    in-time-is (a .rows .now) (a .i) (a .j) (a .horizon) (c .before .before .before .before .before .before .before .before .number .ensures) (c .before .before .before .before .before .before .before .number2 .ensures) (c .before .before .before .before .before .before .both .ensures)
     (c .before .before .before .before .before .number3 .ensures) (c .before .before .before .before .number4 .ensures) (c .before .before .before .both2 .ensures) (c .before .before .number5 .ensures) (c .before .number6 .ensures) (c .both3 .ensures)
 
 pub in-time-spec : {M : Type 1} → statement M

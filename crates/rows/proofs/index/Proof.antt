@@ -18,7 +18,7 @@ shared-slice-read-result : tie.Need-shared-slice-read-result
 shared-slice-read-result c = search needs
 
 cast-result : tie.Need-cast-result
-cast-result c = omega (arith, c .shared-slice-known .given (c .before .args .i * 9 + c .before .args .k))
+cast-result c = omega (arith, c .shared-slice-known .given (c .before .args .i * 9 + c .before .args .field))
 
 returns : tie.Need-returns
 returns c = search needs

@@ -21,7 +21,7 @@ abbrev μ-loop : tie.MeasureT-loop
 returns : tie.Need-returns Inv-loop μ-loop
 returns c =
     let e = c .before .before in
-    lists-none (e .args .h .now) (e .args .channel) (c .if1 .taken)
+    lists-none (e .args .edge .now) (e .args .channel) (c .if1 .taken)
 
 action-at-requires : tie.Need-action-at-requires Inv-loop μ-loop
 action-at-requires c κs = search needs
@@ -32,7 +32,7 @@ enum-told c = search needs
 returns-2 : tie.Need-returns-2 Inv-loop μ-loop
 returns-2 c =
     let e = c .before .before .before .before .before in
-    lists-nothing (messageOf (e .args .channel)) (e .args .h .now) (internal-pairs (e .args .h .now) (sym (c .enum-told .given .1) ∙ c .before .before .action-at .ensures))
+    lists-nothing (messageOf (e .args .channel)) (e .args .edge .now) (internal-pairs (e .args .edge .now) (sym (c .enum-told .given .1) ∙ c .before .before .action-at .ensures))
 
 enum-told-2 : tie.Need-enum-told-2 Inv-loop μ-loop
 enum-told-2 c = search needs
@@ -40,7 +40,7 @@ enum-told-2 c = search needs
 returns-3 : tie.Need-returns-3 Inv-loop μ-loop
 returns-3 c =
     let e = c .before .before .before .before .before in
-    lists-nothing (messageOf (e .args .channel)) (e .args .h .now) (send-pairs (e .args .h .now) _ (sym (c .enum-told2 .given .1) ∙ c .before .before .action-at .ensures))
+    lists-nothing (messageOf (e .args .channel)) (e .args .edge .now) (send-pairs (e .args .edge .now) _ (sym (c .enum-told2 .given .1) ∙ c .before .before .action-at .ensures))
 
 enum-told-3 : tie.Need-enum-told-3 Inv-loop μ-loop
 enum-told-3 c = search needs
@@ -56,7 +56,7 @@ loop-holds c =
     let e = c .before .before .before .before .before .before .before in
     let p = c .before .items-place .ensures in
     let receive = sym (c .before .before .enum-told3 .given .1) ∙ c .before .before .before .before .action-at .ensures in
-    (omega (arith, p, lists-within (e .args .h .now) (e .pre) receive), lists-start (e .args .h .now) (e .args .channel) (c .before .items-place .result) (c .before .before .before .before .before .if1 .left) receive p)
+    (omega (arith, p, lists-within (e .args .edge .now) (e .pre) receive), lists-start (e .args .edge .now) (e .args .channel) (c .before .items-place .result) (c .before .before .before .before .before .if1 .left) receive p)
 
 shared-slice-read-if2 : tie.Need-shared-slice-read-if2 Inv-loop μ-loop
 shared-slice-read-if2 c = search needs
@@ -65,7 +65,7 @@ returns-4 : tie.Need-returns-4 Inv-loop μ-loop
 returns-4 c =
     let a = c .before .before .before .before .before .before .before .before .before .before .before .args in
     let l = c .before .before .before .loop in
-    lists-found (a .h .now) (a .channel) (l .at) (l .k) _ (c .before .before .loop-test .taken) (c .if2 .taken) (l .inv .1)
+    lists-found (a .edge .now) (a .channel) (l .at) (l .k) _ (c .before .before .loop-test .taken) (c .if2 .taken) (l .inv .1)
 
 add-at : tie.Need-add-at Inv-loop μ-loop
 add-at c = search needs
@@ -80,13 +80,13 @@ loop-again : tie.Need-loop-again Inv-loop μ-loop
 loop-again c =
     let a = c .before .before .before .before .before .before .before .before .before .before .before .args in
     let l = c .before .before .before .loop in
-    (omega arith, lists-turn (a .h .now) (a .channel) (l .at) (l .k) _ (c .before .before .loop-test .taken) (c .if2 .left) (l .inv .1))
+    (omega arith, lists-turn (a .edge .now) (a .channel) (l .at) (l .k) _ (c .before .before .loop-test .taken) (c .if2 .left) (l .inv .1))
 
 returns-5 : tie.Need-returns-5 Inv-loop μ-loop
 returns-5 c =
     let a = c .before .before .before .before .before .before .before .before .before .args in
     let l = c .before .loop in
-    lists-done (a .h .now) (a .channel) (l .at) (l .k) _ (c .loop-test .left) (l .inv .1)
+    lists-done (a .edge .now) (a .channel) (l .at) (l .k) _ (c .loop-test .left) (l .inv .1)
 
 pub lists-spec : {M : Type 1} → statement M
 lists-spec =

@@ -42,7 +42,7 @@ loop-again c =
     let l = c .before .before .before .before .loop in
     let there : l .k - 1 < a .j = omega (arith, c .before .before .before .loop-test .taken, l .inv .0) in
     let back = c .before .before .before .before .before .before .pre .back (l .k - 1) there in
-    (omega (arith, c .index .ensures, back, there), passed-over (a .l .now) (a .j) (l .k - 1) (c .index .result) (a .tick) (c .before .before .before .before .before .before .pre) there (c .index .ensures) (omega (arith, c .before .if1 .left, c .before .before .number .ensures)) (λ i x y. l .inv .1 i (omega (arith, c .before .before .before .loop-test .taken)) y))
+    (omega (arith, c .index .ensures, back, there), passed-over (a .rows .now) (a .j) (l .k - 1) (c .index .result) (a .tick) (c .before .before .before .before .before .before .pre) there (c .index .ensures) (omega (arith, c .before .if1 .left, c .before .before .number .ensures)) (λ i x y. l .inv .1 i (omega (arith, c .before .before .before .loop-test .taken)) y))
 
 returns-2 : tie.Need-returns-2 Inv-loop μ-loop
 returns-2 c = c .before .loop .inv

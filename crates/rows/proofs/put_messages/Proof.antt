@@ -15,7 +15,7 @@ abbrev μ-loop : tie.MeasureT-loop
 loop-holds : tie.Need-loop-holds Inv-loop μ-loop
 loop-holds c =
     let a = c .before .before .args in
-    (omega arith, put-none (a .s .now) (a .h) (a .n) (a .l .now))
+    (omega arith, put-none (a .table .now) (a .horizon) (a .count) (a .rows .now))
 
 message-then-requires : tie.Need-message-then-requires Inv-loop μ-loop
 message-then-requires c κs =
@@ -23,26 +23,26 @@ message-then-requires c κs =
     let a = e .args in
     let l = c .before .before .loop in
     let h = c .before .loop-test .taken in (
-      still-placed (a .s .now) (a .h) (a .n) (a .l .now) (l .l) (l .i) (e .pre .0) (l .inv .1),
+      still-placed (a .table .now) (a .horizon) (a .count) (a .rows .now) (l .rows) (l .i) (e .pre .0) (l .inv .1),
       h,
-      still-told (a .s .now) (a .h) (a .n) (a .l .now) (l .l) (l .i) (e .pre .0) (l .inv .1) h (e .pre .1 (l .i) h),
+      still-told (a .table .now) (a .horizon) (a .count) (a .rows .now) (l .rows) (l .i) (e .pre .0) (l .inv .1) h (e .pre .1 (l .i) h),
     )
 
-mul-l : tie.Need-mul-l Inv-loop μ-loop
-mul-l c = omega (arith, c .before .before .before .before .before .before .pre .0 .few)
+mul-rows : tie.Need-mul-rows Inv-loop μ-loop
+mul-rows c = omega (arith, c .before .before .before .before .before .before .pre .0 .few)
 
-add-l : tie.Need-add-l Inv-loop μ-loop
-add-l c = omega (arith, c .before .before .before .before .before .before .pre .0 .few)
+add-rows : tie.Need-add-rows Inv-loop μ-loop
+add-rows c = omega (arith, c .before .before .before .before .before .before .pre .0 .few)
 
-mul-l-2 : tie.Need-mul-l-2 Inv-loop μ-loop
-mul-l-2 c = omega (arith, c .before .before .before .before .before .before .pre .0 .few)
+mul-rows-2 : tie.Need-mul-rows-2 Inv-loop μ-loop
+mul-rows-2 c = omega (arith, c .before .before .before .before .before .before .pre .0 .few)
 
-slice-write-l : tie.Need-slice-write-l Inv-loop μ-loop
-slice-write-l c =
+slice-write-rows : tie.Need-slice-write-rows Inv-loop μ-loop
+slice-write-rows c =
     let e = c .before .before .before .before .before .before in
     let a = e .args in
     let l = c .before .before .before .loop in
-    put-within (a .s .now) (a .h) (a .n) (a .l .now) (l .l) (l .i) (e .pre .0) (l .inv .1) (c .before .before .loop-test .taken)
+    put-within (a .table .now) (a .horizon) (a .count) (a .rows .now) (l .rows) (l .i) (e .pre .0) (l .inv .1) (c .before .before .loop-test .taken)
 
 add-i : tie.Need-add-i Inv-loop μ-loop
 add-i c = omega (arith, c .before .before .before .before .before .before .pre .0 .few)
@@ -55,7 +55,7 @@ loop-again c =
     let e = c .before .before .before .before .before .before in
     let a = e .args in
     let l = c .before .before .before .loop in
-    (omega arith, put-turn (a .s .now) (a .h) (a .n) (a .l .now) (l .l) (l .i) (e .pre .0) (l .inv .1) (c .message-then .result) (c .before .before .loop-test .taken) (c .message-then .ensures))
+    (omega arith, put-turn (a .table .now) (a .horizon) (a .count) (a .rows .now) (l .rows) (l .i) (e .pre .0) (l .inv .1) (c .message-then .result) (c .before .before .loop-test .taken) (c .message-then .ensures))
 
 same-length : tie.Need-same-length Inv-loop μ-loop
 same-length c = c .before .loop .inv .1 .same
@@ -65,7 +65,7 @@ returns c =
     let e = c .before .before .before .before in
     let a = e .args in
     let l = c .before .loop in
-    put-all (a .s .now) (a .h) (a .n) (a .l .now) (l .l) (l .i) (e .pre .0) (l .inv .1) (c .loop-test .left)
+    put-all (a .table .now) (a .horizon) (a .count) (a .rows .now) (l .rows) (l .i) (e .pre .0) (l .inv .1) (c .loop-test .left)
 
 pub put-messages-spec : {M : Type 1} → statement M
 put-messages-spec =
@@ -75,10 +75,10 @@ put-messages-spec =
     μ-loop
     loop-holds
     message-then-requires
-    mul-l
-    add-l
-    mul-l-2
-    slice-write-l
+    mul-rows
+    add-rows
+    mul-rows-2
+    slice-write-rows
     add-i
     loop-less
     loop-again

@@ -15,12 +15,12 @@ index-requires c κs = search needs
 sub-lists : tie.Need-sub-lists
 sub-lists c =
     let e = c .before .before .before in
-    omega (arith, at-within (e .args .s .now) (e .args .l .now) (e .args .i) (c .index .result) (c .before .before .shared-slice-known .given) (e .pre) (c .index .ensures))
+    omega (arith, at-within (e .args .table .now) (e .args .rows .now) (e .args .i) (c .index .result) (c .before .before .shared-slice-known .given) (e .pre) (c .index .ensures))
 
 part-lists-start : tie.Need-part-lists-start
 part-lists-start c =
     let e = c .before .before .before in
-    omega (arith, at-within (e .args .s .now) (e .args .l .now) (e .args .i) (c .index .result) (c .before .before .shared-slice-known .given) (e .pre) (c .index .ensures))
+    omega (arith, at-within (e .args .table .now) (e .args .rows .now) (e .args .i) (c .index .result) (c .before .before .shared-slice-known .given) (e .pre) (c .index .ensures))
 
 part-lists-end : tie.Need-part-lists-end
 part-lists-end c = search needs
@@ -28,12 +28,12 @@ part-lists-end c = search needs
 lists-requires : tie.Need-lists-requires
 lists-requires c κs =
     let e = c .before .before .before .before in
-    at-stands (e .args .s .now) (e .args .l .now) (e .args .i) (c .before .index .result) (c .before .before .before .shared-slice-known .given) (e .pre) (c .before .index .ensures)
+    at-stands (e .args .table .now) (e .args .rows .now) (e .args .i) (c .before .index .result) (c .before .before .before .shared-slice-known .given) (e .pre) (c .before .index .ensures)
 
 returns : tie.Need-returns
 returns c =
     let e = c .before .before .before .before .before in
-    c .lists .ensures ∙ ap (λ (a : Arc). names a (messageOf (e .args .channel))) (at-arc (e .args .s .now) (e .args .l .now) (e .args .i) (c .before .before .index .result) (c .before .before .before .before .shared-slice-known .given) (e .pre) (c .before .before .index .ensures))
+    c .lists .ensures ∙ ap (λ (a : Arc). names a (messageOf (e .args .channel))) (at-arc (e .args .table .now) (e .args .rows .now) (e .args .i) (c .before .before .index .result) (c .before .before .before .before .shared-slice-known .given) (e .pre) (c .before .before .index .ensures))
 
 pub row-lists-spec : {M : Type 1} → statement M
 row-lists-spec =

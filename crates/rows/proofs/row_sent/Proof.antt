@@ -13,12 +13,12 @@ index-requires c κs = search needs
 sub-sent : tie.Need-sub-sent
 sub-sent c =
     let e = c .before .before .before in
-    omega (arith, at-within (e .args .s .now) (e .args .l .now) (e .args .i) (c .index .result) (c .before .before .shared-slice-known .given) (e .pre) (c .index .ensures))
+    omega (arith, at-within (e .args .table .now) (e .args .rows .now) (e .args .i) (c .index .result) (c .before .before .shared-slice-known .given) (e .pre) (c .index .ensures))
 
 part-sent-start : tie.Need-part-sent-start
 part-sent-start c =
     let e = c .before .before .before in
-    omega (arith, at-within (e .args .s .now) (e .args .l .now) (e .args .i) (c .index .result) (c .before .before .shared-slice-known .given) (e .pre) (c .index .ensures))
+    omega (arith, at-within (e .args .table .now) (e .args .rows .now) (e .args .i) (c .index .result) (c .before .before .shared-slice-known .given) (e .pre) (c .index .ensures))
 
 part-sent-end : tie.Need-part-sent-end
 part-sent-end c = search needs
@@ -26,12 +26,12 @@ part-sent-end c = search needs
 sent-requires : tie.Need-sent-requires
 sent-requires c κs =
     let e = c .before .before .before .before in
-    at-stands (e .args .s .now) (e .args .l .now) (e .args .i) (c .before .index .result) (c .before .before .before .shared-slice-known .given) (e .pre) (c .before .index .ensures)
+    at-stands (e .args .table .now) (e .args .rows .now) (e .args .i) (c .before .index .result) (c .before .before .before .shared-slice-known .given) (e .pre) (c .before .index .ensures)
 
 returns : tie.Need-returns
 returns c =
     let e = c .before .before .before .before .before in
-    c .sent .ensures ∙ ap channelOf (at-arc (e .args .s .now) (e .args .l .now) (e .args .i) (c .before .before .index .result) (c .before .before .before .before .shared-slice-known .given) (e .pre) (c .before .before .index .ensures))
+    c .sent .ensures ∙ ap channelOf (at-arc (e .args .table .now) (e .args .rows .now) (e .args .i) (c .before .before .index .result) (c .before .before .before .before .shared-slice-known .given) (e .pre) (c .before .before .index .ensures))
 
 pub row-sent-spec : {M : Type 1} → statement M
 row-sent-spec =

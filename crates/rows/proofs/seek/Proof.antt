@@ -30,7 +30,7 @@ loop-holds : tie.Need-loop-holds Inv-loop μ-loop
 loop-holds c =
     let e = c .before .before .before .before in
     let a = e .args in
-    (omega (arith, e .pre .1), from-row (a .s .now) (a .l .now) (a .n) (a .i) (a .h) (e .pre .0) (e .pre .1) (bestOf (a .l .now) (a .n) (c .seek-before .result)) (c .seek-before .ensures))
+    (omega (arith, e .pre .1), from-row (a .table .now) (a .rows .now) (a .count) (a .i) (a .horizon) (e .pre .0) (e .pre .1) (bestOf (a .rows .now) (a .count) (c .seek-before .result)) (c .seek-before .ensures))
 
 number-requires-2 : tie.Need-number-requires-2 Inv-loop μ-loop
 number-requires-2 c κs =
@@ -42,7 +42,7 @@ returns c =
     let e = c .before .before .before .before .before .before .before .before in
     let a = e .args in
     let l = c .before .before .before .loop in
-    stop (a .s .now) (a .l .now) (a .n) (a .i) (a .h) (e .pre .0) (e .pre .1) (l .j) (bestOf (a .l .now) (a .n) (l .best)) _ (omega (arith, e .pre .1)) (omega (arith, c .before .before .before .before .before .number .ensures, c .before .number2 .ensures)) (l .inv .1)
+    stop (a .table .now) (a .rows .now) (a .count) (a .i) (a .horizon) (e .pre .0) (e .pre .1) (l .j) (bestOf (a .rows .now) (a .count) (l .best)) _ (omega (arith, e .pre .1)) (omega (arith, c .before .before .before .before .before .number .ensures, c .before .number2 .ensures)) (l .inv .1)
 
 heard-requires : tie.Need-heard-requires Inv-loop μ-loop
 heard-requires c κs =
@@ -62,14 +62,14 @@ loop-again c =
     let e = c .before .before .before .before .before .before .before .before .before in
     let a = e .args in
     let l = c .before .before .before .before .loop in
-    (omega (arith, e .pre .1), turn (a .s .now) (a .l .now) (a .n) (a .i) (a .h) (e .pre .0) (e .pre .1) (l .j) (bestOf (a .l .now) (a .n) (l .best)) (bestOf (a .l .now) (a .n) (c .heard .result)) _ (omega (arith, e .pre .1)) (c .heard .ensures) (l .inv .1))
+    (omega (arith, e .pre .1), turn (a .table .now) (a .rows .now) (a .count) (a .i) (a .horizon) (e .pre .0) (e .pre .1) (l .j) (bestOf (a .rows .now) (a .count) (l .best)) (bestOf (a .rows .now) (a .count) (c .heard .result)) _ (omega (arith, e .pre .1)) (c .heard .ensures) (l .inv .1))
 
 returns-2 : tie.Need-returns-2 Inv-loop μ-loop
 returns-2 c =
     let e = c .before .before .before .before .before .before in
     let a = e .args in
     let l = c .before .loop in
-    done (a .s .now) (a .l .now) (a .n) (a .i) (a .h) (e .pre .0) (e .pre .1) (l .j) (bestOf (a .l .now) (a .n) (l .best)) _ (omega arith) (l .inv .1)
+    done (a .table .now) (a .rows .now) (a .count) (a .i) (a .horizon) (e .pre .0) (e .pre .1) (l .j) (bestOf (a .rows .now) (a .count) (l .best)) _ (omega arith) (l .inv .1)
 
 pub seek-spec : {M : Type 1} → statement M
 seek-spec =

@@ -28,7 +28,7 @@ loop-holds c =
     let e = c .before .before .before .before in
     let a = e .args in
     let r = c .open-before in
-    (r .ensures .0, back-start (a .s .now) (a .l .now) (a .n) (a .i) (a .h) (e .pre .0) (e .pre .1) (r .result) (r .ensures .0) (λ t x y. omega (arith, r .ensures .1 t x y, c .before .number .ensures)) ∙ sym (none-best (a .l .now) (a .n) (a .n) (omega arith)))
+    (r .ensures .0, back-start (a .table .now) (a .rows .now) (a .count) (a .i) (a .horizon) (e .pre .0) (e .pre .1) (r .result) (r .ensures .0) (λ t x y. omega (arith, r .ensures .1 t x y, c .before .number .ensures)) ∙ sym (none-best (a .rows .now) (a .count) (a .count) (omega arith)))
 
 sub-k : tie.Need-sub-k Inv-loop μ-loop
 sub-k c = omega (arith, c .loop-test .taken)
@@ -50,9 +50,9 @@ loop-again c =
     let r = c .open-before2 in
     let k = l .j - 1 in
     let z : l .j ≡ k + 1 = omega (arith, c .before .before .loop-test .taken) in
-    let p = heardBy (readOf (a .s .now) .table) (a .h) (rowPassage (a .l .now) (a .i)) in
-    let q = subst (λ (m : ℕ). earliest p (rowsFrom (a .l .now) m (a .i - m)) none ≡ bestOf (a .l .now) (a .n) (l .best)) z (l .inv .1) in
-    (omega (arith, r .ensures .0, l .inv .0), back-turn (a .s .now) (a .l .now) (a .n) (a .i) (a .h) (e .pre .0) (e .pre .1) (r .result) k (bestOf (a .l .now) (a .n) (l .best)) (bestOf (a .l .now) (a .n) (c .before .heard-before .result)) (omega (arith, c .before .before .loop-test .taken, l .inv .0)) (r .ensures .0) (λ t x y. omega (arith, r .ensures .1 t x y, c .before .before .before .before .before .number .ensures)) q (c .before .heard-before .ensures))
+    let p = heardBy (readOf (a .table .now) .table) (a .horizon) (rowPassage (a .rows .now) (a .i)) in
+    let q = subst (λ (m : ℕ). earliest p (rowsFrom (a .rows .now) m (a .i - m)) none ≡ bestOf (a .rows .now) (a .count) (l .best)) z (l .inv .1) in
+    (omega (arith, r .ensures .0, l .inv .0), back-turn (a .table .now) (a .rows .now) (a .count) (a .i) (a .horizon) (e .pre .0) (e .pre .1) (r .result) k (bestOf (a .rows .now) (a .count) (l .best)) (bestOf (a .rows .now) (a .count) (c .before .heard-before .result)) (omega (arith, c .before .before .loop-test .taken, l .inv .0)) (r .ensures .0) (λ t x y. omega (arith, r .ensures .1 t x y, c .before .before .before .before .before .number .ensures)) q (c .before .heard-before .ensures))
 
 returns : tie.Need-returns Inv-loop μ-loop
 returns c =
@@ -60,8 +60,8 @@ returns c =
     let l = c .before .loop in
     let z : l .j ≡ 0 = omega (arith, c .loop-test .left) in
     let i : a .i - 0 ≡ a .i = omega arith in
-    let p = heardBy (readOf (a .s .now) .table) (a .h) (rowPassage (a .l .now) (a .i)) in
-    sym (subst (λ (m : ℕ). earliest p (rowsFrom (a .l .now) 0 m) none ≡ bestOf (a .l .now) (a .n) (l .best)) i (subst (λ (m : ℕ). earliest p (rowsFrom (a .l .now) m (a .i - m)) none ≡ bestOf (a .l .now) (a .n) (l .best)) z (l .inv .1)))
+    let p = heardBy (readOf (a .table .now) .table) (a .horizon) (rowPassage (a .rows .now) (a .i)) in
+    sym (subst (λ (m : ℕ). earliest p (rowsFrom (a .rows .now) 0 m) none ≡ bestOf (a .rows .now) (a .count) (l .best)) i (subst (λ (m : ℕ). earliest p (rowsFrom (a .rows .now) m (a .i - m)) none ≡ bestOf (a .rows .now) (a .count) (l .best)) z (l .inv .1)))
 
 pub seek-before-spec : {M : Type 1} → statement M
 seek-before-spec =

@@ -23,7 +23,7 @@ abbrev μ-loop : tie.MeasureT-loop
 μ-loop s l₀ index starts count nodes₀ ends₀ c₀ l nodes ends c = count - c
 
 shared-slice-read-wide : tie.Need-shared-slice-read-wide Inv-loop μ-loop
-shared-slice-read-wide c = let e = c .before .before .before .before in omega (arith, header (e .args .s .now) (c .shared-slice-known3 .given) (e .pre .0))
+shared-slice-read-wide c = let e = c .before .before .before .before in omega (arith, header (e .args .table .now) (c .shared-slice-known3 .given) (e .pre .0))
 
 wide-requires : tie.Need-wide-requires Inv-loop μ-loop
 wide-requires c κs = search needs
@@ -34,10 +34,10 @@ no-node-requires c κs = search needs
 loop-holds : tie.Need-loop-holds Inv-loop μ-loop
 loop-holds c =
     let e = c .before .before .before .before .before .before in
-    let s = e .args .s .now in
+    let s = e .args .table .now in
     let b = c .before .before .shared-slice-known3 .given in
     let n : c .before .wide .result ≡ size (readOf s .table) = c .before .wide .ensures .0 ∙ counted s b (e .pre .0) in
-    (omega arith, n, omega (arith, n, few-components s b (e .pre .0)), refl, refl, refl, begin-first s (e .args .l .now) _ _ (e .pre .0))
+    (omega arith, n, omega (arith, n, few-components s b (e .pre .0)), refl, refl, refl, begin-first s (e .args .rows .now) _ _ (e .pre .0))
 
 mul-wide16 : tie.Need-mul-wide16 Inv-loop μ-loop
 mul-wide16 c = search needs
@@ -49,30 +49,30 @@ wide16-requires : tie.Need-wide16-requires Inv-loop μ-loop
 wide16-requires c κs = search needs
 
 -- the component is there
-there : (c : tie.In-loop Inv-loop μ-loop) → c .before .loop .c < size (readOf (c .before .before .before .before .before .before .before .before .args .s .now) .table)
+there : (c : tie.In-loop Inv-loop μ-loop) → c .before .loop .component < size (readOf (c .before .before .before .before .before .before .before .before .args .table .now) .table)
 there c = omega (arith, c .loop-test .taken, c .before .loop .inv .1)
 
 -- where it starts
-start-is : (c : tie.After-wide16 Inv-loop μ-loop) → c .wide16 .result ≡ startOf (c .before .before .before .before .before .before .before .before .before .args .s .now) (c .before .before .loop .c)
+start-is : (c : tie.After-wide16 Inv-loop μ-loop) → c .wide16 .result ≡ startOf (c .before .before .before .before .before .before .before .before .before .args .table .now) (c .before .before .loop .component)
 start-is c =
     let e = c .before .before .before .before .before .before .before .before .before in
-    start-read (e .args .s .now) (c .before .before .before .before .before .before .before .before .shared-slice-known .given) (e .pre .0) (e .args .t2) (c .before .before .loop .c) (c .wide16 .result)
+    start-read (e .args .table .now) (c .before .before .before .before .before .before .before .before .shared-slice-known .given) (e .pre .0) (e .args .t2) (c .before .before .loop .component) (c .wide16 .result)
     (e .pre .1) (there (c .before)) (c .wide16 .ensures .0)
 
 start-entry-requires : tie.Need-start-entry-requires Inv-loop μ-loop
 start-entry-requires c κs =
     let e = c .before .before .before .before .before .before .before .before .before in
-    omega (arith, start-fits (e .args .s .now) (c .before .before .before .before .before .before .before .before .shared-slice-known .given) (e .pre .0) (c .before .before .loop .c) (c .wide16 .result) (there (c .before)) (start-is c))
+    omega (arith, start-fits (e .args .table .now) (c .before .before .before .before .before .before .before .before .shared-slice-known .given) (e .pre .0) (c .before .before .loop .component) (c .wide16 .result) (there (c .before)) (start-is c))
 
 cast-open : tie.Need-cast-open Inv-loop μ-loop
 cast-open c = search needs
 
 -- its initial location
 location-is : (c : tie.After-start-entry Inv-loop μ-loop)
-    → c .start-entry .result .location ≡ componentIn (c .before .before .before .before .before .before .before .before .before .before .args .s .now) (c .before .before .before .loop .c) .initial
+    → c .start-entry .result .location ≡ componentIn (c .before .before .before .before .before .before .before .before .before .before .args .table .now) (c .before .before .before .loop .component) .initial
 location-is c =
     let e = c .before .before .before .before .before .before .before .before .before .before in
-    initial-read (e .args .s .now) (c .before .before .before .before .before .before .before .before .before .shared-slice-known .given) (e .pre .0) (c .before .before .before .loop .c) (c .before .wide16 .result)
+    initial-read (e .args .table .now) (c .before .before .before .before .before .before .before .before .before .shared-slice-known .given) (e .pre .0) (c .before .before .before .loop .component) (c .before .wide16 .result)
     (there (c .before .before)) (start-is (c .before)) (c .start-entry .ensures .0)
 
 open-requires : tie.Need-open-requires Inv-loop μ-loop
@@ -84,12 +84,12 @@ open-requires c κs =
       e .pre .0,
       there (c .before .before),
       start-is (c .before),
-      begin-location (e .args .s .now) (l .l) b (l .c) (l .nodes) (l .ends) (l .inv .6) (there (c .before .before)) (n .result) (location-is c) (n .ensures .1) (n .ensures .2) (n .ensures .3),
-      subst (λ k. Indexed (e .args .s .now) (e .args .index .now) (l .c) k) (sym (start-is (c .before))) (e .pre .3 (l .c) (there (c .before .before))),
+      begin-location (e .args .table .now) (l .rows) b (l .component) (l .nodes) (l .ends) (l .inv .6) (there (c .before .before)) (n .result) (location-is c) (n .ensures .1) (n .ensures .2) (n .ensures .3),
+      subst (λ k. Indexed (e .args .table .now) (e .args .index .now) (l .component) k) (sym (start-is (c .before))) (e .pre .3 (l .component) (there (c .before .before))),
     )
 
-enum-known-o : tie.Need-enum-known-o Inv-loop μ-loop
-enum-known-o c = search needs
+enum-known-opening : tie.Need-enum-known-opening Inv-loop μ-loop
+enum-known-opening c = search needs
 
 cast-t24 : tie.Need-cast-t24 Inv-loop μ-loop
 cast-t24 c = search needs
@@ -105,12 +105,12 @@ returns c =
     let p = c .before .before .before .before in
     let n = p .start-entry in
     let o = c .before .before .before .«open» in
-    let r = begin-refused (e .args .s .now) (l .l) b (l .c) (l .nodes) (l .ends) (l .inv .6) (there (p .before .before)) (n .result) (location-is p) (n .ensures .1) (n .ensures .2) (n .ensures .3)
-    (o .result) (o .ensures .0) (c .before .o .given .1) in
+    let r = begin-refused (e .args .table .now) (l .rows) b (l .component) (l .nodes) (l .ends) (l .inv .6) (there (p .before .before)) (n .result) (location-is p) (n .ensures .1) (n .ensures .2) (n .ensures .3)
+    (o .result) (o .ensures .0) (c .before .opening .given .1) in
     record { verdict = sym (ap verdictOf r); started = λ q. (let z : _≡_ {A = ℕ} 0 1 = cc in absurd (omega arith)) }
 
-enum-known-o-2 : tie.Need-enum-known-o-2 Inv-loop μ-loop
-enum-known-o-2 c = search needs
+enum-known-opening-2 : tie.Need-enum-known-opening-2 Inv-loop μ-loop
+enum-known-opening-2 c = search needs
 
 cast-put-opened : tie.Need-cast-put-opened Inv-loop μ-loop
 cast-put-opened c = search needs
@@ -122,7 +122,7 @@ put-opened-requires c κs =
     let b = c .before .before .before .before .before .before .before .before .before .before .before .before .before .before .shared-slice-known .given in
     let p = c .before .before .before .before .before in
     let o = c .before .before .before .before .«open» in
-    let z = edge-small (e .args .s .now) b (e .pre .0) (l .c) (p .before .wide16 .result) (c .before .before .o2 .given .1) (there (p .before .before)) (start-is (p .before)) (o .ensures .1) in
+    let z = edge-small (e .args .table .now) b (e .pre .0) (l .component) (p .before .wide16 .result) (c .before .before .opening2 .given .1) (there (p .before .before)) (start-is (p .before)) (o .ensures .1) in
     (omega (arith, l .inv, e .pre), omega (arith, l .inv), z .0, omega arith, omega (arith, p .start-entry .ensures .1), z .1, z .2)
 
 kept-requires : tie.Need-kept-requires Inv-loop μ-loop
@@ -143,8 +143,8 @@ mul-ends c = omega (arith, c .before .before .before .before .before .before .be
 array-write-ends : tie.Need-array-write-ends Inv-loop μ-loop
 array-write-ends c = omega (arith, c .before .before .before .before .before .before .before .before .before .before .before .before .before .before .loop .inv, c .before .before .before .before .before .before .before .before .before .before .before .before .before .loop-test)
 
-add-c : tie.Need-add-c Inv-loop μ-loop
-add-c c = omega (arith, c .before .before .before .before .before .before .before .before .before .before .before .before .before .before .loop .inv, c .before .before .before .before .before .before .before .before .before .before .before .before .before .loop-test)
+add-component : tie.Need-add-component Inv-loop μ-loop
+add-component c = omega (arith, c .before .before .before .before .before .before .before .before .before .before .before .before .before .before .loop .inv, c .before .before .before .before .before .before .before .before .before .before .before .before .before .loop-test)
 
 loop-less : tie.Need-loop-less Inv-loop μ-loop
 loop-less c = search needs
@@ -158,17 +158,17 @@ loop-again c =
     let n = p .start-entry in
     let o = c .before .before .before .before .before .before .before .before .before .before .«open» in
     let q = c .before .before .before .before .before .put-opened in
-    let s = e .args .s .now in (
+    let s = e .args .table .now in (
       omega arith,
       l .inv .1,
       l .inv .2,
       simp length-set (l .inv .3),
       simp length-set (l .inv .4),
       q .kept .0 ∙ l .inv .5,
-      subst (λ k. Beginning s (q .last .0) (l .c + 1) (set (l .nodes) (l .c) k) (until (l .ends) (l .c) (n .result) (c .before .before .before .before .before .before .before .before .o2 .given .0 .0))) (sym (c .before .before .kept .ensures))
-          (begin-on s (l .l) b (l .c) (l .nodes) (l .ends) (l .inv .6) (there (p .before .before)) (n .result) (location-is p) (n .ensures .1) (n .ensures .2) (n .ensures .3)
-          (o .result) (o .ensures .0) (c .before .before .before .before .before .before .before .before .o2 .given .1)
-          (subst (λ k. Placed s k (l .c) (o .result)) (start-is (p .before)) (o .ensures .1)) (omega arith) (q .last .0) (q .ensures) (omega arith) (omega arith)),
+      subst (λ k. Beginning s (q .last .0) (l .component + 1) (set (l .nodes) (l .component) k) (until (l .ends) (l .component) (n .result) (c .before .before .before .before .before .before .before .before .opening2 .given .0 .0))) (sym (c .before .before .kept .ensures))
+          (begin-on s (l .rows) b (l .component) (l .nodes) (l .ends) (l .inv .6) (there (p .before .before)) (n .result) (location-is p) (n .ensures .1) (n .ensures .2) (n .ensures .3)
+          (o .result) (o .ensures .0) (c .before .before .before .before .before .before .before .before .opening2 .given .1)
+          (subst (λ k. Placed s k (l .component) (o .result)) (start-is (p .before)) (o .ensures .1)) (omega arith) (q .last .0) (q .ensures) (omega arith) (omega arith)),
     )
 
 same-length-2 : tie.Need-same-length-2 Inv-loop μ-loop
@@ -178,7 +178,7 @@ returns-2 : tie.Need-returns-2 Inv-loop μ-loop
 returns-2 c =
     let e = c .before .before .before .before .before .before .before .before in
     let l = c .before .loop in
-    let s = begin-all (e .args .s .now) (l .l) (c .before .before .before .before .before .before .before .shared-slice-known .given) (l .c) (l .nodes) (l .ends) (l .inv .6) (omega arith) (omega arith) in
+    let s = begin-all (e .args .table .now) (l .rows) (c .before .before .before .before .before .before .before .shared-slice-known .given) (l .component) (l .nodes) (l .ends) (l .inv .6) (omega arith) (omega arith) in
     record { verdict = sym (ap verdictOf (s .begins)); started = λ q. s }
 
 pub begin-spec : {M : Type 1} → statement M
@@ -197,11 +197,11 @@ begin-spec =
     start-entry-requires
     cast-open
     open-requires
-    enum-known-o
+    enum-known-opening
     cast-t24
     same-length
     returns
-    enum-known-o-2
+    enum-known-opening-2
     cast-put-opened
     put-opened-requires
     kept-requires
@@ -210,7 +210,7 @@ begin-spec =
     add-ends
     mul-ends
     array-write-ends
-    add-c
+    add-component
     loop-less
     loop-again
     same-length-2

@@ -29,13 +29,13 @@ abbrev μ-loop : tie.MeasureT-loop
 μ-loop s l₀ index starts count h nodes₀ ends₀ n₀ l nodes ends n = 1024 - n
 
 shared-slice-read-wide : tie.Need-shared-slice-read-wide Inv-loop μ-loop
-shared-slice-read-wide c = let e = c .before .before .before .before in omega (arith, header (e .args .s .now) (c .shared-slice-known3 .given) (e .pre .0))
+shared-slice-read-wide c = let e = c .before .before .before .before in omega (arith, header (e .args .table .now) (c .shared-slice-known3 .given) (e .pre .0))
 
 wide-requires : tie.Need-wide-requires Inv-loop μ-loop
 wide-requires c κs = search needs
 
 word-at-requires : tie.Need-word-at-requires Inv-loop μ-loop
-word-at-requires c κs = let e = c .before .before .before .before .before in omega (arith, header (e .args .s .now) (c .before .shared-slice-known3 .given) (e .pre .0))
+word-at-requires c κs = let e = c .before .before .before .before .before in omega (arith, header (e .args .table .now) (c .before .shared-slice-known3 .given) (e .pre .0))
 
 wide32-requires : tie.Need-wide32-requires Inv-loop μ-loop
 wide32-requires c κs = search needs
@@ -43,7 +43,7 @@ wide32-requires c κs = search needs
 loop-holds : tie.Need-loop-holds Inv-loop μ-loop
 loop-holds c =
     let e = c .before .before .before .before .before .before .before in
-    let s = e .args .s .now in
+    let s = e .args .table .now in
     let b = c .before .before .before .before .before .before .shared-slice-known .given in
     let n : c .before .before .wide .result ≡ size (readOf s .table) = c .before .before .wide .ensures .0 ∙ counted s b (e .pre .0) in
     let h : c .wide32 .result ≡ readOf s .horizon = c .wide32 .ensures .0 ∙ c .before .word-at .ensures ∙ horizon-is s b (e .pre .0) in
@@ -58,7 +58,7 @@ loop-holds c =
       search needs,
       e .pre .2,
       refl,
-      progress-first s (e .args .l .now) (c .before .before .wide .result) (e .args .from) (e .args .until) (e .pre .3) n,
+      progress-first s (e .args .rows .now) (c .before .before .wide .result) (e .args .from) (e .args .until) (e .pre .3) n,
     )
 
 slice-aggregate-soonest : tie.Need-slice-aggregate-soonest Inv-loop μ-loop
@@ -77,7 +77,7 @@ listed-requires : tie.Need-listed-requires Inv-loop μ-loop
 listed-requires c κs = search needs
 
 -- the passage that closes
-closes : (c : tie.After-soonest Inv-loop μ-loop) → Soonest (c .before .before .loop .ends) (size (readOf (c .before .before .before .before .before .before .before .before .before .before .args .s .now) .table)) (c .soonest .result)
+closes : (c : tie.After-soonest Inv-loop μ-loop) → Soonest (c .before .before .loop .ends) (size (readOf (c .before .before .before .before .before .before .before .before .before .before .args .table .now) .table)) (c .soonest .result)
 closes c = subst (λ k. Soonest (c .before .before .loop .ends) k (c .soonest .result)) (c .before .before .loop .inv .3) (c .soonest .ensures)
 
 -- its component's number is small
@@ -86,22 +86,22 @@ small c = omega (arith, c .soonest .ensures .there, c .before .before .loop .inv
 
 -- what opens next
 turned : (c : tie.After-next-turn Inv-loop μ-loop)
-    → Turned (c .before .before .before .before .before .before .before .before .before .before .before .before .before .before .before .before .args .s .now) (c .before .before .before .before .before .before .before .before .loop .l) (c .before .before .before .before .before .before .before .before .loop .n) (c .before .before .before .before .before .before .soonest .result) (readOf (c .before .before .before .before .before .before .before .before .before .before .before .before .before .before .before .before .args .s .now) .horizon) (getD (c .before .before .before .before .before .before .before .before .loop .nodes) (c .before .before .before .before .before .before .soonest .result) blank)
+    → Turned (c .before .before .before .before .before .before .before .before .before .before .before .before .before .before .before .before .args .table .now) (c .before .before .before .before .before .before .before .before .loop .rows) (c .before .before .before .before .before .before .before .before .loop .filled) (c .before .before .before .before .before .before .soonest .result) (readOf (c .before .before .before .before .before .before .before .before .before .before .before .before .before .before .before .before .args .table .now) .horizon) (getD (c .before .before .before .before .before .before .before .before .loop .nodes) (c .before .before .before .before .before .before .soonest .result) blank)
     (getD (c .before .before .before .before .before .before .before .before .loop .ends) (c .before .before .before .before .before .before .soonest .result) 0) (c .next-turn .result)
 turned c =
     let l = c .before .before .before .before .before .before .before .before .loop in
     let k = c .before .before .before .before .before .before .soonest .result in
-    subst (λ h. Turned (c .before .before .before .before .before .before .before .before .before .before .before .before .before .before .before .before .args .s .now) (l .l) (l .n) k h (getD (l .nodes) k blank) (getD (l .ends) k 0) (c .next-turn .result)) (l .inv .4) (c .next-turn .ensures)
+    subst (λ h. Turned (c .before .before .before .before .before .before .before .before .before .before .before .before .before .before .before .before .args .table .now) (l .rows) (l .filled) k h (getD (l .nodes) k blank) (getD (l .ends) k 0) (c .next-turn .result)) (l .inv .4) (c .next-turn .ensures)
 
 edge-is : (c : tie.After-next-turn Inv-loop μ-loop) {t : TakenEdge} → c .next-turn .result .opening ≡ Opens t
     → (c .next-turn .result .at .tick ≤ 60000) × (t .place < 65536) × (t .ready ≤ 65535) × (t .end ≤ 65535)
 edge-is c q =
     let l = c .before .before .before .before .before .before .before .before .loop in
-    let s = c .before .before .before .before .before .before .before .before .before .before .before .before .before .before .before .before .args .s .now in
+    let s = c .before .before .before .before .before .before .before .before .before .before .before .before .before .before .before .before .args .table .now in
     let b = c .before .before .before .before .before .before .before .before .before .before .before .before .before .before .before .shared-slice-known .given in
     let k = c .before .before .before .before .before .before .soonest .result in
     let z = edge-small s b (c .before .before .before .before .before .before .before .before .before .before .before .before .before .before .before .before .pre .0) k (startOf s k) q (closes (c .before .before .before .before .before .before) .there) refl (turned c .placed) in
-    let m = turned-tick s (l .l) (l .n) k (readOf s .horizon) (getD (l .nodes) k blank) (getD (l .ends) k 0) (c .next-turn .result) (turned c) in
+    let m = turned-tick s (l .rows) (l .filled) k (readOf s .horizon) (getD (l .nodes) k blank) (getD (l .ends) k 0) (c .next-turn .result) (turned c) in
     (omega (arith, m, c .before .before .before .before .before .if1 .left, l .inv .5), z .0, z .1, z .2)
 
 same-length : tie.Need-same-length Inv-loop μ-loop
@@ -110,9 +110,9 @@ same-length c = c .before .before .before .before .loop .inv .9
 returns : tie.Need-returns Inv-loop μ-loop
 returns c =
     let l = c .before .before .before .before .loop in
-    let s = c .before .before .before .before .before .before .before .before .before .before .before .before .args .s .now in
-    let f = loop-stops s (l .l) (c .before .before .before .before .before .before .before .before .before .before .before .shared-slice-known .given) (l .n) (l .nodes) (l .ends) (l .inv .10) (c .before .before .soonest .result) (closes (c .before .before)) (omega (arith, c .before .if1 .taken, l .inv .4)) in
-    subst (λ (r : Scheduled). Listed s (unfinished s) r (l .l)) (listed-is _ _ (c .listed .ensures .0) (c .listed .ensures .1)) f
+    let s = c .before .before .before .before .before .before .before .before .before .before .before .before .args .table .now in
+    let f = loop-stops s (l .rows) (c .before .before .before .before .before .before .before .before .before .before .before .shared-slice-known .given) (l .filled) (l .nodes) (l .ends) (l .inv .10) (c .before .before .soonest .result) (closes (c .before .before)) (omega (arith, c .before .if1 .taken, l .inv .4)) in
+    subst (λ (r : Scheduled). Listed s (unfinished s) r (l .rows)) (listed-is _ _ (c .listed .ensures .0) (c .listed .ensures .1)) f
 
 refused-requires : tie.Need-refused-requires Inv-loop μ-loop
 refused-requires c κs = search needs
@@ -123,9 +123,9 @@ same-length-2 c = c .before .before .before .before .before .loop .inv .9
 returns-2 : tie.Need-returns-2 Inv-loop μ-loop
 returns-2 c =
     let l = c .before .before .before .before .before .loop in
-    let s = c .before .before .before .before .before .before .before .before .before .before .before .before .before .args .s .now in
+    let s = c .before .before .before .before .before .before .before .before .before .before .before .before .before .args .table .now in
     let r = c .refused in
-    loop-full s (l .l) (c .before .before .before .before .before .before .before .before .before .before .before .before .shared-slice-known .given) (l .n) (l .nodes) (l .ends) (l .inv .10) (c .before .before .before .soonest .result) (closes (c .before .before .before)) (omega (arith, c .before .before .if1 .left, l .inv .4)) (c .before .if2 .taken)
+    loop-full s (l .rows) (c .before .before .before .before .before .before .before .before .before .before .before .before .shared-slice-known .given) (l .filled) (l .nodes) (l .ends) (l .inv .10) (c .before .before .before .soonest .result) (closes (c .before .before .before)) (omega (arith, c .before .before .if1 .left, l .inv .4)) (c .before .if2 .taken)
     (r .result) (r .ensures .0) (r .ensures .1)
 
 mul-node : tie.Need-mul-node Inv-loop μ-loop
@@ -151,18 +151,18 @@ next-turn-requires c κs =
     let e = c .before .before .before .before .before .before .before .before .before .before .before .before .before .before .before in
     let l = c .before .before .before .before .before .before .before .loop in
     let g = l .inv .10 in
-    let s = e .args .s .now in
+    let s = e .args .table .now in
     let k = c .before .before .before .before .before .soonest .result in
     let start = start-read s (c .before .before .before .before .before .before .before .before .before .before .before .before .before .before .shared-slice-known .given) (e .pre .0) (e .args .t2) k (c .wide16 .result) (e .pre .1) (closes (c .before .before .before .before .before) .there) (c .wide16 .ensures .0) in (
       g .going .placed,
       start,
-      node-stands s (l .l) (c .before .before .before .before .before .before .before .before .before .before .before .before .before .before .shared-slice-known .given) (l .n) (l .nodes) (l .ends) g k (closes (c .before .before .before .before .before)),
+      node-stands s (l .rows) (c .before .before .before .before .before .before .before .before .before .before .before .before .before .before .shared-slice-known .given) (l .filled) (l .nodes) (l .ends) g k (closes (c .before .before .before .before .before)),
       omega (arith, c .before .before .before .before .if1 .left, l .inv .5),
       subst (λ z. Indexed s (e .args .index .now) k z) (sym start) (e .pre .4 k (closes (c .before .before .before .before .before) .there)),
     )
 
-enum-known-o : tie.Need-enum-known-o Inv-loop μ-loop
-enum-known-o c = search needs
+enum-known-opening : tie.Need-enum-known-opening Inv-loop μ-loop
+enum-known-opening c = search needs
 
 refused-requires-2 : tie.Need-refused-requires-2 Inv-loop μ-loop
 refused-requires-2 c κs = search needs
@@ -173,22 +173,22 @@ same-length-3 c = c .before .before .before .before .before .before .before .bef
 returns-3 : tie.Need-returns-3 Inv-loop μ-loop
 returns-3 c =
     let l = c .before .before .before .before .before .before .before .before .before .before .before .before .before .loop in
-    let s = c .before .before .before .before .before .before .before .before .before .before .before .before .before .before .before .before .before .before .before .before .before .args .s .now in
+    let s = c .before .before .before .before .before .before .before .before .before .before .before .before .before .before .before .before .before .before .before .before .before .args .table .now in
     let r = c .refused2 in
-    loop-fails s (l .l) (c .before .before .before .before .before .before .before .before .before .before .before .before .before .before .before .before .before .before .before .before .shared-slice-known .given) (l .n) (l .nodes) (l .ends) (l .inv .10) (c .before .before .before .before .before .before .before .before .before .before .before .soonest .result) (closes (c .before .before .before .before .before .before .before .before .before .before .before)) (omega (arith, c .before .before .before .before .before .before .before .before .before .before .if1 .left, l .inv .4))
-    (omega (arith, c .before .before .before .before .before .before .before .before .before .if2 .left)) (c .before .before .before .before .before .next-turn .result) (turned (c .before .before .before .before .before)) (c .before .before .o .given .1) (r .result) (r .ensures .0) (r .ensures .1)
+    loop-fails s (l .rows) (c .before .before .before .before .before .before .before .before .before .before .before .before .before .before .before .before .before .before .before .before .shared-slice-known .given) (l .filled) (l .nodes) (l .ends) (l .inv .10) (c .before .before .before .before .before .before .before .before .before .before .before .soonest .result) (closes (c .before .before .before .before .before .before .before .before .before .before .before)) (omega (arith, c .before .before .before .before .before .before .before .before .before .before .if1 .left, l .inv .4))
+    (omega (arith, c .before .before .before .before .before .before .before .before .before .if2 .left)) (c .before .before .before .before .before .next-turn .result) (turned (c .before .before .before .before .before)) (c .before .before .opening .given .1) (r .result) (r .ensures .0) (r .ensures .1)
 
-enum-known-o-2 : tie.Need-enum-known-o-2 Inv-loop μ-loop
-enum-known-o-2 c = search needs
+enum-known-opening-2 : tie.Need-enum-known-opening-2 Inv-loop μ-loop
+enum-known-opening-2 c = search needs
 
 add-open-before : tie.Need-add-open-before Inv-loop μ-loop
-add-open-before c = let z = edge-is (c .before .before .before .before .before .before .before) (c .before .before .before .before .o2 .given .1) in omega (arith, z)
+add-open-before c = let z = edge-is (c .before .before .before .before .before .before .before) (c .before .before .before .before .opening2 .given .1) in omega (arith, z)
 
 add-open-before-2 : tie.Need-add-open-before-2 Inv-loop μ-loop
-add-open-before-2 c = let z = edge-is (c .before .before .before .before .before .before .before) (c .before .before .before .before .o2 .given .1) in omega (arith, z)
+add-open-before-2 c = let z = edge-is (c .before .before .before .before .before .before .before) (c .before .before .before .before .opening2 .given .1) in omega (arith, z)
 
 open-before-requires : tie.Need-open-before-requires Inv-loop μ-loop
-open-before-requires c κs = let l = c .before .before .before .before .before .before .before .before .before .before .before .before .before .before .before .loop in linked-below (l .inv .10 .going .placed) (l .n) (omega arith)
+open-before-requires c κs = let l = c .before .before .before .before .before .before .before .before .before .before .before .before .before .before .before .loop in linked-below (l .inv .10 .going .placed) (l .filled) (omega arith)
 
 cast-put-opened : tie.Need-cast-put-opened Inv-loop μ-loop
 cast-put-opened c = omega (arith, small (c .before .before .before .before .before .before .before .before .before .before .before .before .before .before .before))
@@ -197,14 +197,14 @@ put-opened-requires : tie.Need-put-opened-requires Inv-loop μ-loop
 put-opened-requires c κs =
     let e = c .before .before .before .before .before .before .before .before .before .before .before .before .before .before .before .before .before .before .before .before .before .before .before .before .before in
     let l = c .before .before .before .before .before .before .before .before .before .before .before .before .before .before .before .before .before .loop in
-    let z = edge-is (c .before .before .before .before .before .before .before .before .before) (c .before .before .before .before .before .before .o2 .given .1) in
+    let z = edge-is (c .before .before .before .before .before .before .before .before .before) (c .before .before .before .before .before .before .opening2 .given .1) in
     (omega (arith, l .inv .8, c .before .before .before .before .before .before .before .before .before .before .before .before .before .if2 .left), omega (arith, c .before .before .before .before .before .before .before .before .before .before .before .before .before .if2 .left), z .1, omega (arith, c .before .open-before .ensures .0, l .inv .0), z .0, z .2, z .3)
 
 put-message-requires : tie.Need-put-message-requires Inv-loop μ-loop
 put-message-requires c κs =
     let l = c .before .before .before .before .before .before .before .before .before .before .before .before .before .before .before .before .before .before .before .before .before .loop in
     let k = c .before .before .before .before .before .before .before .before .before .before .before .before .before .before .before .before .before .before .before in
-    let z = node-stands (c .before .before .before .before .before .before .before .before .before .before .before .before .before .before .before .before .before .before .before .before .before .before .before .before .before .before .before .before .before .args .s .now) (l .l) (c .before .before .before .before .before .before .before .before .before .before .before .before .before .before .before .before .before .before .before .before .before .before .before .before .before .before .before .before .shared-slice-known .given) (l .n) (l .nodes) (l .ends) (l .inv .10) (k .soonest .result) (closes k) .row in
+    let z = node-stands (c .before .before .before .before .before .before .before .before .before .before .before .before .before .before .before .before .before .before .before .before .before .before .before .before .before .before .before .before .before .args .table .now) (l .rows) (c .before .before .before .before .before .before .before .before .before .before .before .before .before .before .before .before .before .before .before .before .before .before .before .before .before .before .before .before .shared-slice-known .given) (l .filled) (l .nodes) (l .ends) (l .inv .10) (k .soonest .result) (closes k) .row in
     (omega (arith, z, l .inv .0, l .inv .8, c .before .before .before .put-opened .kept .0), omega (arith, z, l .inv .0))
 
 kept-requires : tie.Need-kept-requires Inv-loop μ-loop
@@ -217,7 +217,7 @@ array-set-from-nodes : tie.Need-array-set-from-nodes Inv-loop μ-loop
 array-set-from-nodes c = omega (arith, small (c .before .before .before .before .before .before .before .before .before .before .before .before .before .before .before .before .before .before .before .before .before .before .before))
 
 add-ends : tie.Need-add-ends Inv-loop μ-loop
-add-ends c = let z = edge-is (c .before .before .before .before .before .before .before .before .before .before .before .before .before .before .before .before .before .before .before) (c .before .before .before .before .before .before .before .before .before .before .before .before .before .before .before .before .o2 .given .1) in omega (arith, z)
+add-ends c = let z = edge-is (c .before .before .before .before .before .before .before .before .before .before .before .before .before .before .before .before .before .before .before) (c .before .before .before .before .before .before .before .before .before .before .before .before .before .before .before .before .opening2 .given .1) in omega (arith, z)
 
 mul-ends : tie.Need-mul-ends Inv-loop μ-loop
 mul-ends c = omega (arith, small (c .before .before .before .before .before .before .before .before .before .before .before .before .before .before .before .before .before .before .before .before .before .before .before .before .before))
@@ -225,8 +225,8 @@ mul-ends c = omega (arith, small (c .before .before .before .before .before .bef
 array-write-ends : tie.Need-array-write-ends Inv-loop μ-loop
 array-write-ends c = omega (arith, small (c .before .before .before .before .before .before .before .before .before .before .before .before .before .before .before .before .before .before .before .before .before .before .before .before .before))
 
-add-n : tie.Need-add-n Inv-loop μ-loop
-add-n c = omega (arith, c .before .before .before .before .before .before .before .before .before .before .before .before .before .before .before .before .before .before .before .before .before .before .before .if2 .left)
+add-filled : tie.Need-add-filled Inv-loop μ-loop
+add-filled c = omega (arith, c .before .before .before .before .before .before .before .before .before .before .before .before .before .before .before .before .before .before .before .before .before .before .before .if2 .left)
 
 loop-less : tie.Need-loop-less Inv-loop μ-loop
 loop-less c = omega (arith, c .before .before .before .before .before .before .before .before .before .before .before .before .before .before .before .before .before .before .before .before .before .before .before .if2 .left)
@@ -237,10 +237,10 @@ loop-again c =
     let l = c .before .before .before .before .before .before .before .before .before .before .before .before .before .before .before .before .before .before .before .before .before .before .before .before .before .before .before .loop in
     let q = c .before .before .before .before .before .before .before .before .before .put-opened in
     let p = c .before .before .before .before .before .put-message in
-    let s = e .args .s .now in
+    let s = e .args .table .now in
     let k = c .before .before .before .before .before .before .before .before .before .before .before .before .before .before .before .before .before .before .before .before .before .before .before .before .before .soonest .result in
     let t = c .before .before .before .before .before .before .before .before .before .before .before .before .before .before .before .before .before .before .before .next-turn .result in
-    let n : l .n < 1024 = c .before .before .before .before .before .before .before .before .before .before .before .before .before .before .before .before .before .before .before .before .before .before .before .if2 .left in (
+    let n : l .filled < 1024 = c .before .before .before .before .before .before .before .before .before .before .before .before .before .before .before .before .before .before .before .before .before .before .before .if2 .left in (
       omega arith,
       l .inv .1,
       l .inv .2,
@@ -251,9 +251,9 @@ loop-again c =
       simp length-set (l .inv .7),
       omega (arith, p .kept .0, q .kept .0, l .inv .8),
       p .kept .0 ∙ q .kept .0 ∙ l .inv .9,
-      subst (λ m. Progress s (p .last .0) (l .n + 1) (set (l .nodes) k m) (until (l .ends) k (t .at) (c .before .before .before .before .before .before .before .before .before .before .before .before .before .before .before .before .o2 .given .0 .0))) (sym (c .before .before .kept .ensures))
-          (subst (λ x. Progress s x (l .n + 1) (keeps (l .nodes) (l .n) k (t .at) (c .before .before .before .before .before .before .before .before .before .before .before .before .before .before .before .before .o2 .given .0 .0)) (until (l .ends) k (t .at) (c .before .before .before .before .before .before .before .before .before .before .before .before .before .before .before .before .o2 .given .0 .0))) (sym (p .ensures)) (loop-on s (l .l) (c .before .before .before .before .before .before .before .before .before .before .before .before .before .before .before .before .before .before .before .before .before .before .before .before .before .before .before .before .before .before .before .before .before .before .shared-slice-known .given) (l .n) (l .nodes) (l .ends) (l .inv .10) k (closes (c .before .before .before .before .before .before .before .before .before .before .before .before .before .before .before .before .before .before .before .before .before .before .before .before .before)) (omega (arith, c .before .before .before .before .before .before .before .before .before .before .before .before .before .before .before .before .before .before .before .before .before .before .before .before .if1 .left, l .inv .4)) n t (turned (c .before .before .before .before .before .before .before .before .before .before .before .before .before .before .before .before .before .before .before))
-          (c .before .before .before .before .before .before .before .before .before .before .before .before .before .before .before .before .o2 .given .1) (omega (arith, l .inv .8)) (c .before .before .before .before .before .before .before .before .before .before .before .open-before .result) (c .before .before .before .before .before .before .before .before .before .before .before .open-before .ensures .0) (λ i x y. omega (arith, c .before .before .before .before .before .before .before .before .before .before .before .open-before .ensures .1 i x y)) (q .last .0) (q .ensures)
+      subst (λ m. Progress s (p .last .0) (l .filled + 1) (set (l .nodes) k m) (until (l .ends) k (t .at) (c .before .before .before .before .before .before .before .before .before .before .before .before .before .before .before .before .opening2 .given .0 .0))) (sym (c .before .before .kept .ensures))
+          (subst (λ x. Progress s x (l .filled + 1) (keeps (l .nodes) (l .filled) k (t .at) (c .before .before .before .before .before .before .before .before .before .before .before .before .before .before .before .before .opening2 .given .0 .0)) (until (l .ends) k (t .at) (c .before .before .before .before .before .before .before .before .before .before .before .before .before .before .before .before .opening2 .given .0 .0))) (sym (p .ensures)) (loop-on s (l .rows) (c .before .before .before .before .before .before .before .before .before .before .before .before .before .before .before .before .before .before .before .before .before .before .before .before .before .before .before .before .before .before .before .before .before .before .shared-slice-known .given) (l .filled) (l .nodes) (l .ends) (l .inv .10) k (closes (c .before .before .before .before .before .before .before .before .before .before .before .before .before .before .before .before .before .before .before .before .before .before .before .before .before)) (omega (arith, c .before .before .before .before .before .before .before .before .before .before .before .before .before .before .before .before .before .before .before .before .before .before .before .before .if1 .left, l .inv .4)) n t (turned (c .before .before .before .before .before .before .before .before .before .before .before .before .before .before .before .before .before .before .before))
+          (c .before .before .before .before .before .before .before .before .before .before .before .before .before .before .before .before .opening2 .given .1) (omega (arith, l .inv .8)) (c .before .before .before .before .before .before .before .before .before .before .before .open-before .result) (c .before .before .before .before .before .before .before .before .before .before .before .open-before .ensures .0) (λ i x y. omega (arith, c .before .before .before .before .before .before .before .before .before .before .before .open-before .ensures .1 i x y)) (q .last .0) (q .ensures)
           (omega (arith, small (c .before .before .before .before .before .before .before .before .before .before .before .before .before .before .before .before .before .before .before .before .before .before .before .before .before), l .inv .6)) (omega (arith, small (c .before .before .before .before .before .before .before .before .before .before .before .before .before .before .before .before .before .before .before .before .before .before .before .before .before), l .inv .7)))),
     )
 
@@ -285,11 +285,11 @@ go-on-spec =
     wide16-requires
     cast-next-turn
     next-turn-requires
-    enum-known-o
+    enum-known-opening
     refused-requires-2
     same-length-3
     returns-3
-    enum-known-o-2
+    enum-known-opening-2
     add-open-before
     add-open-before-2
     open-before-requires
@@ -302,6 +302,6 @@ go-on-spec =
     add-ends
     mul-ends
     array-write-ends
-    add-n
+    add-filled
     loop-less
     loop-again)

@@ -18,14 +18,14 @@ abbrev μ-loop : tie.MeasureT-loop
 μ-loop s index₀ starts count c₀ index c = count - c
 
 shared-slice-read-wide : tie.Need-shared-slice-read-wide Inv-loop μ-loop
-shared-slice-read-wide c = omega (arith, header (c .before .before .before .args .s .now) (c .before .before .shared-slice-known .given) (c .before .before .before .pre .0))
+shared-slice-read-wide c = omega (arith, header (c .before .before .before .args .table .now) (c .before .before .shared-slice-known .given) (c .before .before .before .pre .0))
 
 wide-requires : tie.Need-wide-requires Inv-loop μ-loop
 wide-requires c κs = search needs
 
 loop-holds : tie.Need-loop-holds Inv-loop μ-loop
 loop-holds c =
-    let s = c .before .before .before .before .args .s .now in
+    let s = c .before .before .before .before .args .table .now in
     let b = c .before .before .before .shared-slice-known .given in
     let n : c .wide .result ≡ size (readOf s .table) = c .wide .ensures .0 ∙ counted s b (c .before .before .before .before .pre .0) in
     (omega arith, n, omega (arith, n, few-components s b (c .before .before .before .before .pre .0)), indexed-none s (c .before .before .before .before .args .index .now))
@@ -40,19 +40,19 @@ wide16-requires : tie.Need-wide16-requires Inv-loop μ-loop
 wide16-requires c κs = search needs
 
 -- the component is there
-there : (c : tie.In-loop Inv-loop μ-loop) → c .before .loop .c < size (readOf (c .before .before .before .before .before .before .args .s .now) .table)
+there : (c : tie.In-loop Inv-loop μ-loop) → c .before .loop .component < size (readOf (c .before .before .before .before .before .before .args .table .now) .table)
 there c = omega (arith, c .loop-test .taken, c .before .loop .inv .1)
 
 -- where it starts
-start-is : (c : tie.After-wide16 Inv-loop μ-loop) → c .wide16 .result ≡ startOf (c .before .before .before .before .before .before .before .args .s .now) (c .before .before .loop .c)
+start-is : (c : tie.After-wide16 Inv-loop μ-loop) → c .wide16 .result ≡ startOf (c .before .before .before .before .before .before .before .args .table .now) (c .before .before .loop .component)
 start-is c =
     let e = c .before .before .before .before .before .before .before in
-    start-read (e .args .s .now) (c .before .before .before .before .before .before .shared-slice-known .given) (e .pre .0) (e .args .t2) (c .before .before .loop .c) (c .wide16 .result)
+    start-read (e .args .table .now) (c .before .before .before .before .before .before .shared-slice-known .given) (e .pre .0) (e .args .t2) (c .before .before .loop .component) (c .wide16 .result)
     (e .pre .1) (there (c .before)) (c .wide16 .ensures .0)
 
 put-edges-requires : tie.Need-put-edges-requires Inv-loop μ-loop
 put-edges-requires c κs =
-    let s = c .before .before .before .before .before .before .before .before .args .s .now in
+    let s = c .before .before .before .before .before .before .before .before .args .table .now in
     let l = c .before .before .before .loop in
     let low = c .before .before .loop-test .taken in (
       c .before .before .before .before .before .before .before .before .pre .0,
@@ -61,25 +61,25 @@ put-edges-requires c κs =
       omega (arith, low, l .inv .2),
       omega (arith, low, l .inv .2, c .before .before .before .before .before .before .before .before .pre .2, l .inv .3 .same),
       valid-small s (known-bytes s (c .before .before .before .before .before .before .before .shared-slice-known .given)) (c .before .before .before .before .before .before .before .before .pre .0),
-      λ q h. l .inv .3 .rest (l .c * 80 + q) (omega arith) ∙ c .before .before .before .before .before .before .before .before .pre .3 (l .c) q (omega (arith, low, l .inv .2)) h,
+      λ q h. l .inv .3 .rest (l .component * 80 + q) (omega arith) ∙ c .before .before .before .before .before .before .before .before .pre .3 (l .component) q (omega (arith, low, l .inv .2)) h,
     )
 
-add-c : tie.Need-add-c Inv-loop μ-loop
-add-c c = omega (arith, c .before .before .before .before .before .loop-test .taken, c .before .before .before .before .before .before .loop .inv .2)
+add-component : tie.Need-add-component Inv-loop μ-loop
+add-component c = omega (arith, c .before .before .before .before .before .loop-test .taken, c .before .before .before .before .before .before .loop .inv .2)
 
 loop-less : tie.Need-loop-less Inv-loop μ-loop
 loop-less c = search needs
 
 loop-again : tie.Need-loop-again Inv-loop μ-loop
 loop-again c =
-    let s = c .before .before .before .before .before .before .before .before .before .before .before .args .s .now in
+    let s = c .before .before .before .before .before .before .before .before .before .before .before .args .table .now in
     let l = c .before .before .before .before .before .before .loop in
     let p = c .before .before .put-edges in
     let here = there (c .before .before .before .before .before) in (
       omega (arith, c .before .before .before .before .before .loop-test .taken),
       l .inv .1,
       l .inv .2,
-      indexed-turn s (c .before .before .before .before .before .before .before .before .before .before .before .args .index .now) (l .index) (p .last .1 .1 .1 .0) (l .c) (c .before .before .before .before .wide16 .result) (l .inv .3)
+      indexed-turn s (c .before .before .before .before .before .before .before .before .before .before .before .args .index .now) (l .index) (p .last .1 .1 .1 .0) (l .component) (c .before .before .before .before .wide16 .result) (l .inv .3)
           (λ d h. limits-of s (c .before .before .before .before .before .before .before .before .before .before .shared-slice-known .given) (c .before .before .before .before .before .before .before .before .before .before .before .pre .0) d (omega (arith, h, here)) .mostArcs) (start-is (c .before .before .before .before)) (p .ensures .0) (p .ensures .1),
     )
 
@@ -102,7 +102,7 @@ index-edges-spec =
     array-read-wide16
     wide16-requires
     put-edges-requires
-    add-c
+    add-component
     loop-less
     loop-again
     same-length

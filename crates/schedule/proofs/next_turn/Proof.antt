@@ -14,13 +14,13 @@ sub-leave : tie.Need-sub-leave
 sub-leave c =
     let e = c .before .before .before .before .before in
     let a = e .args in
-    omega (arith, place-within (a .s .now) (a .l .now) (a .n) (a .c) (a .node) (a .end) (c .before .before .before .before .shared-slice-known .given) (e .pre .0) (e .pre .2))
+    omega (arith, place-within (a .table .now) (a .rows .now) (a .count) (a .component) (a .node) (a .end) (c .before .before .before .before .shared-slice-known .given) (e .pre .0) (e .pre .2))
 
 part-leave-start : tie.Need-part-leave-start
 part-leave-start c =
     let e = c .before .before .before .before .before in
     let a = e .args in
-    omega (arith, place-within (a .s .now) (a .l .now) (a .n) (a .c) (a .node) (a .end) (c .before .before .before .before .shared-slice-known .given) (e .pre .0) (e .pre .2))
+    omega (arith, place-within (a .table .now) (a .rows .now) (a .count) (a .component) (a .node) (a .end) (c .before .before .before .before .shared-slice-known .given) (e .pre .0) (e .pre .2))
 
 part-leave-end : tie.Need-part-leave-end
 part-leave-end c = search needs
@@ -30,8 +30,8 @@ leave-requires c κs =
     let e = c .before .before .before .before .before .before in
     let a = e .args in
     let b = c .before .before .before .before .before .shared-slice-known .given in (
-      place-ready (a .s .now) (a .l .now) (a .n) (a .c) (a .node) (a .end) b (e .pre .0) (e .pre .2),
-      its-tick (a .s .now) (a .l .now) (a .n) (a .c) (a .node) (a .end) b (e .pre .0) (e .pre .2),
+      place-ready (a .table .now) (a .rows .now) (a .count) (a .component) (a .node) (a .end) b (e .pre .0) (e .pre .2),
+      its-tick (a .table .now) (a .rows .now) (a .count) (a .component) (a .node) (a .end) b (e .pre .0) (e .pre .2),
       omega (arith, e .pre .3),
       e .pre .2 .young,
     )
@@ -43,9 +43,9 @@ open-requires c κs =
     let b = c .before .before .before .before .before .before .shared-slice-known .given in
     let m = c .before .before .message .result in (
       e .pre .0 .valid,
-      its-present (a .s .now) (a .l .now) (a .n) (a .c) (a .node) (a .end) b (e .pre .0) (e .pre .2),
+      its-present (a .table .now) (a .rows .now) (a .count) (a .component) (a .node) (a .end) b (e .pre .0) (e .pre .2),
       e .pre .1,
-      location-there (a .s .now) (a .l .now) (a .n) (a .c) (a .node) (a .end) b (e .pre .0) (e .pre .2) (a .h) m (c .leave .result) (c .leave .ensures .0),
+      location-there (a .table .now) (a .rows .now) (a .count) (a .component) (a .node) (a .end) b (e .pre .0) (e .pre .2) (a .horizon) m (c .leave .result) (c .leave .ensures .0),
       e .pre .4,
     )
 
@@ -57,11 +57,11 @@ returns c =
     let m = c .before .before .before .message in
     record {
       message = m .ensures;
-      leads = leaves-row (a .s .now) (a .l .now) (a .n) (a .c) (a .node) (a .end) b (e .pre .0) (e .pre .2) (a .h) (m .result) (c .before .leave .result) (c .before .leave .ensures .0) (m .ensures);
-      there = location-there (a .s .now) (a .l .now) (a .n) (a .c) (a .node) (a .end) b (e .pre .0) (e .pre .2) (a .h) (m .result) (c .before .leave .result) (c .before .leave .ensures .0);
+      leads = leaves-row (a .table .now) (a .rows .now) (a .count) (a .component) (a .node) (a .end) b (e .pre .0) (e .pre .2) (a .horizon) (m .result) (c .before .leave .result) (c .before .leave .ensures .0) (m .ensures);
+      there = location-there (a .table .now) (a .rows .now) (a .count) (a .component) (a .node) (a .end) b (e .pre .0) (e .pre .2) (a .horizon) (m .result) (c .before .leave .result) (c .before .leave .ensures .0);
       young = c .before .leave .ensures .1;
       opens = c .«open» .ensures .0;
-      placed = subst (λ k. Placed (a .s .now) k (a .c) (c .«open» .result)) (e .pre .1) (c .«open» .ensures .1);
+      placed = subst (λ k. Placed (a .table .now) k (a .component) (c .«open» .result)) (e .pre .1) (c .«open» .ensures .1);
     }
 
 pub next-turn-spec : {M : Type 1} → statement M

@@ -17,16 +17,16 @@ enum-told-2 : tie.Need-enum-told-2
 enum-told-2 c = search needs
 
 word-at-requires : tie.Need-word-at-requires
-word-at-requires c κs = let e = c .before .before .before .before .before .before .before .before .before in omega (arith, header (e .args .s .now) (c .before .before .before .before .before .before .before .before .shared-slice-known .given) (e .pre .0))
+word-at-requires c κs = let e = c .before .before .before .before .before .before .before .before .before in omega (arith, header (e .args .table .now) (c .before .before .before .before .before .before .before .before .shared-slice-known .given) (e .pre .0))
 
 wide32-requires : tie.Need-wide32-requires
 wide32-requires c κs = search needs
 
 check-messages-requires : tie.Need-check-messages-requires
-check-messages-requires c κs = let r = c .before .before .before .before .before .before .before .schedule-rows in rows-placed (c .before .before .before .before .before .before .before .before .before .before .before .args .s .now) (r .result) (r .last .1 .1 .0) (r .ensures) (c .before .before .before .enum-told2 .given .1)
+check-messages-requires c κs = let r = c .before .before .before .before .before .before .before .schedule-rows in rows-placed (c .before .before .before .before .before .before .before .before .before .before .before .args .table .now) (r .result) (r .last .1 .1 .0) (r .ensures) (c .before .before .before .enum-told2 .given .1)
 
-enum-known-w : tie.Need-enum-known-w
-enum-known-w c = search needs
+enum-known-checked : tie.Need-enum-known-checked
+enum-known-checked c = search needs
 
 enum-told-3 : tie.Need-enum-told-3
 enum-told-3 c = search needs
@@ -35,7 +35,7 @@ same-length : tie.Need-same-length
 same-length c = search needs
 
 returns : tie.Need-returns
-returns c = let r = c .before .before .before .before .schedule-rows in plan-refused (c .before .before .before .before .before .before .before .before .args .s .now) (r .result) (r .last .1 .1 .0) (r .ensures) (c .enum-told .given .1)
+returns c = let r = c .before .before .before .before .schedule-rows in plan-refused (c .before .before .before .before .before .before .before .before .args .table .now) (r .result) (r .last .1 .1 .0) (r .ensures) (c .enum-told .given .1)
 
 same-length-2 : tie.Need-same-length-2
 same-length-2 c = search needs
@@ -43,11 +43,11 @@ same-length-2 c = search needs
 returns-2 : tie.Need-returns-2
 returns-2 c =
     let e = c .before .before .before .before .before .before .before .before .before .before .before .before .before .before .before in
-    let s = e .args .s .now in
+    let s = e .args .table .now in
     let r = c .before .before .before .before .before .before .before .before .before .before .before .schedule-rows in
     let w = c .before .before .before .check-messages in
     plan-faulty s (r .result) (r .last .1 .1 .0) (r .ensures) (c .before .before .before .before .before .before .before .enum-told2 .given .1) (c .before .before .before .before .wide32 .result)
-    (c .before .before .before .before .wide32 .ensures .0 ∙ c .before .before .before .before .before .word-at .ensures ∙ horizon-is s (c .before .before .before .before .before .before .before .before .before .before .before .before .before .before .shared-slice-known .given) (e .pre .0)) (w .result) (w .ensures) (c .before .w .given .1)
+    (c .before .before .before .before .wide32 .ensures .0 ∙ c .before .before .before .before .before .word-at .ensures ∙ horizon-is s (c .before .before .before .before .before .before .before .before .before .before .before .before .before .before .shared-slice-known .given) (e .pre .0)) (w .result) (w .ensures) (c .before .checked .given .1)
 
 same-length-3 : tie.Need-same-length-3
 same-length-3 c = search needs
@@ -55,7 +55,7 @@ same-length-3 c = search needs
 returns-3 : tie.Need-returns-3
 returns-3 c =
     let e = c .before .before .before .before .before .before .before .before .before .before .before .before .before .before in
-    let s = e .args .s .now in
+    let s = e .args .table .now in
     let r = c .before .before .before .before .before .before .before .before .before .before .schedule-rows in
     let w = c .before .before .check-messages in
     plan-accepted s (r .result) (r .last .1 .1 .0) (r .ensures) (c .before .before .before .before .before .before .enum-told2 .given .1) (c .before .before .before .wide32 .result)
@@ -71,7 +71,7 @@ plan-rows-spec =
     word-at-requires
     wide32-requires
     check-messages-requires
-    enum-known-w
+    enum-known-checked
     enum-told-3
     same-length
     returns

@@ -35,7 +35,7 @@ loop-again c =
     let a = c .before .before .before .before .before .before .before .before .args in
     let l = c .before .before .before .before .before .loop in
     let p = c .before .before .put-seven in
-    (omega arith, p .kept .1 .1 .0 ∙ l .inv .1, fields-turn (a .l .now) (a .out .now) (l .out) (p .last .1 .1 .0) (l .i) (l .inv .2) (p .ensures))
+    (omega arith, p .kept .1 .1 .0 ∙ l .inv .1, fields-turn (a .rows .now) (a .out .now) (l .out) (p .last .1 .1 .0) (l .i) (l .inv .2) (p .ensures))
 
 same-length : tie.Need-same-length Inv-loop μ-loop
 same-length c = c .before .loop .inv .1
@@ -44,8 +44,8 @@ returns : tie.Need-returns Inv-loop μ-loop
 returns c =
     let a = c .before .before .before .before .args in
     let l = c .before .loop in
-    let e : l .i ≡ a .n = omega arith in
-    l .inv .2 ∙ ap (λ k. sets (a .out .now) 0 (each sevenOf (rowsOf (a .l .now) k))) e ∙ fields-done (a .l .now) (a .out .now) (a .n) (omega arith)
+    let e : l .i ≡ a .count = omega arith in
+    l .inv .2 ∙ ap (λ k. sets (a .out .now) 0 (each sevenOf (rowsOf (a .rows .now) k))) e ∙ fields-done (a .rows .now) (a .out .now) (a .count) (omega arith)
 
 pub put-fields-spec : {M : Type 1} → statement M
 put-fields-spec =

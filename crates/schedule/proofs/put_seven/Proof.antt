@@ -95,7 +95,7 @@ same-length c = simp length-set
 returns : tie.Need-returns
 returns c =
     let a = c .before .before .before .before .before .before .before .before .before .args in
-    seven-stored (a .l .now) (a .out .now) (a .i) (a .k) _ _ _ _ _ _ _
+    seven-stored (a .rows .now) (a .out .now) (a .i) (a .k) _ _ _ _ _ _ _
     (c .before .before .before .before .before .before .number .ensures)
     (c .before .before .before .before .before .number2 .ensures)
     (c .before .before .before .before .number3 .ensures)

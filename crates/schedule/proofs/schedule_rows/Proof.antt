@@ -21,8 +21,8 @@ slice-aggregate-begin c = search needs
 begin-requires : tie.Need-begin-requires
 begin-requires c κs = search needs
 
-enum-known-v : tie.Need-enum-known-v
-enum-known-v c = search needs
+enum-known-verdict : tie.Need-enum-known-verdict
+enum-known-verdict c = search needs
 
 enum-told : tie.Need-enum-told
 enum-told c = search needs
@@ -36,7 +36,7 @@ go-on-requires c κs =
     (c .before .before .before .before .before .before .before .before .before .before .before .before .before .before .before .before .pre .0, c .before .before .before .before .before .before .before .before .before .before .before .before .before .before .before .before .pre .1, omega (arith, b .kept .1 .1 .0, c .before .before .before .before .before .before .before .before .before .before .before .before .before .before .before .before .pre .2), b .ensures .started (c .before .before .before .before .enum-told .given .1), c .before .before .before .before .before .before .before .before .before .before .before .before .index-edges .ensures)
 
 word-at-requires : tie.Need-word-at-requires
-word-at-requires c κs = omega (arith, header (c .before .before .before .before .before .before .before .before .before .before .before .before .before .before .before .before .before .before .before .before .args .s .now) (c .before .before .before .before .before .before .before .before .before .before .before .before .before .before .before .before .before .before .before .shared-slice-known .given) (c .before .before .before .before .before .before .before .before .before .before .before .before .before .before .before .before .before .before .before .before .pre .0))
+word-at-requires c κs = omega (arith, header (c .before .before .before .before .before .before .before .before .before .before .before .before .before .before .before .before .before .before .before .before .args .table .now) (c .before .before .before .before .before .before .before .before .before .before .before .before .before .before .before .before .before .before .before .shared-slice-known .given) (c .before .before .before .before .before .before .before .before .before .before .before .before .before .before .before .before .before .before .before .before .pre .0))
 
 wide32-requires : tie.Need-wide32-requires
 wide32-requires c κs = search needs
@@ -45,21 +45,21 @@ put-messages-requires : tie.Need-put-messages-requires
 put-messages-requires c κs =
     let e = c .before .before .before .before .before .before .before .before .before .before .before .before .before .before .before .before .before .before .before .before .before .before in
     let g = c .before .before .before .before .before .go-on in
-    let h = c .wide32 .ensures .0 ∙ c .before .word-at .ensures ∙ horizon-is (e .args .s .now) (c .before .before .before .before .before .before .before .before .before .before .before .before .before .before .before .before .before .before .before .before .before .shared-slice-known .given) (e .pre .0) in
-    (g .ensures .placed, told-at (e .args .s .now) (g .result) (g .last .1 .1 .0) (c .wide32 .result) h (g .ensures))
+    let h = c .wide32 .ensures .0 ∙ c .before .word-at .ensures ∙ horizon-is (e .args .table .now) (c .before .before .before .before .before .before .before .before .before .before .before .before .before .before .before .before .before .before .before .before .before .shared-slice-known .given) (e .pre .0) in
+    (g .ensures .placed, told-at (e .args .table .now) (g .result) (g .last .1 .1 .0) (c .wide32 .result) h (g .ensures))
 
 same-length : tie.Need-same-length
 same-length c = search needs
 
 returns : tie.Need-returns
-returns c = let b = c .before .before .before .before .before .begin in begun-refused (c .before .before .before .before .before .before .before .before .before .before .before .before .before .args .s .now) (b .last .1 .1 .0) (b .ensures .verdict) (c .before .v .given .1)
+returns c = let b = c .before .before .before .before .before .begin in begun-refused (c .before .before .before .before .before .before .before .before .before .before .before .before .before .args .table .now) (b .last .1 .1 .0) (b .ensures .verdict) (c .before .verdict .given .1)
 
 same-length-2 : tie.Need-same-length-2
 same-length-2 c = search needs
 
 returns-2 : tie.Need-returns-2
 returns-2 c =
-    let s = c .before .before .before .before .before .before .before .before .before .before .before .before .before .before .before .before .before .before .before .before .before .before .before .before .before .args .s .now in
+    let s = c .before .before .before .before .before .before .before .before .before .before .before .before .before .before .before .before .before .before .before .before .before .before .before .before .before .args .table .now in
     let g = c .before .before .before .before .before .before .before .before .go-on in
     let p = c .before .before .put-messages in
     filled-put s (g .result) (g .last .1 .1 .0) (p .last .1 .0) (c .before .before .before .wide32 .result)
@@ -73,7 +73,7 @@ schedule-rows-spec =
     index-edges-requires
     slice-aggregate-begin
     begin-requires
-    enum-known-v
+    enum-known-verdict
     enum-told
     slice-aggregate-go-on
     go-on-requires
