@@ -252,18 +252,18 @@ fn heard_before(s: &[u8], l: &[u32], best: usize, i: usize, j: usize, n: usize, 
     }
 }
 
-// The row before row i whose message it hears, n where there is none. Rows that ended before its entry are passed over by their links.
+// The row before row i whose message it hears, n where there is none. Rows that ended before its ready are passed over by their links.
 fn seek_before(s: &[u8], l: &[u32], n: usize, i: usize, h: u32) -> usize
     requires { ⌜ RowsPlaced (now s) (now l) n × (i < n) ⌝ }
     ensures { λ r. ⌜ bestOf (now (l .entry)) n r ≡ earliest (heardBy (readOf (now (s .entry)) .table) h (rowPassage (now (l .entry)) i)) (rowsOf (now (l .entry)) i) none ⌝ }
 {
-    let entry = number(l, i, ENTRY);
+    let ready = number(l, i, READY);
     let mut best = n;
-    let mut j = open_before(l, i, entry);
+    let mut j = open_before(l, i, ready);
     while 0 < j {
         let k = j - 1;
         best = heard_before(s, l, best, i, k, n, h);
-        j = open_before(l, k, entry);
+        j = open_before(l, k, ready);
     }
     best
 }
