@@ -53,6 +53,13 @@ fn plan_verdict(table: &[u8], starts: [u16; 8]) -> Verdict
     r.verdict
 }
 
+// Checks 1 to 3 alone: the number of the one that refuses the table, 0 if they are passed. No more is read than the header.
+pub fn check_header(table: &[u8]) -> u8
+    ensures { λ r. ⌜ ((r ≡ 0 → ⊥) → checkCall (now (table .entry)) ≡ Refused r 255) × ((checkCall (now (table .entry)) ≡ Accepted) ↔ Accepts (now (table .entry))) ⌝ }
+{
+    table::header(table)
+}
+
 // Whether the table is accepted; and what that means: it is, exactly if demand 2's statement holds of its bytes.
 pub fn check(table: &[u8]) -> Verdict
     ensures { λ r. ⌜ (r ≡ checkCall (now (table .entry))) × ((checkCall (now (table .entry)) ≡ Accepted) ↔ Accepts (now (table .entry))) ⌝ }

@@ -246,24 +246,24 @@ module _ (bs l : List ℕ) (n i H : ℕ) (r : RowsPlaced bs l n) (there : i < n)
   abbrev pub hearsIt : Passage → Bool
   hearsIt = heardBy (readOf bs .table) H (rowPassage l i)
 
-  -- a row that ended before its entry started too early
-  too-early : (j : ℕ) → j < n → num l j 5 < num l i 3 → hearsIt (rowPassage l j) ≡ false
+  -- a row that ended before its ready started too early
+  too-early : (j : ℕ) → j < n → num l j 5 < num l i 4 → hearsIt (rowPassage l j) ≡ false
   too-early j a h =
-      rw (le-ltb (num l i 4) (num l j 4) (omega (arith, h, r .row i there .early, r .row j a .window)), and-false)
+      rw (le-ltb (num l i 4) (num l j 4) (omega (arith, h, r .row j a .window)), and-false)
 
   -- a row that opens at its end or later ends too late
   too-late : (j : ℕ) → j < n → num l i 5 ≤ num l j 3 → hearsIt (rowPassage l j) ≡ false
   too-late j a h = rw (le-ltb (num l j 5) (num l i 5) (omega (arith, r .row j a)), and-false, and-false)
 
   -- the rows before it, backward: from row j on none that ended is heard ..
-  ended-none : (j m : ℕ) (b : Option Passage) → j + m ≤ n → ((t : ℕ) → j ≤ t → t < j + m → num l t 5 < num l i 3) → earliest hearsIt (rowsFrom l j m) b ≡ b
+  ended-none : (j m : ℕ) (b : Option Passage) → j + m ≤ n → ((t : ℕ) → j ≤ t → t < j + m → num l t 5 < num l i 4) → earliest hearsIt (rowsFrom l j m) b ≡ b
   ended-none j m b h e = none-holds hearsIt l j m b (λ t a c. too-early t (omega arith) (e t a c))
 
-  pub back-start : (j : ℕ) → j ≤ i → ((t : ℕ) → j ≤ t → t < i → num l t 5 < num l i 3) → earliest hearsIt (rowsFrom l j (i - j)) none ≡ none
+  pub back-start : (j : ℕ) → j ≤ i → ((t : ℕ) → j ≤ t → t < i → num l t 5 < num l i 4) → earliest hearsIt (rowsFrom l j (i - j)) none ≡ none
   back-start j h e = ended-none j (i - j) none (omega (arith, there)) (λ t a c. e t a (omega arith))
 
   -- .. then row k is looked at, and before it again those that ended are left out ..
-  pub back-turn : (j k : ℕ) (b c : Option Passage) → k < i → j ≤ k → ((t : ℕ) → j ≤ t → t < k → num l t 5 < num l i 3)
+  pub back-turn : (j k : ℕ) (b c : Option Passage) → k < i → j ≤ k → ((t : ℕ) → j ≤ t → t < k → num l t 5 < num l i 4)
       → earliest hearsIt (rowsFrom l (k + 1) (i - (k + 1))) none ≡ b → c ≡ heardFirst bs l H i k b → earliest hearsIt (rowsFrom l j (i - j)) none ≡ c
   unfolding rowsFrom
   back-turn j k b c h a e q f =

@@ -271,18 +271,18 @@ fn heard_before(
     }
 }
 
-// The row before row i whose message it hears, n where there is none. Rows that ended before its entry are passed over by their links.
+// The row before row i whose message it hears, the count of rows where there is none. Rows that ended before its ready are passed over by their links.
 fn seek_before(table: &[u8], rows: &[u32], count: usize, i: usize, horizon: u32) -> usize
     requires { ⌜ RowsPlaced (now table) (now rows) count × (i < count) ⌝ }
     ensures { λ r. ⌜ bestOf (now (rows .entry)) count r ≡ earliest (heardBy (readOf (now (table .entry)) .table) horizon (rowPassage (now (rows .entry)) i)) (rowsOf (now (rows .entry)) i) none ⌝ }
 {
-    let entry = number(rows, i, ENTRY);
+    let ready = number(rows, i, READY);
     let mut best = count;
-    let mut j = open_before(rows, i, entry);
+    let mut j = open_before(rows, i, ready);
     while 0 < j {
         let k = j - 1;
         best = heard_before(table, rows, best, i, k, count, horizon);
-        j = open_before(rows, k, entry);
+        j = open_before(rows, k, ready);
     }
     best
 }

@@ -14,13 +14,12 @@ use Rattle.model.specs.declared.Verdict.{Verdict}
 use Rattle.model.specs.declared.Verdict.the-variants.{Accepted, Refused}
 use lib.Dec.{leb}
 use Rattle.model.specs.Lists.{all, Answer, accepted, refused, _after_}
-use Rattle.model.specs.Table.{Component}
+use Rattle.model.specs.Table.{Component, Read}
 use Rattle.model.specs.Reader.{byte, word, Parsed, ok, fault, readComponent, about, atEnd, lengthFits, readComponents, versionFine, lengthFine, countFine, bodyStart, bandsAt, bandsFine, readWith, readTable}
 use Rattle.model.specs.Places.{startOf}
 use Rattle.model.specs.Calls.{verdictOf}
 use Rattle.table.specs.declared.Tried.the-variants.{Fine, Fails}
-use Rattle.table.specs.Directory.{triedOf}
-use Rattle.table.specs.Directory.{startsOf, readingFrom, readingOf, refusal}
+use Rattle.table.specs.Directory.{triedOf, startsOf, headerOf, readingFrom, readingOf, refusal}
 use Rattle.parts.proofs.Skim.{first-of}
 
 -- ## The reader's answer from a verdict
@@ -128,26 +127,49 @@ starts-on s l c at e q = rw (add-one c, e, q)
 -- ## The table
 
 module _ (bs : List ℕ) where
-  pub first-refused : versionFine bs ≡ false → refusal 1 255 ≡ readingOf bs
+  -- the header is refused ..
+  pub header-refused : (k : ℕ) → k ≡ headerOf bs → (k ≡ 0 → ⊥) → refusal k 255 ≡ readingOf bs
   unfolding readTable
-  first-refused e = rw e
+  header-refused k e n = rw e (go (versionFine bs) (lengthFine bs) (countFine bs && bandsFine bs) (λ z. n (e ∙ z)))
+    where
+      fourth : Answer Read
+      fourth = readComponents (byte bs 4) (byte bs 3) 0 (drop (bodyStart bs) bs) after λ l. accepted (readWith bs l)
 
-  pub second-refused : versionFine bs ≡ true → lengthFine bs ≡ false → refusal 2 255 ≡ readingOf bs
-  unfolding readTable
-  second-refused e f = rw (e, f)
+      go : (a b c : Bool) → (_≡_ {A = ℕ} (cond a (cond b (cond c 0 3) 2) 1) 0 → ⊥)
+          → refusal (cond a (cond b (cond c 0 3) 2) 1) 255 ≡ readingFrom bs (byte bs 3) (cond a (cond b (cond c fourth (refused 3 255)) (refused 2 255)) (refused 1 255))
+      go true true true f = absurd (f refl)
+      go true true false f = refl
+      go true false c f = refl
+      go false b c f = refl
 
-  pub third-refused : versionFine bs ≡ true → lengthFine bs ≡ true → countFine bs ≡ false → refusal 3 255 ≡ readingOf bs
-  unfolding readTable
-  third-refused e f g = rw (e, f, g)
+  -- .. or passes each test ..
+  pub header-fine : (k : ℕ) → k ≡ headerOf bs → k ≡ 0 → (versionFine bs ≡ true) × (lengthFine bs ≡ true) × (countFine bs ≡ true) × (bandsFine bs ≡ true)
+  header-fine k e z = go (versionFine bs) (lengthFine bs) (countFine bs) (bandsFine bs) (sym e ∙ z)
+    where
+      go : (a b c d : Bool) → _≡_ {A = ℕ} (cond a (cond b (cond (c && d) 0 3) 2) 1) 0 → (a ≡ true) × (b ≡ true) × (c ≡ true) × (d ≡ true)
+      go true true true true f = (refl, refl, refl, refl)
+      go true true true false f = absurd (omega (arith, f))
+      go true true false d f = absurd (omega (arith, f))
+      go true false c d f = absurd (omega (arith, f))
+      go false b c d f = absurd (omega (arith, f))
 
-  pub bands-refused : versionFine bs ≡ true → lengthFine bs ≡ true → countFine bs ≡ true → bandsFine bs ≡ false → refusal 3 255 ≡ readingOf bs
-  unfolding readTable
-  bands-refused e f g h = rw (e, f, g, h)
-
+  -- .. then the components
   pub fourth : versionFine bs ≡ true → lengthFine bs ≡ true → countFine bs ≡ true → bandsFine bs ≡ true
       → readingFrom bs (byte bs 3) (readComponents (byte bs 4) (byte bs 3) 0 (drop (bodyStart bs) bs)) ≡ readingOf bs
   unfolding readTable
   fourth e f g h = rw (e, f, g, h) (sym (reading-keeps bs (byte bs 3) (readComponents (byte bs 4) (byte bs 3) 0 (drop (bodyStart bs) bs)) (readWith bs)))
+
+  pub header-first : versionFine bs ≡ false → 1 ≡ headerOf bs
+  header-first e = rw e
+
+  pub header-second : versionFine bs ≡ true → lengthFine bs ≡ false → 2 ≡ headerOf bs
+  header-second e f = rw (e, f)
+
+  pub header-third : versionFine bs ≡ true → lengthFine bs ≡ true → countFine bs ≡ false → 3 ≡ headerOf bs
+  header-third e f g = rw (e, f, g)
+
+  pub header-bands : versionFine bs ≡ true → lengthFine bs ≡ true → countFine bs ≡ true → (b : Bool) → bandsFine bs ≡ b → _≡_ {A = ℕ} (cond b 0 3) (headerOf bs)
+  header-bands e f g b h = rw (e, f, g, h)
 
 -- ## What the tests of the header say
 

@@ -1,9 +1,10 @@
 -- What the reader answers: the verdict of checks 1 to 6, and where each component of an accepted table starts in its bytes.
+use mathlib.Core.Bool.{cond, _&&_}
 use mathlib.Core.List.{List}
 use Prim.Native.Nat.{ℕ, zero, suc}
 use lib.ListN.{set, replicate}
 use Rattle.model.specs.Lists.{Answer, accepted, refused}
-use Rattle.model.specs.Reader.{byte, Parsed, ok, fault, readTable}
+use Rattle.model.specs.Reader.{byte, Parsed, ok, fault, versionFine, lengthFine, countFine, bandsFine, readTable}
 use Rattle.model.specs.Places.{startOf}
 use Rattle.model.specs.Calls.{verdictOf}
 use Rattle.model.specs.declared.Verdict.the-variants.{Refused}
@@ -33,6 +34,10 @@ readingFrom bs n a = record { verdict = verdictOf a; starts = foundIn bs n a }
 -- a refusal finds no component
 abbrev pub refusal : ℕ → ℕ → Reading
 refusal n c = record { verdict = Refused n c; starts = replicate 8 0 }
+
+-- checks 1 to 3, of the header: the number of the first that is not passed, 0 if all are
+abbrev pub headerOf : List ℕ → ℕ
+headerOf bs = cond (versionFine bs) (cond (lengthFine bs) (cond (countFine bs && bandsFine bs) 0 3) 2) 1
 
 -- the answer of the reader, for any bytes
 abbrev pub readingOf : List ℕ → Reading

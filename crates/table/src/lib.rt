@@ -3,7 +3,7 @@ ghost use mathlib.Core.Path.{_≡_};
 ghost use Prim.Native.Nat.{ℕ, _+_, _≤_, _<_};
 ghost use lib.ListN.{length, drop, getD};
 ghost use Rattle.model.specs.Reader.{headFine, readBody, readComponent, readComponents, lengthFine, countFine, bodyStart, bandsFine};
-ghost use Rattle.table.specs.Directory.{triedOf, refusal, readingFrom, readingOf};
+ghost use Rattle.table.specs.Directory.{triedOf, refusal, headerOf, readingFrom, readingOf};
 use model::Sizes;
 use model::Verdict;
 use model::layout;
@@ -193,25 +193,36 @@ fn bands_fine(table: &[u8]) -> bool
     true
 }
 
+// The number of the first of checks 1 to 3 that a table fails, 0 if it passes them.
+pub fn header(table: &[u8]) -> u8
+    ensures { λ r. ⌜ r ≡ headerOf (now (table .entry)) ⌝ }
+{
+    if table.len() < 1 {
+        return 1;
+    }
+    let version = table[layout::TABLE_VERSION];
+    if !parts::both(1 <= version, version <= 2) {
+        return 1;
+    }
+    if !length_fine(table) {
+        return 2;
+    }
+    if !count_fine(table) {
+        return 3;
+    }
+    if !bands_fine(table) {
+        return 3;
+    }
+    0
+}
+
 // Reads a table: checks 1 to 6.
 pub fn read(table: &[u8]) -> Reading
     ensures { λ r. ⌜ r ≡ readingOf (now (table .entry)) ⌝ }
 {
-    if table.len() < 1 {
-        return refused(1, 255);
-    }
-    let version = table[layout::TABLE_VERSION];
-    if !parts::both(1 <= version, version <= 2) {
-        return refused(1, 255);
-    }
-    if !length_fine(table) {
-        return refused(2, 255);
-    }
-    if !count_fine(table) {
-        return refused(3, 255);
-    }
-    if !bands_fine(table) {
-        return refused(3, 255);
+    let number = header(table);
+    if number != 0 {
+        return refused(number, 255);
     }
     components(
         table,

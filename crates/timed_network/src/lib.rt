@@ -148,12 +148,20 @@ fn numbers_of(called: Called) -> CallNumbers
     }
 }
 
-// Whether the table is accepted.
+// Whether the table is accepted. The header is tried first, in registers: the rows of a schedule, nine pages of the stack, are taken after
+// it. That holds only if the table's place and length are not stored before, which `&table[0..]` sees to: it makes them anew.
 #[no_mangle]
 pub extern "C" fn timed_network_check(table: &[u8]) -> VerdictNumbers
     ensures { λ r. ⌜ (r .number ≡ numberOf (checkCall (now (table .entry)))) × (r .component ≡ concernedOf (checkCall (now (table .entry)))) × ((checkCall (now (table .entry)) ≡ Accepted) ↔ Accepts (now (table .entry))) ⌝ }
 {
-    let v = calls::check(table);
+    let header = calls::check_header(table);
+    if header != 0 {
+        return VerdictNumbers {
+            number: header,
+            component: 255,
+        };
+    }
+    let v = calls::check(&table[0..]);
     match v {
         Verdict::Accepted => VerdictNumbers {
             number: 0,

@@ -11,11 +11,11 @@ use Rattle.rows.proofs.seek_before.Statement.{statement}
 use Rattle.rows.proofs.seek_before.Tie as tie
 
 abbrev Inv-loop : tie.InvT-loop
-Inv-loop s l n i h entry best₀ j₀ best j =
+Inv-loop s l n i h ready best₀ j₀ best j =
     (j ≤ i) × (earliest (heardBy (readOf s .table) h (rowPassage l i)) (rowsFrom l j (i - j)) none ≡ bestOf l n best)
 
 abbrev μ-loop : tie.MeasureT-loop
-μ-loop s l n i h entry best₀ j₀ best j = j
+μ-loop s l n i h ready best₀ j₀ best j = j
 
 number-requires : tie.Need-number-requires Inv-loop μ-loop
 number-requires c κs = omega (arith, c .before .before .pre .0 .fits, c .before .before .pre .1)
