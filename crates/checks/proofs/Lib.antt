@@ -5,3 +5,4 @@ pub mod Banded
 pub mod Listening
 pub mod Answers
 pub mod Earlier
+pub mod Single

@@ -200,9 +200,9 @@ module _ (l : List ℕ) (n m r : ℕ) (rows : List ℕ) where
   not-once s (v ∷ []) q h = absurd (h (q .masks .once))
   not-once s (v ∷ w ∷ vs) q h = refl
 
-  pub listener : ((k : ℕ) → k < n → num l k 0 < 8) → ones m ≡ 1 → r ≡ 0 → (found : List Passage) → Noted l n found m r rows → AloneAt l n m rows found
-  listener small one once [] q = absurd (omega (arith, ap ones (q .masks .0), no-ones, one))
-  listener small one once (v ∷ []) q =
+  pub alone-at : ((k : ℕ) → k < n → num l k 0 < 8) → ones m ≡ 1 → r ≡ 0 → (found : List Passage) → Noted l n found m r rows → AloneAt l n m rows found
+  alone-at small one once [] q = absurd (omega (arith, ap ones (q .masks .0), no-ones, one))
+  alone-at small one once (v ∷ []) q =
       let a = q .masks in
       let s = small (a .row) (a .there) in
       let z : trailingZeros 8 m ≡ num l (a .row) 0 = ap (trailingZeros 8) (a .bit) ∙ zeros-of-bit 8 (num l (a .row) 0) s in
@@ -212,7 +212,7 @@ module _ (l : List ℕ) (n m r : ℕ) (rows : List ℕ) where
         there = omega (arith, t, a .there);
         only = ap (λ (w : Passage). w ∷ []) (a .is) ∙ ap (λ (k : ℕ). rowPassage l k ∷ []) (sym t);
       }
-  listener small one once (v ∷ w ∷ vs) q = absurd (⊎-elim (λ (h : 2 ≤ ones m). omega (arith, one)) (λ (h : 1 ≤ r). omega (arith, once)) (q .masks))
+  alone-at small one once (v ∷ w ∷ vs) q = absurd (⊎-elim (λ (h : 2 ≤ ones m). omega (arith, one)) (λ (h : 1 ≤ r). omega (arith, once)) (q .masks))
 
 -- .. which is held against the send window
 pub heard-alone : (l : List ℕ) (s : Passage) (found : List Passage) (k : ℕ) (x : Bool) → found ≡ rowPassage l k ∷ []

@@ -1,4 +1,4 @@
--- The three questions, answered by what a sweep found; the tests of a pair of rows, the numbers first. Assumes nothing.
+-- Questions 10 and 12, answered by what a sweep found; the tests of a pair of rows, the numbers first. Assumes nothing.
 use mathlib.Core.Path.{_≡_, refl, sym, ap, _∙_}
 use mathlib.Core.Bool.{Bool, true, false, cond, _&&_, _||_, not}
 use mathlib.Core.List.{List, [], _∷_, _++_}
@@ -12,7 +12,7 @@ use Rattle.model.specs.Lists.{any, only}
 use Rattle.model.specs.Table.{Table}
 use Rattle.model.specs.Window.{channelOf}
 use Rattle.model.specs.Schedule.{Passage, passageArc, names, others}
-use Rattle.model.specs.Checks.{shareTick, startsEarlier, endsLater, disturb, isSend, isReceive, meets, collides, mayHear, heardWell, unheard, two, crowded}
+use Rattle.model.specs.Checks.{shareTick, startsEarlier, endsLater, disturb, isSend, isReceive, meets, collides, mayHear, two, crowded}
 use Rattle.model.proofs.Basics.Members.{only-none, any-none}
 use Rattle.model.proofs.Checks.Heard.{two-is}
 use Rattle.rows.specs.Rows.{rowPassage}
@@ -148,11 +148,6 @@ module _ (T : Table) (H : ℕ) where
             each : (v ∷ vs ≡ only p S → any p S ≡ true) → (t : Bool) → v ∷ vs ≡ cond t (w ∷ only p S) (only p S) → t || any p S ≡ true
             each ih true f = refl
             each ih false f = ih f
-
-    -- ## 11
-
-    pub heard-or-not : (y : Bool) → y ≡ heardWell s (only (hearing T s) S) → not y ≡ unheard T H S s
-    heard-or-not y q = asked s x _ (not y) e t (ap not q)
 
   -- ## 12
 

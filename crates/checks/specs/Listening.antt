@@ -2,15 +2,21 @@
 -- found that may hear a send: the components listening, those that do so by more than one window, and each one's row.
 use mathlib.Core.Logic.{_⊎_}
 use mathlib.Core.Path.{_≡_}
-use mathlib.Core.Bool.{cond}
+use mathlib.Core.Bool.{true, cond}
 use mathlib.Core.List.{List, [], _∷_}
+use mathlib.Core.Option.{none, some}
 use Prim.Native.Nat.{ℕ, _^_, _≤_, _<_}
 use lib.Bits.{bitOr}
 use lib.Count.{ones}
-use lib.Dec.{eqb}
+use lib.Dec.{eqb, ltb}
 use lib.ListN.{length, getD}
+use Rattle.model.specs.Lists.{first, only}
+use Rattle.model.specs.Table.{Table}
 use Rattle.model.specs.Schedule.{Passage}
-use Rattle.rows.specs.Rows.{num, rowPassage}
+use Rattle.model.specs.Checks.{mayHear, heardWell, unheard, crowded}
+use Rattle.rows.specs.Rows.{num, rowPassage, rowsOf}
+use Rattle.checks.specs.declared.SendsHeard.{SendsHeard}
+use Rattle.checks.specs.declared.SendsHeard.the-variants.{Apart, Shared, Unheard}
 
 -- those that listen by more than one window, with one more window of component c, whose bit may be set already
 abbrev pub repeatedWith : ℕ → ℕ → ℕ → ℕ
@@ -34,3 +40,14 @@ Masks l n (v ∷ w ∷ vs) listening repeated rows = (2 ≤ ones listening) ⊎ 
 pub record Noted (l : List ℕ) (n : ℕ) (found : List Passage) (listening repeated : ℕ) (rows : List ℕ) : Type 0 where
   pub masks : Masks l n found listening repeated rows
   pub room : length rows ≡ 8
+
+-- one of n rows is the only one that may hear the send of row i, and it starts earlier and ends later; or n
+pub record ListenerIs (T : Table) (l : List ℕ) (n i found : ℕ) : Type 0 where
+  pub well : ltb found n ≡ heardWell (rowPassage l i) (only (λ v. mayHear T v (rowPassage l i)) (rowsOf l n))
+  pub alone : found < n → (j : ℕ) → j < n → mayHear T (rowPassage l j) (rowPassage l i) ≡ true → j ≡ found
+
+-- what is told of 11 and 12
+abbrev pub HeardAs : Table → ℕ → List ℕ → ℕ → SendsHeard → Type 0
+HeardAs T H l n Apart = (none ≡ first (unheard T H (rowsOf l n)) (rowsOf l n)) × (none ≡ first (crowded T H (rowsOf l n)) (rowsOf l n))
+HeardAs T H l n Shared = none ≡ first (unheard T H (rowsOf l n)) (rowsOf l n)
+HeardAs T H l n (Unheard i) = (some (rowPassage l i) ≡ first (unheard T H (rowsOf l n)) (rowsOf l n)) × (i < n)

@@ -10,11 +10,11 @@ ghost use Rattle.model.specs.Window.{channelOf};
 ghost use Rattle.model.specs.Table.{bandOf};
 ghost use Rattle.model.specs.Places.{Valid, readOf};
 ghost use Rattle.model.specs.Schedule.{passageArc, others};
-ghost use Rattle.model.specs.Checks.{shareTick, startsEarlier, endsLater, disturb, isSend, isReceive, meets, collides, unheard, crowded, heardWell, mayHear, checked};
+ghost use Rattle.model.specs.Checks.{shareTick, startsEarlier, endsLater, disturb, isSend, isReceive, meets, collides, unheard, crowded, mayHear, checked};
 ghost use Rattle.model.specs.Calls.{verdictOf};
 ghost use Rattle.rows.specs.Rows.{num, messageOf, rowPassage, rowsOf, RowKnown, RowsPlaced};
 ghost use Rattle.checks.specs.Faults.{faultView, FaultBelow, RowStands, from12, from11};
-ghost use Rattle.checks.specs.Listening.{repeatedWith, Noted};
+ghost use Rattle.checks.specs.Listening.{repeatedWith, Noted, ListenerIs, HeardAs};
 use model::Action;
 use model::Verdict;
 use model::layout;
@@ -30,6 +30,13 @@ struct Listeners {
     listening: u8,
     repeated: u8,
     row: [usize; 8],
+}
+
+// How the sends are heard: each well and by a row of its own, all well but two of them by one row, or not the one of that row.
+enum SendsHeard {
+    Apart,
+    Shared,
+    Unheard(usize),
 }
 
 // Whether row i's edge sends.
@@ -244,35 +251,36 @@ fn listeners_from(
     }
 }
 
-// Whether exactly one receive window of another component that names the channel shares a tick with the send window of row i, and starts
-// earlier and ends later. The components listening are noted as eight bits: the count of ones decides, the trailing zeros give the number.
-// Two windows of one component are one bit and still a fault, so it may not listen by more than one.
-pub fn is_heard_well(s: &[u8], l: &[u32], n: usize, i: usize) -> bool
-    requires { ⌜ RowsPlaced (now s) (now l) n × (i < n) ⌝ }
-    ensures { λ r. ⌜ r ≡ heardWell (rowPassage (now (l .entry)) i) (only (λ r. mayHear (readOf (now (s .entry)) .table) r (rowPassage (now (l .entry)) i)) (rowsOf (now (l .entry)) n)) ⌝ }
+// Who listens to a send window.
+fn listeners_of(table: &[u8], rows: &[u32], count: usize, send: usize) -> Listeners
+    requires { ⌜ RowsPlaced (now table) (now rows) count × (send < count) ⌝ }
+    ensures { λ r. ⌜ Noted (now (rows .entry)) count (only (λ v. mayHear (readOf (now (table .entry)) .table) v (rowPassage (now (rows .entry)) send)) (rowsOf (now (rows .entry)) count)) (r .listening) (r .repeated) (r .row) ⌝ }
 {
-    let channel = rows::row_sent(s, l, i);
-    let before = listeners_before(s, l, n, i, channel);
-    let listeners = listeners_from(s, l, n, i, channel, before);
-    if u8::count_ones(listeners.listening) != 1 {
-        return false;
-    }
-    if listeners.repeated != 0 {
-        return false;
-    }
-    let listener = u8::trailing_zeros(listeners.listening) as usize;
-    surrounds(l, listeners.row[listener], i)
+    let channel = rows::row_sent(table, rows, send);
+    let before = listeners_before(table, rows, count, send, channel);
+    listeners_from(table, rows, count, send, channel, before)
 }
 
-// Whether row i is a send that is not heard well.
-pub fn is_unheard(s: &[u8], l: &[u32], n: usize, i: usize, h: u32) -> bool
-    requires { ⌜ RowsPlaced (now s) (now l) n × (i < n) ⌝ }
-    ensures { λ r. ⌜ r ≡ unheard (readOf (now (s .entry)) .table) h (rowsOf (now (l .entry)) n) (rowPassage (now (l .entry)) i) ⌝ }
+// The row whose receive window, of another component that names the channel, is the only one that shares a tick with a send window, if it
+// starts earlier and ends later; else the count of rows. The components listening are noted as eight bits: the count of ones decides, the
+// trailing zeros give the number. Two windows of one component are one bit and still a fault, so it may not listen by more than one.
+fn listener(table: &[u8], rows: &[u32], count: usize, send: usize) -> usize
+    requires { ⌜ RowsPlaced (now table) (now rows) count × (send < count) ⌝ }
+    ensures { λ r. ⌜ ListenerIs (readOf (now (table .entry)) .table) (now (rows .entry)) count send r ⌝ }
 {
-    if !is_send(s, l, i, h) {
-        return false;
+    let listeners = listeners_of(table, rows, count, send);
+    if u8::count_ones(listeners.listening) != 1 {
+        return count;
     }
-    !is_heard_well(s, l, n, i)
+    if listeners.repeated != 0 {
+        return count;
+    }
+    let component = u8::trailing_zeros(listeners.listening) as usize;
+    let found = listeners.row[component];
+    if surrounds(rows, found, send) {
+        return found;
+    }
+    count
 }
 
 // Whether row j is a send that row i, a receive, may hear.
@@ -351,19 +359,42 @@ pub fn first_collision(s: &[u8], l: &[u32], n: usize, h: u32) -> Fault
     Fault::Nothing
 }
 
+// 11 for every send, and what this tells of 12: each send's listener is noted, and whether a row is that of two sends.
+fn hear_sends(table: &[u8], rows: &[u32], count: usize, horizon: u32) -> SendsHeard
+    requires { ⌜ RowsPlaced (now table) (now rows) count ⌝ }
+    ensures { λ r. ⌜ HeardAs (readOf (now (table .entry)) .table) horizon (now (rows .entry)) count r ⌝ }
+{
+    let mut listens: [u8; 1024] = [0; 1024];
+    let mut apart = true;
+    let mut i: usize = 0;
+    while i < count {
+        if is_send(table, rows, i, horizon) {
+            let found = listener(table, rows, count, i);
+            if count <= found {
+                return SendsHeard::Unheard(i);
+            }
+            apart = parts::both(apart, listens[found] == 0);
+            listens[found] = 1;
+        }
+        i += 1;
+    }
+    if apart {
+        return SendsHeard::Apart;
+    }
+    SendsHeard::Shared
+}
+
 // 11: the first send that is not heard well.
 pub fn first_unheard(s: &[u8], l: &[u32], n: usize, h: u32) -> Fault
     requires { ⌜ RowsPlaced (now s) (now l) n ⌝ }
     ensures { λ r. ⌜ (faultView (now (l .entry)) r ≡ first (unheard (readOf (now (s .entry)) .table) h (rowsOf (now (l .entry)) n)) (rowsOf (now (l .entry)) n)) × FaultBelow n r ⌝ }
 {
-    let mut i: usize = 0;
-    while i < n {
-        if is_unheard(s, l, n, i, h) {
-            return Fault::At(i);
-        }
-        i += 1;
+    let heard = hear_sends(s, l, n, h);
+    match heard {
+        SendsHeard::Apart => Fault::Nothing,
+        SendsHeard::Shared => Fault::Nothing,
+        SendsHeard::Unheard(i) => Fault::At(i),
     }
-    Fault::Nothing
 }
 
 // 12: the first receive that hears two sends.
@@ -401,15 +432,16 @@ fn check_crowded(s: &[u8], l: &[u32], n: usize, h: u32) -> Verdict
     }
 }
 
-// Checks 11 and 12.
+// Checks 11 and 12. Where each send has a listener of its own, no receive hears two.
 fn check_heard(s: &[u8], l: &[u32], n: usize, h: u32) -> Verdict
     requires { ⌜ RowsPlaced (now s) (now l) n ⌝ }
     ensures { λ r. ⌜ r ≡ verdictOf (from11 (readOf (now (s .entry)) .table) h (rowsOf (now (l .entry)) n)) ⌝ }
 {
-    let fault = first_unheard(s, l, n, h);
-    match fault {
-        Fault::Nothing => check_crowded(s, l, n, h),
-        Fault::At(i) => refused(l, 11, i),
+    let heard = hear_sends(s, l, n, h);
+    match heard {
+        SendsHeard::Apart => Verdict::Accepted,
+        SendsHeard::Shared => check_crowded(s, l, n, h),
+        SendsHeard::Unheard(i) => refused(l, 11, i),
     }
 }
 

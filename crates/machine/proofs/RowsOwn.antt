@@ -2,8 +2,7 @@
 use mathlib.Core.Path.{_≡_, refl, sym, ap, subst, _∙_}
 use mathlib.Core.Bool.{cond}
 use mathlib.Core.List.{List, [], _∷_}
-use Prim.Native.Nat.{ℕ, zero, suc, _+_, _*_, _≤_, _<_}
-use native.Mathlib.Nat.{add-zero}
+use Prim.Native.Nat.{ℕ, suc, _+_, _*_, _≤_, _<_}
 use native.Mathlib.Numerals.{add-one}
 use native.Mathlib.Omega.{arith}
 use borrow.Author.Tests.{lt-ltb, le-ltb}
@@ -12,35 +11,13 @@ use lib.Seq.{drop-cons, drop-drop}
 use Rattle.model.specs.Schedule.{Passage, own}
 use Rattle.model.specs.Checks.{noPassage, passageAt}
 use Rattle.model.proofs.Schedule.Own.{own-here, own-other}
-use Rattle.rows.specs.Rows.{num, rowPassage, rowsFrom, rowsOf}
+use Rattle.rows.specs.Rows.{num, rowPassage, rowsOf}
+use Rattle.rows.proofs.Numbered.{rows-length, row-at}
 use Rattle.stand.specs.Stands.{never}
 use Rattle.registers.specs.Words.{wordIn}
 use Rattle.registers.proofs.Frames.{put-there, put-beside, put-length, put-others}
 use Rattle.machine.specs.Running.{RowIs, readyAt}
 use Rattle.machine.specs.Chosen.{RowPassed}
-
--- ## The rows as a list
-
-from-length : (rows : List ℕ) (i n : ℕ) → length (rowsFrom rows i n) ≡ n
-unfolding rowsFrom
-from-length rows i zero = refl
-from-length rows i (suc n) = ap suc (from-length rows (suc i) n)
-
-from-at : (rows : List ℕ) (i n k : ℕ) → k < n → passageAt (rowsFrom rows i n) k ≡ rowPassage rows (i + k)
-unfolding rowsFrom
-from-at rows i zero k h = absurd (omega arith)
-from-at rows i (suc n) zero h = ap (rowPassage rows) (sym (add-zero i))
-from-at rows i (suc n) (suc k) h =
-    let e : suc i + k ≡ i + suc k = omega arith in
-    from-at rows (suc i) n k (omega arith) ∙ ap (rowPassage rows) e
-
--- n rows are n passages
-pub rows-length : (rows : List ℕ) (n : ℕ) → length (rowsOf rows n) ≡ n
-rows-length rows n = from-length rows 0 n
-
--- passage number k is that of row k
-pub row-at : (rows : List ℕ) (n k : ℕ) → k < n → passageAt (rowsOf rows n) k ≡ rowPassage rows k
-row-at rows n k h = let e : 0 + k ≡ k = omega arith in from-at rows 0 n k h ∙ ap (rowPassage rows) e
 
 module _ (rows : List ℕ) (n : ℕ) where
   -- the passages from a row on

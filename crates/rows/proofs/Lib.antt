@@ -4,3 +4,4 @@ pub mod Channels
 pub mod Sought
 pub mod Relabelled
 pub mod Grown
+pub mod Numbered

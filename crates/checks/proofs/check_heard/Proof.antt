@@ -1,58 +1,77 @@
 -- `checks::check_heard` meets its contract. Assumes nothing.
-use mathlib.Core.Path.{subst}
-use Prim.Native.Nat.{_<_}
+use mathlib.Core.Path.{subst, refl}
 use native.Mathlib.Omega.{arith}
 use borrow.Author.Needs.{needs}
 use Rattle.model.specs.Places.{readOf}
-use Rattle.model.specs.Checks.{unheard}
+use Rattle.model.specs.Lists.{accepted}
+use Rattle.model.specs.Checks.{unheard, crowded}
 use Rattle.rows.specs.Rows.{rowsOf}
-use Rattle.checks.specs.Faults.{FaultBelow, from12}
+use Rattle.checks.specs.declared.Fault.the-variants.{Nothing, At}
+use Rattle.checks.specs.Faults.{from12}
+use Rattle.checks.specs.Listening.{HeardAs}
 use Rattle.checks.proofs.Sending.{row-stands}
 use Rattle.checks.proofs.Answers.{passed, failed}
 use Rattle.checks.proofs.check_heard.Statement.{statement}
 use Rattle.checks.proofs.check_heard.Tie as tie
 
-first-unheard-requires : tie.Need-first-unheard-requires
-first-unheard-requires c κs = search needs
+hear-sends-requires : tie.Need-hear-sends-requires
+hear-sends-requires c κs = search needs
 
 enum-told : tie.Need-enum-told
 enum-told c = search needs
 
+enum-told-2 : tie.Need-enum-told-2
+enum-told-2 c = search needs
+
 check-crowded-requires : tie.Need-check-crowded-requires
 check-crowded-requires c κs = search needs
 
-enum-known-fault : tie.Need-enum-known-fault
-enum-known-fault c = search needs
+enum-known-heard : tie.Need-enum-known-heard
+enum-known-heard c = search needs
 
 refused-requires : tie.Need-refused-requires
 refused-requires c κs =
     let e = c .before .before .before .before .before .before in
     let a = e .args in
-    let b : c .before .fault .given .0 .0 < a .n = subst (FaultBelow (a .n)) (c .before .fault .given .1) (c .before .before .before .first-unheard .ensures .1) in
-    row-stands (a .s .now) (a .l .now) (a .n) _ (c .before .before .before .before .before .shared-slice-known .given) (e .pre) (omega (arith, b))
+    let told = subst (HeardAs (readOf (a .s .now) .table) (a .h) (a .l .now) (a .n)) (c .before .heard .given .1) (c .before .before .before .hear-sends .ensures) in
+    row-stands (a .s .now) (a .l .now) (a .n) _ (c .before .before .before .before .before .shared-slice-known .given) (e .pre) (omega (arith, told .1))
 
 returns : tie.Need-returns
 returns c =
-    let a = c .before .before .before .before .before .before .args in
+    let a = c .before .before .before .before .before .args in
     let T = readOf (a .s .now) .table in
     let S = rowsOf (a .l .now) (a .n) in
-    passed (unheard T (a .h) S) S (a .l .now) (c .before .before .before .first-unheard .result) (c .before .before .before .first-unheard .ensures .0) 11 (from12 T (a .h) S) (c .check-crowded .result) (c .before .enum-told .given .1) (c .check-crowded .ensures)
+    let told = subst (HeardAs T (a .h) (a .l .now) (a .n)) (c .enum-told .given .1) (c .before .before .hear-sends .ensures) in
+    passed (unheard T (a .h) S) S (a .l .now) Nothing (told .0) 11 (from12 T (a .h) S) _ refl
+    (passed (crowded T (a .h) S) S (a .l .now) Nothing (told .1) 12 (accepted S) _ refl refl)
 
 returns-2 : tie.Need-returns-2
 returns-2 c =
+    let a = c .before .before .before .before .before .before .args in
+    let T = readOf (a .s .now) .table in
+    let S = rowsOf (a .l .now) (a .n) in
+    let told = subst (HeardAs T (a .h) (a .l .now) (a .n)) (c .before .enum-told2 .given .1) (c .before .before .before .hear-sends .ensures) in
+    passed (unheard T (a .h) S) S (a .l .now) Nothing told 11 (from12 T (a .h) S) (c .check-crowded .result) refl (c .check-crowded .ensures)
+
+returns-3 : tie.Need-returns-3
+returns-3 c =
     let a = c .before .before .before .before .before .before .before .args in
     let T = readOf (a .s .now) .table in
     let S = rowsOf (a .l .now) (a .n) in
-    failed (unheard T (a .h) S) S (a .l .now) (c .before .before .before .before .first-unheard .result) (c .before .before .before .before .first-unheard .ensures .0) 11 (from12 T (a .h) S) (c .refused .result) (c .before .before .fault .given .0 .0) (c .before .before .fault .given .1) (c .refused .ensures)
+    let i = c .before .before .heard .given .0 .0 in
+    let told = subst (HeardAs T (a .h) (a .l .now) (a .n)) (c .before .before .heard .given .1) (c .before .before .before .before .hear-sends .ensures) in
+    failed (unheard T (a .h) S) S (a .l .now) (At i) (told .0) 11 (from12 T (a .h) S) (c .refused .result) i refl (c .refused .ensures)
 
 pub check-heard-spec : {M : Type 1} → statement M
 check-heard-spec =
     tie.close
     (tie.spec
-    first-unheard-requires
+    hear-sends-requires
     enum-told
+    enum-told-2
     check-crowded-requires
-    enum-known-fault
+    enum-known-heard
     refused-requires
     returns
-    returns-2)
+    returns-2
+    returns-3)

@@ -1,61 +1,46 @@
 -- `checks::first_unheard` meets its contract. Assumes nothing.
-use Prim.Native.Nat.{_-_, _≤_}
-use native.Mathlib.Omega.{arith}
+use mathlib.Core.Path.{subst}
+use borrow.Author.Needs.{needs}
 use Rattle.model.specs.Places.{readOf}
-use Rattle.model.specs.Checks.{unheard}
-use Rattle.rows.specs.Rows.{rowsOf}
-use Rattle.checks.proofs.Answers.{Ahead, ahead-start, ahead-at, ahead-on, ahead-none}
+use Rattle.checks.specs.Listening.{HeardAs}
 use Rattle.checks.proofs.first_unheard.Statement.{statement}
 use Rattle.checks.proofs.first_unheard.Tie as tie
 
-abbrev Inv-loop : tie.InvT-loop
-Inv-loop s l n h i₀ i = (i ≤ n) × Ahead (unheard (readOf s .table) h (rowsOf l n)) l n i
+hear-sends-requires : tie.Need-hear-sends-requires
+hear-sends-requires c κs = search needs
 
-abbrev μ-loop : tie.MeasureT-loop
-μ-loop s l n h i₀ i = n - i
+enum-told : tie.Need-enum-told
+enum-told c = search needs
 
-loop-holds : tie.Need-loop-holds Inv-loop μ-loop
-loop-holds c =
-    let a = c .before .before .args in
-    (omega arith, ahead-start (unheard (readOf (a .s .now) .table) (a .h) (rowsOf (a .l .now) (a .n))) (a .l .now) (a .n))
+enum-told-2 : tie.Need-enum-told-2
+enum-told-2 c = search needs
 
-is-unheard-requires : tie.Need-is-unheard-requires Inv-loop μ-loop
-is-unheard-requires c κs = (c .before .before .before .before .pre, c .loop-test .taken)
+enum-known-heard : tie.Need-enum-known-heard
+enum-known-heard c = search needs
 
-returns : tie.Need-returns Inv-loop μ-loop
+returns : tie.Need-returns
 returns c =
-    let a = c .before .before .before .before .before .before .args in
-    let l = c .before .before .before .loop in
-    (ahead-at (unheard (readOf (a .s .now) .table) (a .h) (rowsOf (a .l .now) (a .n))) (a .l .now) (a .n) (l .i) (c .before .is-unheard .result) (c .before .before .loop-test .taken) (c .before .is-unheard .ensures) (c .if1 .taken) (l .inv .1), c .before .before .loop-test .taken)
+    let a = c .before .before .before .before .before .args in
+    (subst (HeardAs (readOf (a .s .now) .table) (a .h) (a .l .now) (a .n)) (c .enum-told .given .1) (c .before .before .hear-sends .ensures) .0, tt)
 
-add-i : tie.Need-add-i Inv-loop μ-loop
-add-i c = omega (arith, c .before .before .before .before .before .before .pre .few)
-
-loop-less : tie.Need-loop-less Inv-loop μ-loop
-loop-less c = omega arith
-
-loop-again : tie.Need-loop-again Inv-loop μ-loop
-loop-again c =
-    let a = c .before .before .before .before .before .before .args in
-    let l = c .before .before .before .loop in
-    (omega arith, ahead-on (unheard (readOf (a .s .now) .table) (a .h) (rowsOf (a .l .now) (a .n))) (a .l .now) (a .n) (l .i) (c .before .is-unheard .result) (c .before .before .loop-test .taken) (c .before .is-unheard .ensures) (c .if1 .left) (l .inv .1))
-
-returns-2 : tie.Need-returns-2 Inv-loop μ-loop
+returns-2 : tie.Need-returns-2
 returns-2 c =
-    let a = c .before .before .before .before .args in
-    let l = c .before .loop in
-    (ahead-none (unheard (readOf (a .s .now) .table) (a .h) (rowsOf (a .l .now) (a .n))) (a .l .now) (a .n) (l .i) (omega arith) (l .inv .1), tt)
+    let a = c .before .before .before .before .before .args in
+    (subst (HeardAs (readOf (a .s .now) .table) (a .h) (a .l .now) (a .n)) (c .enum-told2 .given .1) (c .before .before .hear-sends .ensures), tt)
+
+returns-3 : tie.Need-returns-3
+returns-3 c =
+    let a = c .before .before .before .before .before .before .args in
+    subst (HeardAs (readOf (a .s .now) .table) (a .h) (a .l .now) (a .n)) (c .before .heard .given .1) (c .before .before .before .hear-sends .ensures)
 
 pub first-unheard-spec : {M : Type 1} → statement M
 first-unheard-spec =
     tie.close
     (tie.spec
-    Inv-loop
-    μ-loop
-    loop-holds
-    is-unheard-requires
+    hear-sends-requires
+    enum-told
+    enum-told-2
+    enum-known-heard
     returns
-    add-i
-    loop-less
-    loop-again
-    returns-2)
+    returns-2
+    returns-3)
