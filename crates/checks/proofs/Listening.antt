@@ -94,9 +94,9 @@ more-of-one : (m r c : ℕ) → 1 ≤ ones m → (1 ≤ ones (bitOr m (2 ^ c))) 
 more-of-one m r c h = (
   still-one m c h,
   ⊎-elim
-  (λ e. inr (rw (eq-eqb (bitOr m (2 ^ c)) m e) (omega (arith, or-le-r r (2 ^ c), pow-pos c))))
-  (λ e. inl (omega (arith, e)))
-  (set-bit m c),
+      (λ e. inr (rw (eq-eqb (bitOr m (2 ^ c)) m e) (omega (arith, or-le-r r (2 ^ c), pow-pos c))))
+      (λ e. inl (omega (arith, e)))
+      (set-bit m c),
 )
 
 -- .. and so it stays
