@@ -334,8 +334,9 @@ fn what_was_not_tried_is_told() {
 
 #[test]
 fn a_line_tells_all_answers_that_were_given() {
-    let some = tally("name", [1, 2, 0, 0, 0, 0, 0, 0, 3, 0, 0, 0, 4]);
-    let line = "name: 10 cases: accepted 1, refused 1: 2, refused 8: 3, refused 12: 4; \
+    let some = tally("name", [1, 2, 0, 0, 0, 0, 0, 0, 3, 0, 0, 0, 4, 0, 5, 0]);
+    let line = "name: 15 cases: accepted 1, refused 1: 2, refused 8: 3, refused 12: 4, \
+                refused 16: 5; \
                 6 lists: written 3, too short 2, table refused 1; \
                 6 programs: written 3, too short 2, table refused 1; \
                 6 charts: written 3, too short 2, table refused 1; \
@@ -348,7 +349,7 @@ fn a_line_tells_all_answers_that_were_given() {
     let sum = Tally::sum(&[some.clone(), some]);
     assert!(sum
         .to_string()
-        .starts_with("all classes: 20 cases: accepted 2, "));
+        .starts_with("all classes: 30 cases: accepted 2, "));
     assert_eq!(sum.lists.all(), 12);
     assert_eq!(sum.runs.all(), 76);
     assert_eq!(Tally::new("none").to_string(), "none: 0 cases");
