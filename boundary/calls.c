@@ -186,14 +186,39 @@ static int share_tick(const uint32_t *row, const uint32_t *other) {
     return row[4] <= other[5] && other[4] <= row[5];
 }
 
+/* Whether so many passages are listed as the refusal takes. */
+static int met_size_fits(uint8_t refusal, size_t size) {
+    switch (refusal) {
+    case 10:
+        return size >= 2;
+    case 11:
+        return size == 1;
+    case 12:
+    case 15:
+        return size >= 3;
+    default:
+        return size == 2;
+    }
+}
+
+/* 16: the listener does not start earlier; 17: it does, and does not end later. */
+static void try_listener(uint8_t refusal, const uint32_t *send, const uint32_t *receive) {
+    if (refusal == 16 && receive[4] < send[4])
+        fail("the listener starts earlier");
+    if (refusal == 17 && (receive[4] >= send[4] || receive[5] > send[5]))
+        fail("the listener starts late, or ends later");
+}
+
 /*
- * What is listed after refusal 10, 11 or 12: the passage at fault, of the
- * component concerned, then passages of others that share a tick with it, in
- * the order of the schedule; as many as the refusal takes.
+ * What is listed after refusal 10 to 12 or 15 to 17: the passage at fault, of
+ * the component concerned, then passages of others that share a tick with it,
+ * in the order of the schedule; as many as the refusal takes.
  */
 static void try_met(uint8_t refusal, uint8_t concerned, size_t size) {
-    if (size < (refusal == 12 ? 3u : refusal == 10 ? 2u : 1u) || met[0] != concerned)
-        fail("not the passage at fault, or too few that it meets");
+    if (!met_size_fits(refusal, size) || met[0] != concerned)
+        fail("not the passage at fault, or another count of those that it meets");
+    if (refusal >= 16)
+        try_listener(refusal, met, &met[FIELDS]);
     for (size_t i = 1; i < size; i++) {
         const uint32_t *row = &met[FIELDS * i];
         if (row[0] == concerned || row[0] >= 8 || !share_tick(met, row))
@@ -218,7 +243,8 @@ MeetingsNumbers guarded_meetings(enum where where, struct bytes table, size_t le
         fail("another verdict than that of the check");
     if ((answer.number != 0 && answer.number != 13) || answer.component != 255)
         fail("there is no such answer");
-    int met_some = answer.refusal >= 10 && answer.refusal <= 12;
+    int met_some = (answer.refusal >= 10 && answer.refusal <= 12) ||
+                   (answer.refusal >= 15 && answer.refusal <= 17);
     if (answer.number == 13 ? answer.size != 0 || !met_some : !met_some && answer.size != 0)
         fail("the size cannot be");
     if (met_some && answer.number == 0)

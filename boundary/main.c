@@ -81,7 +81,7 @@ static void lent_lengths(void) {
     }
 }
 
-/* The same for meetings: nothing is listed, so no list is too short, unless 10, 11 or 12 refuses. */
+/* The same for meetings: nothing is listed, so no list is too short, unless 10 to 12 or 15 to 17 refuses. */
 static void lend_for_meetings(enum where where, struct bytes table, long more) {
     size_t needed = FIELDS * guarded_meetings(where, table, MAX_MET).size;
     long sum = (long)needed + more;

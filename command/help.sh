@@ -42,8 +42,9 @@ command_help() {
 usage: vanillatarn verdict TABLE
 
 Says whether the table is accepted. If it is not: `refused`, the number of the
-check, the component; the question in words; after 10, 11 or 12 also which
-windows met. docs/REFUSALS.md lists the numbers.
+check, the component; the question in words; after 10 to 12 and 15 to 17 also
+which windows met, and where a send is not heard well the remedy.
+docs/REFUSALS.md lists the numbers.
 
 Exit status: 0 accepted, 1 refused.
 TEXT

@@ -206,14 +206,14 @@ for words in 'schedule incident.bin' 'chart incident.bin' 'translate incident.bi
     # shellcheck disable=SC2086 # several words
     call $words
     says 1
-    complains 'refused 11 0'
+    complains 'refused 16 0'
     complains 'vanillatarn verdict incident.bin'
     check 'the file of -o is as it was' cmp -s kept old
 done
 
 call translate - <incident.bin
 says 1
-complains 'refused 11 0'
+complains 'refused 16 0'
 check 'no file is named' test -z "$(grep verdict err || true)"
 
 ## Ends of runs

@@ -47,16 +47,23 @@ extern "C" {
  *   9  an update of the edge taken leaves -32,768 to 32,767
  *  10  two send windows of different components on one band share a tick (in
  *      version 1 all channels are on one band)
- *  11  a send window is not heard by exactly one receive window of another
- *      component that starts earlier and ends later
+ *  11  a send window shares a tick with no receive window of another component
+ *      that names its channel
  *  12  a receive window shares a tick with two send windows of other
  *      components on its channels
+ *  15  a send window shares a tick with several such receive windows as in 11
+ *  16  with a single one, which does not start earlier
+ *  17  with a single one, which starts earlier, but does not end later
+ *
+ * 15 to 17 stand in the place of 11 (document 02): they are asked after 10 and
+ * before 12, and earlier versions of this library said 11 for all four. 13 and
+ * 14 refuse a call and say nothing about a table.
  *
  * component: the number of the component concerned, counted from 0. For 4 to 6
  * the one that was being read, for 7 to 9 the one that was opening a passage,
- * for 10 and 11 that of the first send at fault in the order of the schedule,
- * for 12 that of the first receive at fault. 255 if the table is accepted, and
- * with 1, 2 and 3.
+ * for 10, 11 and 15 to 17 that of the first send at fault in the order of the
+ * schedule, for 12 that of the first receive at fault. 255 if the table is
+ * accepted, and with 1, 2 and 3.
  */
 typedef struct VerdictNumbers {
     uint8_t number;
@@ -303,9 +310,10 @@ typedef struct MeetingsNumbers {
 } MeetingsNumbers;
 
 /*
- * Which windows met: for a table that 10, 11 or 12 refuses, the passage at
- * fault, then the passages that it meets, each as the seven numbers of
- * timed_network_schedule. For any other table nothing is listed.
+ * Which windows met: for a table that checks 10 to 12 refuse (with 10, 11, 12
+ * or 15 to 17), the passage at fault, then the passages that it meets, each as
+ * the seven numbers of timed_network_schedule. For any other table nothing is
+ * listed.
  *
  * table, length: as for timed_network_check.
  * list:          the first of `list_length` numbers that can be written.

@@ -9,7 +9,7 @@ use Rattle.model.specs.declared.Verdict.{Verdict}
 use Rattle.model.specs.declared.Verdict.the-variants.{Refused}
 use Rattle.model.specs.Lists.{first, Answer}
 use Rattle.model.specs.Schedule.{Passage}
-use Rattle.model.specs.Checks.{faultOf}
+use Rattle.model.specs.Checks.{faultBy}
 use Rattle.model.specs.Calls.{verdictOf}
 use Rattle.rows.specs.Rows.{num, rowPassage, rowsFrom, rowsOf}
 use Rattle.checks.specs.declared.Fault.{Fault}
@@ -47,11 +47,11 @@ module _ (p : Passage → Bool) (l : List ℕ) (n : ℕ) where
 
 -- ## The verdict
 
-module _ (p : Passage → Bool) (S : List Passage) (l : List ℕ) (f : Fault) (seen : faultView l f ≡ first p S) (number : ℕ) (further : Answer (List Passage)) (r : Verdict) where
+module _ (p : Passage → Bool) (S : List Passage) (l : List ℕ) (f : Fault) (seen : faultView l f ≡ first p S) (number : Passage → ℕ) (further : Answer (List Passage)) (r : Verdict) where
   -- no row is at fault: the next question ..
-  pub passed : f ≡ Nothing → r ≡ verdictOf further → r ≡ verdictOf (faultOf number (first p S) further)
+  pub passed : f ≡ Nothing → r ≡ verdictOf further → r ≡ verdictOf (faultBy number (first p S) further)
   passed e q = rw (← seen, e) q
 
-  -- .. or the component of the first that is
-  pub failed : (i : ℕ) → f ≡ At i → r ≡ Refused number (num l i 0) → r ≡ verdictOf (faultOf number (first p S) further)
+  -- .. or the number and the component of the first that is
+  pub failed : (i : ℕ) → f ≡ At i → r ≡ Refused (number (rowPassage l i)) (num l i 0) → r ≡ verdictOf (faultBy number (first p S) further)
   failed i e q = rw (← seen, e) q

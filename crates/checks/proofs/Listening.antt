@@ -13,9 +13,11 @@ use lib.Pow.{pow-pos}
 use lib.Count.{ones, trailingZeros, ones-step, ones-cat}
 use lib.ListN.{length, getD, set, length-set}
 use lib.Seq.{getD-set-same}
+use Rattle.model.specs.declared.Hearing.{Hearing}
+use Rattle.model.specs.declared.Hearing.the-variants.{Nobody, Several}
 use Rattle.model.specs.Lists.{only, snoc}
 use Rattle.model.specs.Schedule.{Passage}
-use Rattle.model.specs.Checks.{startsEarlier, endsLater, heardWell}
+use Rattle.model.specs.Checks.{startsEarlier, endsLater, heardWell, hearingOf}
 use Rattle.rows.specs.Rows.{num, rowPassage, rowsFrom, RowsPlaced}
 use Rattle.checks.specs.Listening.{repeatedWith, Alone, Masks, Noted}
 use Rattle.checks.proofs.Swept.{Near, back-in, back-out, Swept, swept-in, swept-out}
@@ -83,17 +85,26 @@ or-le-r a b = omega (arith, or-add-and a b, and-le-l a b)
 pub noted-none : (l rows : List ℕ) (n : ℕ) → length rows ≡ 8 → Noted l n [] 0 0 rows
 noted-none l rows n h = record { masks = (refl, refl); room = h }
 
--- where a component listens, one more window makes two components or one by more than one window ..
-more-of-one : (m r c : ℕ) → 1 ≤ ones m → (2 ≤ ones (bitOr m (2 ^ c))) ⊎ (1 ≤ repeatedWith m r c)
-more-of-one m r c h =
-    ⊎-elim
-    (λ e. inr (rw (eq-eqb (bitOr m (2 ^ c)) m e) (omega (arith, or-le-r r (2 ^ c), pow-pos c))))
-    (λ e. inl (omega (arith, e)))
-    (set-bit m c)
+-- where a component listens, one does so with one more window
+still-one : (m c : ℕ) → 1 ≤ ones m → 1 ≤ ones (bitOr m (2 ^ c))
+still-one m c h = ⊎-elim (λ e. omega (arith, h, ap ones e)) (λ e. omega (arith, e)) (set-bit m c)
+
+-- .. and that window makes two components or one by more than one window ..
+more-of-one : (m r c : ℕ) → 1 ≤ ones m → (1 ≤ ones (bitOr m (2 ^ c))) × ((2 ≤ ones (bitOr m (2 ^ c))) ⊎ (1 ≤ repeatedWith m r c))
+more-of-one m r c h = (
+  still-one m c h,
+  ⊎-elim
+      (λ e. inr (rw (eq-eqb (bitOr m (2 ^ c)) m e) (omega (arith, or-le-r r (2 ^ c), pow-pos c))))
+      (λ e. inl (omega (arith, e)))
+      (set-bit m c),
+)
 
 -- .. and so it stays
-more-of-several : (m r c : ℕ) → (2 ≤ ones m) ⊎ (1 ≤ r) → (2 ≤ ones (bitOr m (2 ^ c))) ⊎ (1 ≤ repeatedWith m r c)
-more-of-several m r c q = ⊎-elim (λ h. more-of-one m r c (omega arith)) (λ h. inr (go h (eqb (bitOr m (2 ^ c)) m))) q
+more-of-several : (m r c : ℕ) → (1 ≤ ones m) × ((2 ≤ ones m) ⊎ (1 ≤ r)) → (1 ≤ ones (bitOr m (2 ^ c))) × ((2 ≤ ones (bitOr m (2 ^ c))) ⊎ (1 ≤ repeatedWith m r c))
+more-of-several m r c q = (
+  still-one m c (q .0),
+  ⊎-elim (λ h. more-of-one m r c (q .0) .1) (λ h. inr (go h (eqb (bitOr m (2 ^ c)) m))) (q .1),
+)
   where
     go : 1 ≤ r → (x : Bool) → 1 ≤ cond x (bitOr r (2 ^ c)) r
     go h true = omega (arith, or-le-l r (2 ^ c))
@@ -212,9 +223,31 @@ module _ (l : List ℕ) (n m r : ℕ) (rows : List ℕ) where
         there = omega (arith, t, a .there);
         only = ap (λ (w : Passage). w ∷ []) (a .is) ∙ ap (λ (k : ℕ). rowPassage l k ∷ []) (sym t);
       }
-  alone-at small one once (v ∷ w ∷ vs) q = absurd (⊎-elim (λ (h : 2 ≤ ones m). omega (arith, one)) (λ (h : 1 ≤ r). omega (arith, once)) (q .masks))
+  alone-at small one once (v ∷ w ∷ vs) q = absurd (⊎-elim (λ (h : 2 ≤ ones m). omega (arith, one)) (λ (h : 1 ≤ r). omega (arith, once)) (q .masks .1))
+
+  -- ## How the send is heard
+
+  -- no component listens, or more than one does, or one by more than one window
+  pub by-nobody : (s : Passage) (found : List Passage) → Noted l n found m r rows → ones m ≡ 0 → Nobody ≡ hearingOf s found
+  by-nobody s [] q h = refl
+  by-nobody s (v ∷ []) q h = absurd (omega (arith, h, ap ones (q .masks .bit), ones-of-bit (num l (q .masks .row) 0)))
+  by-nobody s (v ∷ w ∷ vs) q h = absurd (omega (arith, h, q .masks .0))
+
+  pub by-components : (s : Passage) (found : List Passage) → Noted l n found m r rows → (ones m ≡ 0 → ⊥) → (ones m ≡ 1 → ⊥) → Several ≡ hearingOf s found
+  by-components s [] q z o = absurd (z (ap ones (q .masks .0) ∙ no-ones))
+  by-components s (v ∷ []) q z o = absurd (o (ap ones (q .masks .bit) ∙ ones-of-bit (num l (q .masks .row) 0)))
+  by-components s (v ∷ w ∷ vs) q z o = refl
+
+  pub by-windows : (s : Passage) (found : List Passage) → Noted l n found m r rows → (r ≡ 0 → ⊥) → Several ≡ hearingOf s found
+  by-windows s [] q h = absurd (h (q .masks .1))
+  by-windows s (v ∷ []) q h = absurd (h (q .masks .once))
+  by-windows s (v ∷ w ∷ vs) q h = refl
 
 -- .. which is held against the send window
 pub heard-alone : (l : List ℕ) (s : Passage) (found : List Passage) (k : ℕ) (x : Bool) → found ≡ rowPassage l k ∷ []
     → x ≡ startsEarlier (rowPassage l k) s && endsLater (rowPassage l k) s → x ≡ heardWell s found
 heard-alone l s found k x e q = rw e q
+
+pub hearing-alone : (l : List ℕ) (s : Passage) (found : List Passage) (k : ℕ) (h : Hearing) → found ≡ rowPassage l k ∷ [] → h ≡ hearingOf s (rowPassage l k ∷ [])
+    → h ≡ hearingOf s found
+hearing-alone l s found k h e q = rw e q

@@ -5,14 +5,15 @@ use mathlib.Core.List.{List, [], _∷_, _++_}
 use mathlib.Core.Option.{Option}
 use Prim.Native.Nat.{ℕ, _+_, _-_, _≤_, _<_}
 use native.Mathlib.Omega.{arith}
-use borrow.Author.Tests.{lt-leb, not-true, not-false}
+use borrow.Author.Tests.{lt-leb, not-true, not-false, le-ltb, lt-ltb}
 use lib.Dec.{leb, ltb, eqb}
 use lib.ListN.{length}
+use Rattle.model.specs.declared.Hearing.the-variants.{Well, LateStart, EarlyEnd}
 use Rattle.model.specs.Lists.{any, only}
 use Rattle.model.specs.Table.{Table}
 use Rattle.model.specs.Window.{channelOf}
 use Rattle.model.specs.Schedule.{Passage, passageArc, names, others}
-use Rattle.model.specs.Checks.{shareTick, startsEarlier, endsLater, disturb, isSend, isReceive, meets, collides, mayHear, two, crowded}
+use Rattle.model.specs.Checks.{shareTick, startsEarlier, endsLater, disturb, isSend, isReceive, meets, collides, mayHear, two, crowded, hearingOf}
 use Rattle.model.proofs.Basics.Members.{only-none, any-none}
 use Rattle.model.proofs.Checks.Heard.{two-is}
 use Rattle.rows.specs.Rows.{rowPassage}
@@ -43,6 +44,17 @@ beside-is v w vr we wr ve vc wc x y a b c d e f q p = rw (← a, ← b, ← c, �
 pub surrounds-is : (v w : Passage) (vr wr we ve : ℕ) (x : Bool) → vr ≡ v .ready → wr ≡ w .ready → we ≡ w .end → ve ≡ v .end
     → x ≡ ltb vr wr && ltb we ve → x ≡ startsEarlier v w && endsLater v w
 surrounds-is v w vr wr we ve x a b c d q = rw (← a, ← b, ← c, ← d) q
+
+-- how a send is heard by one window: what `heard_by` answers
+module _ (s r : Passage) where
+  pub starts-late : s .ready ≤ r .ready → LateStart ≡ hearingOf s (r ∷ [])
+  starts-late h = rw (le-ltb (r .ready) (s .ready) h)
+
+  pub ends-soon : r .ready < s .ready → r .end ≤ s .end → EarlyEnd ≡ hearingOf s (r ∷ [])
+  ends-soon h k = rw (lt-ltb (r .ready) (s .ready) h, le-ltb (s .end) (r .end) k)
+
+  pub lies-around : r .ready < s .ready → s .end < r .end → Well ≡ hearingOf s (r ∷ [])
+  lies-around h k = rw (lt-ltb (r .ready) (s .ready) h, lt-ltb (s .end) (r .end) k)
 
 -- the numbers first: b and d
 numbers-first : (a b c d : Bool) → a && b && c && d ≡ (b && d) && (a && c)

@@ -6,7 +6,7 @@ use lib.ListN.{length}
 use Rattle.model.specs.Lists.{first, Answer, accepted}
 use Rattle.model.specs.Table.{Table}
 use Rattle.model.specs.Schedule.{Passage}
-use Rattle.model.specs.Checks.{unheard, crowded, faultOf}
+use Rattle.model.specs.Checks.{unheardNumber, unheard, crowded, faultOf, faultBy}
 use Rattle.rows.specs.Rows.{num, rowPassage}
 use Rattle.checks.specs.declared.Fault.{Fault}
 use Rattle.checks.specs.declared.Fault.the-variants.{Nothing, At}
@@ -31,4 +31,4 @@ abbrev pub from12 : Table → ℕ → List Passage → Answer (List Passage)
 from12 T H S = faultOf 12 (first (crowded T H S) S) (accepted S)
 
 abbrev pub from11 : Table → ℕ → List Passage → Answer (List Passage)
-from11 T H S = faultOf 11 (first (unheard T H S) S) (from12 T H S)
+from11 T H S = faultBy (unheardNumber T S) (first (unheard T H S) S) (from12 T H S)

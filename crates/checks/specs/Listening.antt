@@ -31,11 +31,11 @@ pub record Alone (l : List ℕ) (n : ℕ) (window : Passage) (listening repeated
   pub once : repeated ≡ 0
   pub at : getD rows (num l row 0) 0 ≡ row
 
--- no window, one, or more: then two components listen, or one by more than one window
+-- no window, one, or more: then a component listens, two do, or one by more than one window
 abbrev pub Masks : List ℕ → ℕ → List Passage → ℕ → ℕ → List ℕ → Type 0
 Masks l n [] listening repeated rows = (listening ≡ 0) × (repeated ≡ 0)
 Masks l n (v ∷ []) listening repeated rows = Alone l n v listening repeated rows
-Masks l n (v ∷ w ∷ vs) listening repeated rows = (2 ≤ ones listening) ⊎ (1 ≤ repeated)
+Masks l n (v ∷ w ∷ vs) listening repeated rows = (1 ≤ ones listening) × ((2 ≤ ones listening) ⊎ (1 ≤ repeated))
 
 pub record Noted (l : List ℕ) (n : ℕ) (found : List Passage) (listening repeated : ℕ) (rows : List ℕ) : Type 0 where
   pub masks : Masks l n found listening repeated rows

@@ -1,4 +1,6 @@
-// Checks 10 to 12 of document 01, over the rows of a finished schedule.
+// Checks 10 to 12 of document 01, over the rows of a finished schedule. In the place of 11 stands the number of the fault (document 02, wish 3).
+pub mod unheard;
+
 ghost use mathlib.Core.Path.{_≡_};
 ghost use mathlib.Core.Bool.{true, false, _&&_, not};
 ghost use Prim.Native.Nat.{ℕ, _+_, _*_, _^_, _≤_, _<_};
@@ -441,7 +443,7 @@ fn check_heard(s: &[u8], l: &[u32], n: usize, h: u32) -> Verdict
     match heard {
         SendsHeard::Apart => Verdict::Accepted,
         SendsHeard::Shared => check_crowded(s, l, n, h),
-        SendsHeard::Unheard(i) => refused(l, 11, i),
+        SendsHeard::Unheard(i) => refused(l, unheard::number(s, l, n, i), i),
     }
 }
 

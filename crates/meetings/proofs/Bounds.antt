@@ -13,7 +13,7 @@ use Rattle.model.specs.Lists.{only, first, Answer, accepted, refused, _after_, 
 use Rattle.model.specs.Table.{Table, Read}
 use Rattle.model.specs.Reader.{readTable}
 use Rattle.model.specs.Schedule.{Passage, schedule, sevenOf}
-use Rattle.model.specs.Checks.{limit, isSend, meets, collides, mayHear, unheard, crowded, faultOf, checked}
+use Rattle.model.specs.Checks.{limit, isSend, meets, collides, mayHear, unheard, unheardNumber, crowded, faultOf, faultBy, checked}
 use Rattle.model.specs.Calls.{Call, refusing}
 use Rattle.model.specs.Meetings.{sendsMet, listenersMet, sendsHeard, withMet, concerned, concernedIn, listOr, meetingsIn, meetingsCall}
 use Rattle.model.proofs.Schedule.Scheduled.{schedule-is}
@@ -48,7 +48,7 @@ module _ (T : Table) (H : ℕ) (S : List Passage) where
     where
       go : (a b c : Option Passage)
           → (withMet (sendsMet T H S) a (withMet (listenersMet T S) b (withMet (sendsHeard T H S) c [])) ≡ [])
-          ↔ (faultOf 10 a (faultOf 11 b (faultOf 12 c (accepted S))) ≡ accepted S)
+          ↔ (faultOf 10 a (faultBy (unheardNumber T S) b (faultOf 12 c (accepted S))) ≡ accepted S)
       go none none none = (λ e. refl, λ e. refl)
       go none none (some v) = (λ e. let z : _≡_ {A = ℕ} 0 1 = cc in absurd (omega arith), λ e. let z : _≡_ {A = ℕ} 0 1 = cc in absurd (omega arith))
       go none (some v) c = (λ e. let z : _≡_ {A = ℕ} 0 1 = cc in absurd (omega arith), λ e. let z : _≡_ {A = ℕ} 0 1 = cc in absurd (omega arith))

@@ -13,7 +13,7 @@ use Rattle.model.specs.Table.{Table, Read}
 use Rattle.model.specs.Reader.{readTable}
 use Rattle.model.specs.Places.{Valid, readOf}
 use Rattle.model.specs.Schedule.{Passage, sevenOf, light}
-use Rattle.model.specs.Checks.{isSend, meets, collides, mayHear, unheard, crowded, faultOf, checked, acceptedSchedule, acceptedScheduleOf}
+use Rattle.model.specs.Checks.{isSend, meets, collides, mayHear, unheard, crowded, faultBy, checked, acceptedSchedule, acceptedScheduleOf}
 use Rattle.model.specs.Calls.{Call, verdictOf, laid, acceptedScheduleIn, checkCall}
 use Rattle.model.specs.Meetings.{sendsMet, listenersMet, sendsHeard, withMet, concerned, concernedIn, listOr, meetingsIn, MeetingsCall, about, meetingsCall}
 use Rattle.model.proofs.Checks.Independence.{only-map}
@@ -56,15 +56,15 @@ module _ (given : Verdict) (lent : List ℕ) (r : Listed) (e : r .table ≡ give
 
 -- ## The questions
 
-module _ (p : Passage → Bool) (S : List Passage) (l : List ℕ) (f : Fault) (seen : faultView l f ≡ first p S) (number : ℕ) (met : Passage → List Passage) (further : Answer (List Passage)) (others : List Passage) (lent : List ℕ) (r : Listed) (written : List ℕ) where
+module _ (p : Passage → Bool) (S : List Passage) (l : List ℕ) (f : Fault) (seen : faultView l f ≡ first p S) (number : Passage → ℕ) (met : Passage → List Passage) (further : Answer (List Passage)) (others : List Passage) (lent : List ℕ) (r : Listed) (written : List ℕ) where
   -- no row is at fault: the next question ..
   pub passed : f ≡ Nothing → Says (listing (verdictOf further) others lent) r written
-      → Says (listing (verdictOf (faultOf number (first p S) further)) (withMet met (first p S) others) lent) r written
+      → Says (listing (verdictOf (faultBy number (first p S) further)) (withMet met (first p S) others) lent) r written
   passed e q = rw (← seen, e) q
 
   -- .. or the first that is, with those that it meets
-  pub failed : (i : ℕ) → f ≡ At i → Says (listing (Refused number (num l i 0)) (rowPassage l i ∷ met (rowPassage l i)) lent) r written
-      → Says (listing (verdictOf (faultOf number (first p S) further)) (withMet met (first p S) others) lent) r written
+  pub failed : (i : ℕ) → f ≡ At i → Says (listing (Refused (number (rowPassage l i)) (num l i 0)) (rowPassage l i ∷ met (rowPassage l i)) lent) r written
+      → Says (listing (verdictOf (faultBy number (first p S) further)) (withMet met (first p S) others) lent) r written
   failed i e q = rw (← seen, e) q
 
 -- ## The passages behind the rows

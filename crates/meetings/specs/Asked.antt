@@ -8,18 +8,18 @@ use Rattle.model.specs.declared.Verdict.{Verdict}
 use Rattle.model.specs.Lists.{only, first, each}
 use Rattle.model.specs.Table.{Table}
 use Rattle.model.specs.Schedule.{Passage, sevenOf}
-use Rattle.model.specs.Checks.{isSend, meets, mayHear, unheard, crowded}
+use Rattle.model.specs.Checks.{isSend, meets, mayHear, unheard, unheardNumber, crowded}
 use Rattle.model.specs.Calls.{laid}
 use Rattle.model.specs.Meetings.{listenersMet, sendsHeard, withMet, MeetingsCall, about}
 use Rattle.meetings.specs.declared.Question.{Question}
 use Rattle.meetings.specs.declared.Question.the-variants.{Collision, Unheard, Crowded}
 use Rattle.meetings.specs.declared.Listed.{Listed}
 
--- document 01's number of a question
-abbrev pub numberAsked : Question → ℕ
-numberAsked Collision = 10
-numberAsked Unheard = 11
-numberAsked Crowded = 12
+-- document 01's number of a question that the passage v fails; where a send is not heard well, the number of its fault (document 02, wish 3)
+abbrev pub numberAsked : Question → Table → List Passage → Passage → ℕ
+numberAsked Collision T S v = 10
+numberAsked Unheard T S v = unheardNumber T S v
+numberAsked Crowded T S v = 12
 
 -- w is one that v, at fault, meets
 abbrev pub metBy : Question → Table → ℕ → Passage → Passage → Bool

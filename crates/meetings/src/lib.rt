@@ -1,4 +1,5 @@
-// Which windows met: for a table that 10, 11 or 12 refuses, the passage at fault and the passages that it meets.
+// Which windows met: for a table that checks 10 to 12 refuse (15 to 17 stand in the place of 11), the passage at fault and the passages that it
+// meets.
 // The definition is model's specs/Meetings.antt.
 ghost use mathlib.Core.Path.{_≡_};
 ghost use mathlib.Core.List.{_++_};
@@ -45,12 +46,14 @@ fn nothing(table: Verdict) -> Listed
     }
 }
 
-fn number_of(question: Question) -> u8
-    ensures { λ r. ⌜ r ≡ numberAsked question ⌝ }
+// The number of the refusal of row i, at fault by that question.
+fn number_of(table: &[u8], rows: &[u32], count: usize, i: usize, question: Question) -> u8
+    requires { ⌜ RowsPlaced (now table) (now rows) count × (i < count) ⌝ }
+    ensures { λ r. ⌜ r ≡ numberAsked question (readOf (now (table .entry)) .table) (rowsOf (now (rows .entry)) count) (rowPassage (now (rows .entry)) i) ⌝ }
 {
     match question {
         Question::Collision => 10,
-        Question::Unheard => 11,
+        Question::Unheard => checks::unheard::number(table, rows, count, i),
         Question::Crowded => 12,
     }
 }
@@ -137,10 +140,11 @@ fn list_fault(
     list: &mut [u32],
 ) -> Listed
     requires { ⌜ RowsPlaced (now table) (now rows) count × (i < count) ⌝ }
-    ensures { λ r. ⌜ Says (listing (Refused (numberAsked question) (num (now (rows .entry)) i 0)) (foundBy question (readOf (now (table .entry)) .table) horizon (rowsOf (now (rows .entry)) count) (rowPassage (now (rows .entry)) i)) (now (list .entry))) r (now (list .exit)) ⌝ }
+    ensures { λ r. ⌜ Says (listing (Refused (numberAsked question (readOf (now (table .entry)) .table) (rowsOf (now (rows .entry)) count) (rowPassage (now (rows .entry)) i)) (num (now (rows .entry)) i 0)) (foundBy question (readOf (now (table .entry)) .table) horizon (rowsOf (now (rows .entry)) count) (rowPassage (now (rows .entry)) i)) (now (list .entry))) r (now (list .exit)) ⌝ }
 {
     let size = count_met(table, rows, count, i, horizon, question) + 1;
-    let refusal = checks::refused(rows, number_of(question), i);
+    let number = number_of(table, rows, count, i, question);
+    let refusal = checks::refused(rows, number, i);
     if list.len() < size * layout::PASSAGE_WIDTH {
         return Listed {
             table: refusal,
@@ -215,7 +219,7 @@ fn list_meetings(table: &[u8], starts: [u16; 8], list: &mut [u32]) -> Listed
     }
 }
 
-// The verdict of checks 1 to 12 on the table; after 10, 11 or 12 the passage at fault and those that it meets, seven numbers a
+// The verdict of checks 1 to 12 on the table; after checks 10 to 12 the passage at fault and those that it meets, seven numbers a
 // passage, laid over the front of the list. The call itself is accepted, or refused by 13 where the list is too short.
 pub fn meetings(table: &[u8], list: &mut [u32]) -> Listed
     ensures { λ r. ⌜ (r .table ≡ meetingsCall (now (table .entry)) (now (list .entry)) .table) × (r .verdict ≡ meetingsCall (now (table .entry)) (now (list .entry)) .verdict) × (r .size ≡ meetingsCall (now (table .entry)) (now (list .entry)) .size) × (now (list .exit) ≡ meetingsCall (now (table .entry)) (now (list .entry)) .lent) ⌝ }

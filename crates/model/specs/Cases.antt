@@ -225,9 +225,10 @@ rows =
     -- "Accepted, as above."
     ∷ plans (worked 20) Accepted
     ∷ passes (worked 20) workedSchedule
-    -- "Hub low 3: 11, component 0." "Hub bound 5: 11." "Probe e0 low 5: no window, 8."
-    ∷ plans (changed (probe 3) (hub 3 6 addOne)) (Refused 11 0)
-    ∷ plans (changed (probe 3) (hub 2 5 addOne)) (Refused 11 0)
+    -- "Hub low 3: 11, component 0." "Hub bound 5: 11." Document 02, wish 3: "hub low 3 is now 16 and hub bound 5 is 17".
+    ∷ plans (changed (probe 3) (hub 3 6 addOne)) (Refused 16 0)
+    ∷ plans (changed (probe 3) (hub 2 5 addOne)) (Refused 17 0)
+    -- "Probe e0 low 5: no window, 8."
     ∷ plans (changed (probe 5) (hub 2 6 addOne)) (Refused 8 0)
     -- "Hub e1 with updates set 32,767, add 1: 9, component 1; set 32,766, add 1: accepted."
     ∷ plans (changed (probe 3) (hub 2 6 (update 0 false (pos 32767) ∷ addOne))) (Refused 9 1)

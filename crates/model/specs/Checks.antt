@@ -1,11 +1,13 @@
 -- Document 01, "Checks, in this order", 10 to 12: over the finished schedule, "for sends with ready < H".
 use mathlib.Core.Path.{_≡_}
-use mathlib.Core.Bool.{Bool, true, false, _&&_, not}
+use mathlib.Core.Bool.{Bool, true, false, cond, _&&_, not}
 use mathlib.Core.List.{List, [], _∷_}
 use mathlib.Core.Option.{Option, none, some}
 use Prim.Native.Nat.{ℕ, _≤_, _<_}
 use lib.Dec.{leb, ltb, eqb}
 use lib.ListN.{length, getD}
+use Rattle.model.specs.declared.Hearing.{Hearing}
+use Rattle.model.specs.declared.Hearing.the-variants.{Well, Nobody, Several, LateStart, EarlyEnd}
 use Rattle.model.specs.Lists.{any, only, first, isNone, _∈_, Answer, accepted, refused, _after_}
 use Rattle.model.specs.Table.{Table, Read, bandOf}
 use Rattle.model.specs.Window.{channelOf, listens}
@@ -64,6 +66,30 @@ heardWell s (r ∷ q ∷ rs) = false
 abbrev pub unheard : Table → ℕ → List Passage → Passage → Bool
 unheard T H S s = isSend T H s && not (heardWell s (only (λ r. mayHear T r s) S))
 
+-- Document 02, wish 3: how the receive windows found hear the send s. None: "A send window that shares a tick with no receive window of another
+-- component naming its channel". "Several are one fault. A single one that starts too late is another. A single one that starts early enough but
+-- ends too soon is the last." Heard well is what 11 asks for (the law `well-hears` in proofs/Checks/Hearings.antt).
+abbrev pub hearingOf : Passage → List Passage → Hearing
+hearingOf s [] = Nobody
+hearingOf s (r ∷ []) = cond (startsEarlier r s) (cond (endsLater r s) Well EarlyEnd) LateStart
+hearingOf s (r ∷ q ∷ rs) = Several
+
+-- ".. remains 11." "In the place of 11, for the same passage, 15 stands for several, 16 for the late start, 17 for the early end"; 0 where nothing
+-- is at fault
+abbrev pub hearingNumber : Hearing → ℕ
+hearingNumber Well = 0
+hearingNumber Nobody = 11
+hearingNumber Several = 15
+hearingNumber LateStart = 16
+hearingNumber EarlyEnd = 17
+
+-- how a send is heard in the schedule, and the number of its fault
+abbrev pub heardAs : Table → List Passage → Passage → Hearing
+heardAs T S s = hearingOf s (only (λ r. mayHear T r s) S)
+
+abbrev pub unheardNumber : Table → List Passage → Passage → ℕ
+unheardNumber T S s = hearingNumber (heardAs T S s)
+
 -- 12. "Does no receive window share a tick with two send windows of other components on its channels?"
 abbrev pub two : List Passage → Bool
 two [] = false
@@ -74,14 +100,17 @@ abbrev pub crowded : Table → ℕ → List Passage → Passage → Bool
 crowded T H S r = isReceive T r && two (only (λ s. isSend T H s && mayHear T r s) S)
 
 -- "for 10 to 12 that of the first passage in schedule order at fault (a send for 10 and 11, the receive for 12)"
+abbrev pub faultBy : (Passage → ℕ) → Option Passage → Answer (List Passage) → Answer (List Passage)
+faultBy number none further = further
+faultBy number (some v) further = refused (number v) (v .component)
+
 abbrev pub faultOf : ℕ → Option Passage → Answer (List Passage) → Answer (List Passage)
-faultOf n none further = further
-faultOf n (some v) further = refused n (v .component)
+faultOf n = faultBy (λ v. n)
 
 unfoldable pub checked : Table → ℕ → List Passage → Answer (List Passage)
 checked T H S =
     faultOf 10 (first (collides T H S) S)
-    (faultOf 11 (first (unheard T H S) S) (faultOf 12 (first (crowded T H S) S) (accepted S)))
+    (faultBy (unheardNumber T S) (first (unheard T H S) S) (faultOf 12 (first (crowded T H S) S) (accepted S)))
 
 -- 7 to 12, for a table that was read: the schedule, or the refusal
 unfoldable pub acceptedSchedule : ℕ → Table → ℕ → Answer (List Passage)

@@ -19,6 +19,7 @@ pub mod Acceptance
 pub mod Observations
 pub mod Meetings
 pub mod Chart
+pub mod Hearings
 pub mod Versions
 pub mod Build
 pub mod Cases

@@ -1,6 +1,7 @@
--- Document 01 as it stood before document 02's wish 2, kept to say what tables of version 1 got: their reader, check 10, schedule, program and
--- calls, not defined through those of today. What a table of version 1 got then, it gets now (the laws are in proofs/Reader/Versions.antt).
--- Where document 01's definition still stands as it was (a component's parts, the passages, checks 11 and 12, a node's bytes, the run's
+-- Document 01 as it stood before document 02's wishes 2 and 3, kept to say what tables of version 1 got: their reader, checks 10 to 12, schedule,
+-- program and calls, not defined through those of today. What a table of version 1 got then, it gets now, with 15 to 17 read as 11 (the laws are in
+-- proofs/Reader/Versions.antt).
+-- Where document 01's definition still stands as it was (a component's parts, the passages, what 11 and 12 ask, a node's bytes, the run's
 -- statements), it is used.
 use mathlib.Core.Bool.{Bool, cond, _&&_}
 use mathlib.Core.List.{List, [], _∷_, _++_, map}

@@ -1,4 +1,4 @@
-// The plain types of document 01, the ops of its statements and the places of its numbers. No functions: specs/ uses these types as its own records.
+// The plain types of documents 01 and 02, the ops of its statements and the places of its numbers. No functions: specs/ uses these types as its own records.
 pub mod layout;
 pub mod op;
 
@@ -63,6 +63,15 @@ pub struct Sizes {
 pub enum Verdict {
     Accepted,
     Refused(u8, u8),
+}
+
+// Document 02, wish 3: how a send window is heard: well, or which of the four faults it has.
+pub enum Hearing {
+    Well,
+    Nobody,
+    Several,
+    LateStart,
+    EarlyEnd,
 }
 
 // How a run ends: at the horizon, with the choices used up, with a node that is late (the lowest), or with

@@ -9,7 +9,7 @@ use Rattle.text.specs.Words.{ascii, decimal, field, refusalLine}
 abbrev pub noQuestion : List ℕ
 noQuestion = ascii "Does a question have this number?\n"
 
--- "Checks, in this order": the questions by their numbers
+-- "Checks, in this order": the questions by their numbers. 11 and 15 to 17 are its question 11 in parts, as document 02's wish 3 tells them apart.
 abbrev pub questions : List (List ℕ)
 questions =
     noQuestion ∷ ascii "Is the first byte 1 or 2?\n"
@@ -22,10 +22,13 @@ questions =
     ∷ ascii "Has the location entered an edge with a window of one tick's length?\n"
     ∷ ascii "Does each update of the edge taken stay in range?\n"
     ∷ ascii "Do no two send windows of different components share a tick?\n"
-    ∷ ascii "Does one receive window alone meet the send, start earlier and end later?\n"
+    ∷ ascii "Does a receive window on its channel share a tick with the send window?\n"
     ∷ ascii "Does no receive window share a tick with two sends on its channels?\n"
     ∷ ascii "Does the lent buffer hold the result?\n"
     ∷ ascii "Are there at most 1,000,000 choices?\n"
+    ∷ ascii "Does only one receive window on its channel share a tick with the send?\n"
+    ∷ ascii "Does the one receive window that meets the send start earlier than it?\n"
+    ∷ ascii "Does the one receive window that meets the send end later than it?\n"
     ∷ []
 
 unfoldable pub question : ℕ → List ℕ

@@ -70,7 +70,7 @@ fn put_question_on_time(out: &mut [u8], at: usize, number: u8) -> usize
         11 => put(
             out,
             at,
-            b"Does one receive window alone meet the send, start earlier and end later?\n",
+            b"Does a receive window on its channel share a tick with the send window?\n",
         ),
         _ => put(
             out,
@@ -82,12 +82,36 @@ fn put_question_on_time(out: &mut [u8], at: usize, number: u8) -> usize
 
 // The questions about the call alone.
 fn put_question_on_call(out: &mut [u8], at: usize, number: u8) -> usize
-    requires { ⌜ (at + 80 ≤ length (now out)) × (13 ≤ number) ⌝ }
+    requires { ⌜ (at + 80 ≤ length (now out)) × (13 ≤ number) × (number < 15) ⌝ }
     ensures { λ r. ⌜ Added (now (out .entry)) at (question number) (now (out .exit)) r × (r ≤ at + 80) ⌝ }
 {
     match number {
         13 => put(out, at, b"Does the lent buffer hold the result?\n"),
-        14 => put(out, at, b"Are there at most 1,000,000 choices?\n"),
+        _ => put(out, at, b"Are there at most 1,000,000 choices?\n"),
+    }
+}
+
+// The questions about the listener of a send.
+fn put_question_on_listener(out: &mut [u8], at: usize, number: u8) -> usize
+    requires { ⌜ (at + 80 ≤ length (now out)) × (15 ≤ number) ⌝ }
+    ensures { λ r. ⌜ Added (now (out .entry)) at (question number) (now (out .exit)) r × (r ≤ at + 80) ⌝ }
+{
+    match number {
+        15 => put(
+            out,
+            at,
+            b"Does only one receive window on its channel share a tick with the send?\n",
+        ),
+        16 => put(
+            out,
+            at,
+            b"Does the one receive window that meets the send start earlier than it?\n",
+        ),
+        17 => put(
+            out,
+            at,
+            b"Does the one receive window that meets the send end later than it?\n",
+        ),
         _ => put(out, at, b"Does a question have this number?\n"),
     }
 }
@@ -100,8 +124,10 @@ fn put_question(out: &mut [u8], at: usize, number: u8) -> usize
         put_question_on_bytes(out, at, number)
     } else if number < 13 {
         put_question_on_time(out, at, number)
-    } else {
+    } else if number < 15 {
         put_question_on_call(out, at, number)
+    } else {
+        put_question_on_listener(out, at, number)
     }
 }
 

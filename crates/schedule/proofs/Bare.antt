@@ -4,11 +4,12 @@ use mathlib.Core.Bool.{Bool, true, false, cond, _&&_, _||_, not}
 use mathlib.Core.List.{List, [], _∷_, map}
 use mathlib.Core.Option.{Option, none, some, Option·map}
 use Prim.Native.Nat.{ℕ}
+use Rattle.model.specs.declared.Verdict.the-variants.{Refused}
 use Rattle.model.specs.Lists.{any, only, first, Answer, accepted}
 use Rattle.model.specs.Table.{Table}
 use Rattle.model.specs.Window.{channelOf, listens}
 use Rattle.model.specs.Schedule.{Passage, passageArc, heardBy, endsSooner, sooner, earliest, carried, messageIn, withMessage, finished, light, bare}
-use Rattle.model.specs.Checks.{isSend, isReceive, meets, collides, mayHear, heardWell, unheard, two, crowded, faultOf, checked}
+use Rattle.model.specs.Checks.{isSend, isReceive, meets, collides, mayHear, heardWell, unheard, hearingOf, hearingNumber, unheardNumber, two, crowded, faultBy, checked}
 use Rattle.model.specs.Calls.{verdictOf}
 use Rattle.model.proofs.Checks.Independence.{only-map}
 
@@ -73,14 +74,20 @@ heard-light s [] = refl
 heard-light s (r ∷ []) = refl
 heard-light s (r ∷ q ∷ rs) = refl
 
+hearing-light : (s : Passage) (rs : List Passage) → hearingOf (light s) (map light rs) ≡ hearingOf s rs
+hearing-light s [] = refl
+hearing-light s (r ∷ []) = refl
+hearing-light s (r ∷ q ∷ rs) = refl
+
 two-light : (ss : List Passage) → two (map light ss) ≡ two ss
 two-light [] = refl
 two-light (s ∷ []) = refl
 two-light (s ∷ t ∷ ss) = refl
 
-fault-light : (n : ℕ) (o : Option Passage) (a b : Answer (List Passage)) → verdictOf a ≡ verdictOf b → verdictOf (faultOf n (Option·map light o) a) ≡ verdictOf (faultOf n o b)
-fault-light n none a b e = e
-fault-light n (some v) a b e = refl
+fault-light : (number number′ : Passage → ℕ) → ((v : Passage) → number′ (light v) ≡ number v) → (o : Option Passage) (a b : Answer (List Passage)) → verdictOf a ≡ verdictOf b
+    → verdictOf (faultBy number′ (Option·map light o) a) ≡ verdictOf (faultBy number o b)
+fault-light number number′ same none a b e = e
+fault-light number number′ same (some v) a b e = ap (λ (n : ℕ). Refused n (v .component)) (same v)
 
 module _ (T : Table) (H : ℕ) (S : List Passage) where
   pub collides-light : (s : Passage) → collides T H (map light S) (light s) ≡ collides T H S s
@@ -90,6 +97,10 @@ module _ (T : Table) (H : ℕ) (S : List Passage) where
   unheard-light s =
       ap (λ b. isSend T H s && not b)
       (ap (heardWell (light s)) (only-map light (λ r. mayHear T r s) S) ∙ heard-light s (only (λ r. mayHear T r s) S))
+
+  pub number-light : (s : Passage) → unheardNumber T (map light S) (light s) ≡ unheardNumber T S s
+  number-light s =
+      ap hearingNumber (ap (hearingOf (light s)) (only-map light (λ r. mayHear T r s) S) ∙ hearing-light s (only (λ r. mayHear T r s) S))
 
   pub crowded-light : (r : Passage) → crowded T H (map light S) (light r) ≡ crowded T H S r
   crowded-light r =
@@ -105,4 +116,6 @@ module _ (T : Table) (H : ℕ) (S : List Passage) where
         first-map light (unheard T H (map light S)) (unheard T H S) unheard-light S,
         first-map light (crowded T H (map light S)) (crowded T H S) crowded-light S,
       )
-      (fault-light 10 (first (collides T H S) S) _ _ (fault-light 11 (first (unheard T H S) S) _ _ (fault-light 12 (first (crowded T H S) S) (accepted (map light S)) (accepted S) refl)))
+      (fault-light (λ v. 10) (λ v. 10) (λ v. refl) (first (collides T H S) S) _ _
+      (fault-light (unheardNumber T S) (unheardNumber T (map light S)) number-light (first (unheard T H S) S) _ _
+      (fault-light (λ v. 12) (λ v. 12) (λ v. refl) (first (crowded T H S) S) (accepted (map light S)) (accepted S) refl)))

@@ -254,7 +254,7 @@ pub extern "C" fn timed_network_passages(table: &[u8], list: &mut [Passage]) -> 
     numbers_of(c)
 }
 
-// The verdict on the table, and which windows met where 10, 11 or 12 refuses it.
+// The verdict on the table, and which windows met where checks 10 to 12 refuse it.
 #[no_mangle]
 pub extern "C" fn timed_network_meetings(table: &[u8], list: &mut [u32]) -> MeetingsNumbers
     ensures { λ r. ⌜ (r .number ≡ numberOf (meetingsCall (now (table .entry)) (now (list .entry)) .verdict)) × (r .component ≡ concernedOf (meetingsCall (now (table .entry)) (now (list .entry)) .verdict)) × (r .refusal ≡ numberOf (meetingsCall (now (table .entry)) (now (list .entry)) .table)) × (r .concerned ≡ concernedOf (meetingsCall (now (table .entry)) (now (list .entry)) .table)) × (r .size ≡ meetingsCall (now (table .entry)) (now (list .entry)) .size) × (now (list .exit) ≡ meetingsCall (now (table .entry)) (now (list .entry)) .lent) ⌝ }

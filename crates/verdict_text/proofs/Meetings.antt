@@ -1,18 +1,18 @@
 -- The lines of the windows that met. Assumes nothing.
-use mathlib.Core.Path.{_≡_, refl, ap}
-use mathlib.Core.Bool.{true, _&&_}
-use mathlib.Core.List.{List, _++_}
+use mathlib.Core.Path.{_≡_, refl, sym, ap, _∙_}
+use mathlib.Core.Bool.{Bool, true, cond, _&&_}
+use mathlib.Core.List.{List, [], _++_}
 use Prim.Native.Nat.{ℕ, zero, suc, _+_, _-_, _≤_, _<_}
 use native.Mathlib.Nat.{not-suc-le-zero}
 use native.Mathlib.Omega.{arith}
-use borrow.Author.Tests.{ltb-true}
+use borrow.Author.Tests.{ltb-true, eq-eqb, ne-eqb}
 use lib.Dec.{eqb, leb, ltb}
 use lib.ListN.{length, drop}
 use Rattle.model.specs.Lists.{each}
 use Rattle.model.specs.Reader.{byte}
 use Rattle.model.proofs.Basics.Bools.{and-is}
 use Rattle.text.specs.Words.{told}
-use Rattle.verdict_text.specs.VerdictText.{Met, metAt, metsOf, metLine, metLines, faultText, bandTold, bandLine, bandText, meetingsText}
+use Rattle.verdict_text.specs.VerdictText.{Met, metAt, metsOf, metLine, metLines, faultText, nobodyRemedy, listenerRemedy, remedyText, bandTold, bandLine, bandText, meetingsText}
 
 pub one-met : (number : ℕ) (fault : Met) (list : List ℕ) (n : ℕ) → n ≡ 1 → metLines number fault (metsOf list 0) ≡ metLines number fault (metsOf list (n - 1))
 one-met number fault list n e = let p : 0 ≡ n - 1 = omega (arith, e) in ap (λ (m : ℕ). metLines number fault (metsOf list m)) p
@@ -28,10 +28,31 @@ more-met number fault list n h k = some-met number fault list (n - 1) (omega (ar
 
 -- the window at fault comes first
 pub first-at-fault : (number : ℕ) (list : List ℕ) (n : ℕ) → (n ≡ 0 → ⊥)
-    → faultText number (metAt list) ++ metLines number (metAt list) (metsOf (drop 7 list) (n - 1)) ≡ meetingsText number (metsOf list n)
+    → faultText number (metAt list) ++ metLines number (metAt list) (metsOf (drop 7 list) (n - 1)) ++ remedyText number (metAt list) (metsOf (drop 7 list) (n - 1))
+    ≡ meetingsText number (metsOf list n)
 unfolding meetingsText told
 first-at-fault number list n h =
     let p : suc (n - 1) ≡ n = omega (arith, h) in ap (λ (m : ℕ). meetingsText number (metsOf list m)) p
+
+-- the remedy, where a window listens ..
+pub listened : (number : ℕ) (sent : Met) (list : List ℕ) (n : ℕ) → 2 ≤ n → listenerRemedy number sent (metAt list) ≡ remedyText number sent (metsOf list (n - 1))
+unfolding remedyText told
+listened number sent list n h =
+    let p : suc (n - 2) ≡ n - 1 = omega (arith, h) in ap (λ (m : ℕ). remedyText number sent (metsOf list m)) p
+
+-- .. where none does ..
+pub unlistened : (number : ℕ) (sent : Met) (list : List ℕ) (n : ℕ) → number ≡ 11 → n < 2 → nobodyRemedy sent ≡ remedyText number sent (metsOf list (n - 1))
+unfolding remedyText told
+unlistened number sent list n e h =
+    let p : 0 ≡ n - 1 = omega (arith, h) in
+    sym (ap (λ (t : Bool). cond t (nobodyRemedy sent) []) (eq-eqb number 11 e)) ∙ ap (λ (m : ℕ). remedyText number sent (metsOf list m)) p
+
+-- .. and where nothing is said
+pub no-remedy : (number : ℕ) (sent : Met) (list : List ℕ) (n : ℕ) → (number ≡ 11 → ⊥) → n < 2 → [] ≡ remedyText number sent (metsOf list (n - 1))
+unfolding remedyText told
+no-remedy number sent list n e h =
+    let p : 0 ≡ n - 1 = omega (arith, h) in
+    sym (ap (λ (t : Bool). cond t (nobodyRemedy sent) []) (ne-eqb number 11 e)) ∙ ap (λ (m : ℕ). remedyText number sent (metsOf list m)) p
 
 -- a band that is told stands in the table
 pub told-inside : (table : List ℕ) (number channel : ℕ) → bandTold table number channel ≡ true → 7 + channel < length table

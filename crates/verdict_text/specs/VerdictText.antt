@@ -1,5 +1,5 @@
--- A verdict in words: a refusal in words, and after 10, 11 or 12 which windows met.
-use mathlib.Core.Bool.{Bool, cond, _&&_}
+-- A verdict in words: a refusal in words, and after 10 to 12 and 15 to 17 which windows met; where a send is not heard well, also the remedy.
+use mathlib.Core.Bool.{Bool, cond, _&&_, _||_}
 use mathlib.Core.List.{List, [], _∷_, _++_, map}
 use Prim.Native.Nat.{ℕ, _+_}
 use lib.Dec.{eqb, leb, ltb}
@@ -68,19 +68,53 @@ receiveWords w = ascii "  " ++ placeWords w ++ ascii ", a receive window" ++ win
 abbrev pub listenerLine : Met → Met → List ℕ
 listenerLine sent w = receiveWords w ++ startWords sent w ++ endWords sent w
 
+-- sends are met after 10 and 12, listeners after 11 and 15 to 17
 unfoldable pub metLine : ℕ → Met → Met → List ℕ
 unfolding decimal
-metLine number fault w = cond (eqb number 11) (listenerLine fault w) (sendLine w)
+metLine number fault w = cond (eqb number 10 || eqb number 12) (sendLine w) (listenerLine fault w)
 
 abbrev pub metLines : ℕ → Met → List Met → List ℕ
 metLines number fault [] = ascii "  none\n"
 metLines number fault (w ∷ ws) = each (metLine number fault) (w ∷ ws)
 
--- the window at fault, then those that it meets; nothing where none is at fault
+-- The remedy for a send that is not heard well: who must listen, earlier, longer or not at all. 11: nobody does.
+abbrev pub nobodyRemedy : Met → List ℕ
+nobodyRemedy sent =
+    field "Remedy: another component must listen on channel " (sent .channel) ++ field ", from before tick " (sent .ready)
+    ++ field " until after tick " (sent .end)
+    ++ ascii ".\n"
+
+-- 15: several do
+abbrev pub severalRemedy : Met → List ℕ
+severalRemedy sent =
+    field "Remedy: all of them but one must not listen on channel " (sent .channel) ++ field " in ticks " (sent .ready) ++ field " to " (sent .end)
+    ++ ascii ".\n"
+
+-- 16: the one that does starts too late; it may end too soon as well
+abbrev pub lateRemedy : Met → Met → List ℕ
+lateRemedy sent w =
+    (ascii "Remedy: " ++ placeWords w) ++ field ", must listen earlier: from before tick " (sent .ready) ++ field " until after tick " (sent .end)
+    ++ ascii ".\n"
+
+-- 17: it ends too soon
+abbrev pub earlyRemedy : Met → Met → List ℕ
+earlyRemedy sent w = (ascii "Remedy: " ++ placeWords w) ++ field ", must listen longer: until after tick " (sent .end) ++ ascii ".\n"
+
+abbrev pub listenerRemedy : ℕ → Met → Met → List ℕ
+listenerRemedy number sent w =
+    cond (eqb number 15) (severalRemedy sent) (cond (eqb number 16) (lateRemedy sent w) (cond (eqb number 17) (earlyRemedy sent w) []))
+
+-- by the number, with the windows that the send meets
+unfoldable pub remedyText : ℕ → Met → List Met → List ℕ
+unfolding decimal
+remedyText number sent [] = cond (eqb number 11) (nobodyRemedy sent) []
+remedyText number sent (w ∷ ws) = listenerRemedy number sent w
+
+-- the window at fault, then those that it meets, then the remedy; nothing where none is at fault
 unfoldable pub meetingsText : ℕ → List Met → List ℕ
-unfolding decimal metLine each
+unfolding decimal metLine remedyText each
 meetingsText number [] = []
-meetingsText number (fault ∷ ws) = faultText number fault ++ metLines number fault ws
+meetingsText number (fault ∷ ws) = faultText number fault ++ metLines number fault ws ++ remedyText number fault ws
 
 -- After 10, in version 2, the band of the send at fault: the byte of its channel behind the header (`Places.Located.band`). Those that it meets are
 -- on the same band.

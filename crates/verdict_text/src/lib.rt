@@ -1,4 +1,6 @@
-// Which windows met, in words.
+// Which windows met, in words; where a send is not heard well, also the remedy.
+pub mod remedy;
+
 ghost use mathlib.Core.Path.{_≡_};
 ghost use mathlib.Core.List.{List, _++_};
 ghost use Prim.Native.Nat.{ℕ, _+_, _*_, _-_, _≤_, _<_};
@@ -10,7 +12,7 @@ use text::put;
 use text::put_field;
 
 // Words, then the component and the edge of the passage at the front of a list: whose window it is.
-fn put_place(out: &mut [u8], at: usize, words: &[u8], w: &[u32]) -> usize
+pub fn put_place(out: &mut [u8], at: usize, words: &[u8], w: &[u32]) -> usize
     requires { ⌜ (at + length (now words) + 37 ≤ length (now out)) × (7 ≤ length (now w)) ⌝ }
     ensures { λ r. ⌜ Added (now (out .entry)) at (now (words .entry) ++ placeWords (metAt (now (w .entry)))) (now (out .exit)) r × (r ≤ at + length (now (words .entry)) + 37) ⌝ }
 {
@@ -51,7 +53,7 @@ fn put_receive_fault(out: &mut [u8], at: usize, w: &[u32]) -> usize
     )
 }
 
-// 10 and 11: what the lines after the send window are.
+// 10, or 11 and 15 to 17: what the lines after the send window are.
 fn put_fault_end(out: &mut [u8], at: usize, number: u8) -> usize
     requires { ⌜ at + 90 ≤ length (now out) ⌝ }
     ensures { λ r. ⌜ Added (now (out .entry)) at (faultEnd number) (now (out .exit)) r × (r ≤ at + 90) ⌝ }
@@ -67,7 +69,7 @@ fn put_fault_end(out: &mut [u8], at: usize, number: u8) -> usize
     }
 }
 
-// 10 and 11: the send window at fault.
+// 10, 11 and 15 to 17: the send window at fault.
 fn put_send_fault(out: &mut [u8], at: usize, number: u8, w: &[u32]) -> usize
     requires { ⌜ (at + 200 ≤ length (now out)) × (7 ≤ length (now w)) ⌝ }
     ensures { λ r. ⌜ Added (now (out .entry)) at (sendFault number (metAt (now (w .entry)))) (now (out .exit)) r × (r ≤ at + 200) ⌝ }
@@ -153,10 +155,12 @@ fn put_met(out: &mut [u8], at: usize, number: u8, fault: &[u32], w: &[u32]) -> u
     requires { ⌜ (at + 160 ≤ length (now out)) × (7 ≤ length (now fault)) × (7 ≤ length (now w)) ⌝ }
     ensures { λ r. ⌜ Added (now (out .entry)) at (metLine number (metAt (now (fault .entry))) (metAt (now (w .entry)))) (now (out .exit)) r × (r ≤ at + 160) ⌝ }
 {
-    if number == 11 {
-        put_listener(out, at, fault, w)
-    } else {
+    if number == 10 {
         put_send_line(out, at, w)
+    } else if number == 12 {
+        put_send_line(out, at, w)
+    } else {
+        put_listener(out, at, fault, w)
     }
 }
 
@@ -184,16 +188,17 @@ fn put_met_lines(out: &mut [u8], at: usize, number: u8, list: &[u32], n: usize) 
     }
 }
 
-// n passages: the one at fault, then those that it meets.
+// n passages: the one at fault, then those that it meets; then the remedy.
 pub fn put_meetings(out: &mut [u8], at: usize, number: u8, list: &[u32], n: usize) -> usize
-    requires { ⌜ (at + 200 + n * 160 ≤ length (now out)) × (n * 7 ≤ length (now list)) ⌝ }
-    ensures { λ r. ⌜ Added (now (out .entry)) at (meetingsText number (metsOf (now (list .entry)) n)) (now (out .exit)) r × (r ≤ at + 200 + n * 160) ⌝ }
+    requires { ⌜ (at + 340 + n * 160 ≤ length (now out)) × (n * 7 ≤ length (now list)) ⌝ }
+    ensures { λ r. ⌜ Added (now (out .entry)) at (meetingsText number (metsOf (now (list .entry)) n)) (now (out .exit)) r × (r ≤ at + 340 + n * 160) ⌝ }
 {
     if n == 0 {
         return at;
     }
     let lines = put_fault(out, at, number, list);
-    put_met_lines(out, lines, number, list, n)
+    let last = put_met_lines(out, lines, number, list, n);
+    remedy::put_remedy(out, last, number, list, n)
 }
 
 // Whether the band of a send at fault on that channel is told: after 10, in version 2.

@@ -1,7 +1,7 @@
 //! What has to be said of a case, and what is told when it is not.
 
 use crate::bytes::hex;
-use crate::readers::LAST_CHECK;
+use crate::readers::NUMBERS;
 use std::fmt;
 use timed_network::Verdict;
 
@@ -14,7 +14,7 @@ pub enum Expected {
     Verdict(Verdict),
     /// The number of the refusal.
     Number(u8),
-    /// No refusal with this number or a lower one.
+    /// No refusal with this number, 10 at most, or a lower one.
     Past(u8),
 }
 
@@ -25,7 +25,7 @@ impl Expected {
             Verdict::Accepted => 0,
             Verdict::Refused { number, .. } => number,
         };
-        let there_is = answer == Verdict::Accepted || (1..=LAST_CHECK).contains(&number);
+        let there_is = answer == Verdict::Accepted || NUMBERS[1..].contains(&number);
         there_is
             && match self {
                 Expected::Anything => true,
@@ -39,7 +39,7 @@ impl Expected {
 impl fmt::Display for Expected {
     fn fmt(&self, out: &mut fmt::Formatter<'_>) -> fmt::Result {
         match self {
-            Expected::Anything => write!(out, "accepted, or refused with 1 to {LAST_CHECK}"),
+            Expected::Anything => write!(out, "accepted, or refused with 1 to 12 or 15 to 17"),
             Expected::Verdict(verdict) => write!(out, "{verdict}"),
             Expected::Number(number) => write!(out, "refused {number}"),
             Expected::Past(number) => write!(out, "not refused with 1 to {number}"),

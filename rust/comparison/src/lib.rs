@@ -30,7 +30,7 @@ pub mod trial;
 use classes::{Class, Extent, CLASSES};
 use difference::Stop;
 use random::Random;
-use readers::{Readers, LAST_CHECK};
+use readers::{Readers, NUMBERS, UNHEARD};
 use tally::Tally;
 use trial::Trial;
 
@@ -77,11 +77,13 @@ pub struct Least {
     pub runs: u64,
     /// Runs of each kind.
     pub of_each_kind: u64,
+    /// Tables refused for each of the ways in which a send is not heard well.
+    pub of_each_hearing: u64,
 }
 
 /// What the comparison should have tried and did not: a class without cases,
-/// an answer that never came, lists or bytes that never came back in one of
-/// the ways, parts never found or never missed, a kind of run that is too
+/// an answer that never came, one of the faults of a send's hearing that came
+/// too rarely, lists or bytes that never came back in one of the ways, parts never found or never missed, a kind of run that is too
 /// rare, fewer cases or runs in all than demanded.
 pub fn gaps(tallies: &[Tally], least: &Least) -> Vec<String> {
     let empty = tallies.iter().filter(|tally| tally.is_empty());
@@ -89,11 +91,17 @@ pub fn gaps(tallies: &[Tally], least: &Least) -> Vec<String> {
         .map(|tally| format!("nothing was tried in the class: {}", tally.class))
         .collect();
     let sum = Tally::sum(tallies);
-    let never = |number: &u8| sum.answers[usize::from(*number)] == 0;
-    gaps.extend((0..=LAST_CHECK).filter(never).map(|number| match number {
-        0 => "no table was accepted".to_string(),
-        _ => format!("no table was refused with {number}"),
-    }));
+    let never = |number: &u8| sum.answered(*number) == 0;
+    gaps.extend(
+        NUMBERS
+            .into_iter()
+            .filter(never)
+            .map(|number| match number {
+                0 => "no table was accepted".to_string(),
+                _ => format!("no table was refused with {number}"),
+            }),
+    );
+    gaps.extend(hearing_gaps(&sum, least.of_each_hearing));
     gaps.extend(list_gaps(&sum));
     gaps.extend(sum.runs.gaps(least.of_each_kind));
     let (cases, runs) = (sum.cases(), sum.runs.ran());
@@ -103,6 +111,16 @@ pub fn gaps(tallies: &[Tally], least: &Least) -> Vec<String> {
         }
     }
     gaps
+}
+
+/// The ways in which sends are not heard well that are too rare.
+fn hearing_gaps(sum: &Tally, least: u64) -> impl Iterator<Item = String> + '_ {
+    let counts = UNHEARD.map(|number| (number, sum.answered(number)));
+    let rare = move |(_, count): &(u8, u64)| (1..least).contains(count);
+    let gap = move |(number, count)| {
+        format!("{count} tables refused with {number} are fewer than {least}")
+    };
+    counts.into_iter().filter(rare).map(gap)
 }
 
 /// The ways in which no list, no bytes or no part came back.

@@ -20,12 +20,14 @@ const LEAST: Least = Least {
     cases: 100_000,
     runs: 50_000,
     of_each_kind: 500,
+    of_each_hearing: 1_000,
 };
 /// The comparison with the yardstick has to try at least so much.
 const LEAST_SHARE: Least = Least {
     cases: 20_000,
     runs: 10_000,
     of_each_kind: 100,
+    of_each_hearing: 100,
 };
 
 fn main() -> ExitCode {

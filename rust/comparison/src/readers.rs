@@ -5,8 +5,12 @@ use reference::calls;
 use reference::table::Refusal;
 use timed_network::{Call, RunNumbers, Verdict, FIELDS, NO_MESSAGE, NO_NODE};
 
-/// The last check that `check` answers.
-pub const LAST_CHECK: u8 = 12;
+/// The numbers that `check` answers: 0 where it accepts, then those of the
+/// refusals. 15 to 17 stand in the place of 11 (document 02, wish 3).
+pub const NUMBERS: [u8; 16] = [0, 1, 2, 3, 4, 5, 6, 7, 8, 9, 10, 11, 12, 15, 16, 17];
+/// The refusals of a send that is not heard well: nobody listens, several do,
+/// the listener starts too late, it ends too soon.
+pub const UNHEARD: [u8; 4] = [11, 15, 16, 17];
 /// The refusal of a list or of bytes that are too short.
 pub const TOO_SHORT: u8 = 13;
 /// The refusal of too many choices.
@@ -88,7 +92,7 @@ impl Reader {
     }
 }
 
-/// The second implementation's answer for checks 1 to [`LAST_CHECK`].
+/// The second implementation's answer for checks 1 to 12.
 pub fn second_reader(table: &[u8]) -> Verdict {
     match calls::check(table) {
         Ok(()) => Verdict::Accepted,

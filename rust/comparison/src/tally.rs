@@ -1,19 +1,19 @@
 //! What was counted.
 
-use crate::readers::{LAST_CHECK, TOO_SHORT};
+use crate::readers::{NUMBERS, TOO_SHORT};
 use crate::runs::Runs;
 use std::fmt;
 use timed_network::Verdict;
 
-/// The answers that there are: accepted, and the numbers of the checks.
-const ANSWERS: usize = LAST_CHECK as usize + 1;
+/// How many answers there are.
+const ANSWERS: usize = NUMBERS.len();
 
 /// How often each answer was given in a class.
 #[derive(Clone, Debug, PartialEq, Eq)]
 pub struct Tally {
     /// The name of the class.
     pub class: &'static str,
-    /// The accepted ones first, then those refused with 1, 2 and so on.
+    /// In the order of [`NUMBERS`].
     pub answers: [u64; ANSWERS],
     /// The lists that were lent for schedules and compared.
     pub lists: Lists,
@@ -100,11 +100,19 @@ impl Tally {
 
     /// Counts an answer, which must be one that there is.
     pub fn count(&mut self, answer: Verdict) {
-        let place = match answer {
+        let given = match answer {
             Verdict::Accepted => 0,
-            Verdict::Refused { number, .. } => usize::from(number),
+            Verdict::Refused { number, .. } => number,
         };
-        self.answers[place] += 1;
+        let place = NUMBERS.iter().position(|number| *number == given);
+        self.answers[place.expect("a number that there is")] += 1;
+    }
+
+    /// How often this number was answered.
+    pub fn answered(&self, number: u8) -> u64 {
+        let counts = NUMBERS.iter().zip(self.answers);
+        let own = counts.filter(|(given, _)| **given == number);
+        own.map(|(_, count)| count).sum()
     }
 
     /// All classes together.
@@ -135,7 +143,7 @@ impl fmt::Display for Tally {
         if self.cases() > 0 {
             write!(out, ": accepted {accepted}")?;
         }
-        for (number, count) in (1..).zip(refusals) {
+        for (number, count) in NUMBERS[1..].iter().zip(refusals) {
             if *count > 0 {
                 write!(out, ", refused {number}: {count}")?;
             }

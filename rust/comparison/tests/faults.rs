@@ -73,7 +73,9 @@ fn each_fault_is_found() {
         ListenersFromHorizonOnForgotten OwnListenerCounts OtherChannelHeard
         ListenersByBand TwoSendsOnTwoBandsHeard
         TwoSendsForOneListener TwoSendsOfOneComponent OwnSendHeard EntryTickMissed
-        TwelveBeforeEleven ElevenBeforeTen LastAtFaultNamed MessageWrittenAs0 PassagesByEnd
+        TwelveBeforeEleven ElevenBeforeTen LastAtFaultNamed ComponentsForWindows
+        FirstOfSeveralDecides ElevenForAll LateForEarly SeveralForNobody EarlyForNobody
+        EndBeforeStart MessageWrittenAs0 PassagesByEnd
     ];
     for (fault, library) in faults {
         let finder = finder(library);

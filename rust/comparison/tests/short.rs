@@ -14,6 +14,7 @@ const LEAST: Least = Least {
     cases: 1000,
     runs: 500,
     of_each_kind: 1,
+    of_each_hearing: 1,
 };
 
 fn short(readers: &Readers, seed: u64) -> Result<Vec<Tally>, Stop> {
@@ -128,6 +129,7 @@ fn wrong_readers_are_found_out() {
     let checks = checks.into_iter().chain([without::<5>, without::<6>]);
     let checks = checks.chain([without::<7>, without::<8>, without::<9>]);
     let checks = checks.chain([without::<10>, without::<11>, without::<12>]);
+    let checks = checks.chain([without::<15>, without::<16>, without::<17>]);
     let checks = checks.chain([names_component_0, refuses_all, gives_11, gives_13]);
     for (place, check) in checks.enumerate() {
         assert!(is_found_out(with_check(check)), "{place}");
@@ -237,7 +239,7 @@ fn what_is_known_before_is_demanded() {
 
 /// A class with these answers, and lists, programs, charts, parts and runs of
 /// all kinds.
-fn tally(class: &'static str, answers: [u64; 13]) -> Tally {
+fn tally(class: &'static str, answers: [u64; 16]) -> Tally {
     let lists = Lists {
         written: 3,
         short: 2,
@@ -272,7 +274,7 @@ fn all_kinds() -> Runs {
     }
 }
 
-const FULL: [u64; 13] = [1, 2, 3, 4, 5, 6, 7, 8, 9, 10, 11, 12, 13];
+const FULL: [u64; 16] = [1, 2, 3, 4, 5, 6, 7, 8, 9, 10, 11, 12, 13, 14, 15, 16];
 
 /// At least so many cases and runs.
 fn least(cases: u64, runs: u64) -> Least {
@@ -280,6 +282,7 @@ fn least(cases: u64, runs: u64) -> Least {
         cases,
         runs,
         of_each_kind: 1,
+        of_each_hearing: 12,
     }
 }
 
@@ -287,18 +290,20 @@ fn least(cases: u64, runs: u64) -> Least {
 fn what_was_not_tried_is_told() {
     let full = tally("full", FULL);
     let empty = Tally::new("empty");
-    let some = tally("some", [0, 1, 1, 0, 1, 1, 1, 1, 1, 1, 1, 1, 0]);
-    assert_eq!(cases(&[full.clone(), some.clone()]), [101, 76]);
+    let some = tally("some", [0, 1, 1, 0, 1, 1, 1, 1, 1, 1, 1, 12, 0, 12, 0, 11]);
+    assert_eq!(cases(&[full.clone(), some.clone()]), [180, 76]);
     let one = std::slice::from_ref(&full);
-    assert_eq!(gaps(one, &least(91, 28)), Vec::<String>::new());
-    assert_eq!(gaps(one, &least(92, 28)), ["91 cases are fewer than 92"]);
-    assert_eq!(gaps(one, &least(91, 29)), ["28 runs are fewer than 29"]);
+    assert_eq!(gaps(one, &least(136, 28)), Vec::<String>::new());
+    assert_eq!(gaps(one, &least(137, 28)), ["136 cases are fewer than 137"]);
+    assert_eq!(gaps(one, &least(136, 29)), ["28 runs are fewer than 29"]);
     let told = ["nothing was tried in the class: empty"];
     assert_eq!(gaps(&[full.clone(), empty], &least(0, 0)), told);
     let told = [
         "no table was accepted",
         "no table was refused with 3",
         "no table was refused with 12",
+        "no table was refused with 16",
+        "11 tables refused with 17 are fewer than 12",
     ];
     assert_eq!(gaps(&[some], &least(0, 0)), told);
     let bare = Tally {
@@ -329,8 +334,9 @@ fn what_was_not_tried_is_told() {
 
 #[test]
 fn a_line_tells_all_answers_that_were_given() {
-    let some = tally("name", [1, 2, 0, 0, 0, 0, 0, 0, 3, 0, 0, 0, 4]);
-    let line = "name: 10 cases: accepted 1, refused 1: 2, refused 8: 3, refused 12: 4; \
+    let some = tally("name", [1, 2, 0, 0, 0, 0, 0, 0, 3, 0, 0, 0, 4, 0, 5, 0]);
+    let line = "name: 15 cases: accepted 1, refused 1: 2, refused 8: 3, refused 12: 4, \
+                refused 16: 5; \
                 6 lists: written 3, too short 2, table refused 1; \
                 6 programs: written 3, too short 2, table refused 1; \
                 6 charts: written 3, too short 2, table refused 1; \
@@ -343,7 +349,7 @@ fn a_line_tells_all_answers_that_were_given() {
     let sum = Tally::sum(&[some.clone(), some]);
     assert!(sum
         .to_string()
-        .starts_with("all classes: 20 cases: accepted 2, "));
+        .starts_with("all classes: 30 cases: accepted 2, "));
     assert_eq!(sum.lists.all(), 12);
     assert_eq!(sum.runs.all(), 76);
     assert_eq!(Tally::new("none").to_string(), "none: 0 cases");

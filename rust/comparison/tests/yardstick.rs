@@ -11,6 +11,7 @@ const LEAST: Least = Least {
     cases: 1000,
     runs: 500,
     of_each_kind: 1,
+    of_each_hearing: 1,
 };
 
 /// The classes that hold both sides to stored answers.

@@ -14,27 +14,27 @@ pub fn verdict(bytes: &[u8]) -> Result<(Table, Vec<Passage>), Refusal> {
 /// Checks 10 to 12, each over the whole schedule before the next: "Then over
 /// the schedule, for sends with ready < H". The refusal names the component
 /// "of the first passage in schedule order at fault (a send for 10 and 11,
-/// the receive for 12)".
+/// the receive for 12)". "In the place of 11, for the same passage", stands
+/// the number of its fault (document 02, wish 3).
 pub fn check_messages(table: &Table, passages: &[Passage]) -> Result<(), Refusal> {
     let roles: Vec<Role> = passages.iter().map(|p| role(table, p)).collect();
     let notes = take_notes(passages, &roles);
-    refuse(10, passages, |index| notes[index].collides)?;
-    refuse(11, passages, |index| {
-        matches!(roles[index], Role::Send(_)) && !notes[index].heard_once()
+    refuse(passages, |index| notes[index].collides.then_some(10))?;
+    refuse(passages, |index| match roles[index] {
+        Role::Send(_) => notes[index].hearing_fault(),
+        _ => None,
     })?;
-    refuse(12, passages, |index| notes[index].sends > 1)
+    refuse(passages, |index| (notes[index].sends > 1).then_some(12))
 }
 
-/// Refuses with the component of the first passage at fault.
-fn refuse(
-    number: u8,
-    passages: &[Passage],
-    at_fault: impl Fn(usize) -> bool,
-) -> Result<(), Refusal> {
-    match (0..passages.len()).find(|index| at_fault(*index)) {
-        Some(index) => Err(Refusal::new(number, passages[index].component)),
-        None => Ok(()),
+/// Refuses with the number and the component of the first passage at fault.
+fn refuse(passages: &[Passage], fault: impl Fn(usize) -> Option<u8>) -> Result<(), Refusal> {
+    for (index, passage) in passages.iter().enumerate() {
+        if let Some(number) = fault(index) {
+            return Err(Refusal::new(number, passage.component));
+        }
     }
+    Ok(())
 }
 
 /// What a passage does for checks 10 to 12.
@@ -68,7 +68,7 @@ fn role(table: &Table, passage: &Passage) -> Role {
     }
 }
 
-/// What is noted of a passage: the first four of a send, the last of a
+/// What is noted of a passage: the first five of a send, the last of a
 /// receive.
 #[derive(Clone, Copy, Default)]
 struct Note {
@@ -79,24 +79,37 @@ struct Note {
     listeners: u8,
     /// The number of their windows.
     windows: u32,
-    /// Whether the last window noted starts earlier and ends later.
-    enclosed: bool,
+    /// Whether the last window noted starts earlier.
+    earlier: bool,
+    /// Whether it ends later.
+    later: bool,
     /// The number of send windows of other components on its channels.
     sends: u32,
 }
 
 impl Note {
     /// "exactly one may be set, by one window", and that window must "start
-    /// earlier and end later".
-    fn heard_once(&self) -> bool {
-        self.listeners.count_ones() == 1 && self.windows == 1 && self.enclosed
+    /// earlier and end later". Else the fault's number: "A send window that
+    /// shares a tick with no receive window of another component naming its
+    /// channel remains 11. Several are one fault", 15. "A single one that
+    /// starts too late is another", 16. "A single one that starts early enough
+    /// but ends too soon is the last", 17.
+    fn hearing_fault(&self) -> Option<u8> {
+        match self.windows {
+            0 => Some(11),
+            1 if !self.earlier => Some(16),
+            1 if !self.later => Some(17),
+            1 => None,
+            _ => Some(15),
+        }
     }
 
     /// Notes a receive window at its send.
     fn hear(&mut self, send: &Passage, receive: &Passage) {
         self.listeners |= 1 << receive.component;
         self.windows += 1;
-        self.enclosed = receive.ready < send.ready && send.end < receive.end;
+        self.earlier = receive.ready < send.ready;
+        self.later = send.end < receive.end;
     }
 }
 

@@ -89,10 +89,10 @@ fn the_order_of_the_checks() {
     let mut table = probe_and_hub_table();
     table.components[1].locations[0].bound = 5;
     let bytes = write_table(&table);
-    assert_eq!(check(&bytes), Err(refused(11, 0)));
-    assert_eq!(run(&bytes, &many, &mut []), Err(refused(11, 0)));
-    assert_eq!(translate(&bytes, &mut []), Err(refused(11, 0)));
-    assert_eq!(schedule(&bytes, &mut []), Err(refused(11, 0)));
+    assert_eq!(check(&bytes), Err(refused(17, 0)));
+    assert_eq!(run(&bytes, &many, &mut []), Err(refused(17, 0)));
+    assert_eq!(translate(&bytes, &mut []), Err(refused(17, 0)));
+    assert_eq!(schedule(&bytes, &mut []), Err(refused(17, 0)));
     assert_eq!(run(&[], &many, &mut []), Err(refused(1, 255)));
 }
 

@@ -84,21 +84,21 @@ fn one_send_and_its_listener() {
         )
     };
     assert_eq!(pair((3, 5), (2, 6)), None);
-    assert_eq!(
-        pair((3, 5), (3, 6)),
-        Some(refused(11, 0)),
-        "starts together"
-    );
-    assert_eq!(pair((3, 5), (2, 5)), Some(refused(11, 0)), "ends together");
-    assert_eq!(
-        pair((3, 5), (5, 8)),
-        Some(refused(11, 0)),
-        "shares one tick"
-    );
-    assert_eq!(pair((3, 5), (6, 8)), Some(refused(11, 0)), "shares none");
+    let [nobody, late, early] = [11, 16, 17].map(|number| Some(refused(number, 0)));
+    assert_eq!(pair((3, 5), (3, 6)), late, "starts together");
+    assert_eq!(pair((3, 5), (4, 6)), late, "starts later");
+    assert_eq!(pair((3, 5), (5, 8)), late, "shares the last tick");
+    assert_eq!(pair((3, 5), (3, 5)), late, "starts and ends together");
+    assert_eq!(pair((3, 6), (4, 5)), late, "starts later, ends earlier");
+    assert_eq!(pair((3, 5), (2, 5)), early, "ends together");
+    assert_eq!(pair((3, 5), (2, 4)), early, "ends earlier");
+    assert_eq!(pair((3, 5), (1, 3)), early, "shares the first tick");
+    assert_eq!(pair((3, 5), (6, 8)), nobody, "after it");
+    assert_eq!(pair((3, 5), (1, 2)), nobody, "before it");
     assert_eq!(pair((30, 35), (2, 6)), None, "after the horizon");
     assert_eq!(pair((20, 25), (2, 6)), None, "at the horizon");
-    assert_eq!(pair((19, 25), (2, 6)), Some(refused(11, 0)), "before it");
+    assert_eq!(pair((19, 25), (2, 6)), nobody, "before the horizon");
+    assert_eq!(pair((19, 25), (20, 26)), late, "a listener from it on");
     assert_eq!(
         pair((19, 25), (18, 26)),
         None,
@@ -193,13 +193,13 @@ fn windows_that_touch_at_an_entry() {
     let listener = || once((2, 6), hears(&[0]));
     let ten = vec![sender(), second(sends(1)), listener()];
     assert_eq!(refusal(20, ten), Some(refused(10, 0)));
-    let eleven = vec![sender(), second(hears(&[0])), listener()];
-    assert_eq!(refusal(20, eleven), Some(refused(11, 0)));
+    let fifteen = vec![sender(), second(hears(&[0])), listener()];
+    assert_eq!(refusal(20, fifteen), Some(refused(15, 0)));
     let twelve = vec![
         once((3, 5), hears(&[0, 1])),
         twice((2, 5), (5, 9), [sends(0), sends(1)]),
     ];
-    assert_eq!(refusal(20, twelve), Some(refused(11, 1)));
+    assert_eq!(refusal(20, twelve), Some(refused(16, 1)));
 }
 
 #[test]
@@ -221,14 +221,14 @@ fn check_10_comes_before_11_over_the_whole_schedule() {
 }
 
 #[test]
-fn check_11_two_windows() {
+fn several_windows_are_15() {
     let others = |first: Component, second: Component| {
         refusal(20, vec![once((3, 5), sends(0)), first, second])
     };
     let listener = || once((2, 6), hears(&[0]));
-    let eleven = Some(refused(11, 0));
-    assert_eq!(others(listener(), once((5, 9), hears(&[0]))), eleven);
-    assert_eq!(others(listener(), once((1, 3), hears(&[0]))), eleven);
+    let fifteen = Some(refused(15, 0));
+    assert_eq!(others(listener(), once((5, 9), hears(&[0]))), fifteen);
+    assert_eq!(others(listener(), once((1, 3), hears(&[0]))), fifteen);
     assert_eq!(others(listener(), once((6, 9), hears(&[0]))), None);
     assert_eq!(others(listener(), once((1, 2), hears(&[0]))), None);
     assert_eq!(others(listener(), once((3, 5), hears(&[1]))), None);
@@ -237,7 +237,26 @@ fn check_11_two_windows() {
         let hub = twice((2, 6), second, actions);
         refusal(20, vec![once((3, 6), sends(0)), hub])
     };
-    assert_eq!(same((6, 9)), eleven, "two windows of one component");
+    assert_eq!(same((6, 9)), fifteen, "two windows of one component");
+    assert_eq!(same((7, 9)), Some(refused(17, 0)), "the second is past it");
+}
+
+/// One send after the other, each with a fault of its own: the first one's
+/// number, whatever the other's.
+#[test]
+fn the_first_send_at_fault_has_its_own_number() {
+    let two = |first, second| {
+        let hubs = [first, second].map(|listen| once(listen, hears(&[0])));
+        let mut components = vec![twice((3, 5), (10, 12), [sends(0), sends(0)])];
+        components.extend(hubs);
+        refusal(20, components)
+    };
+    assert_eq!(two((2, 6), (9, 13)), None);
+    assert_eq!(two((3, 6), (9, 12)), Some(refused(16, 0)));
+    assert_eq!(two((2, 5), (10, 13)), Some(refused(17, 0)));
+    assert_eq!(two((2, 6), (10, 13)), Some(refused(16, 0)));
+    assert_eq!(two((2, 6), (9, 12)), Some(refused(17, 0)));
+    assert_eq!(two((2, 6), (13, 14)), Some(refused(11, 0)));
 }
 
 #[test]
@@ -300,30 +319,39 @@ fn by_definition(table: &Table, passages: &[Passage]) -> Option<Refusal> {
         let other = |q: &Passage| band(q) == band(p) && meets(p, q);
         channel(p).is_some() && passages.iter().any(other)
     };
-    let unheard = |p: &&Passage| {
+    let unheard = |p: &Passage| {
+        channel(p)?;
         let windows: Vec<_> = passages.iter().filter(|q| hears(q, p)).collect();
-        let one = matches!(&windows[..], [q] if q.ready < p.ready && p.end < q.end);
-        channel(p).is_some() && !one
+        let number = match &windows[..] {
+            [] => 11,
+            [q] if p.ready <= q.ready => 16,
+            [q] if q.end <= p.end => 17,
+            [_] => return None,
+            _ => 15,
+        };
+        Some(refused(number, p.component))
     };
     let twice = |q: &&Passage| passages.iter().filter(|p| hears(q, p)).count() > 1;
     let at_fault =
         |number, passage: Option<&Passage>| passage.map(|p| refused(number, p.component));
     at_fault(10, passages.iter().find(collides))
-        .or(at_fault(11, passages.iter().find(unheard)))
+        .or(passages.iter().find_map(unheard))
         .or(at_fault(12, passages.iter().find(twice)))
 }
 
 #[test]
 fn many_schedules_by_definition() {
-    let mut counts = [0; 4];
+    let numbers = [0, 10, 11, 15, 16, 17, 12];
+    let mut counts = numbers.map(|_| 0);
     for_each_schedule(30_000, |table, passages| {
         if passages.len() > 200 {
             return;
         }
         let answer = check_messages(table, passages).err();
         assert_eq!(answer, by_definition(table, passages));
-        counts[answer.map_or(0, |refusal| refusal.number as usize - 9)] += 1;
+        let number = answer.map_or(0, |refusal| refusal.number);
+        counts[numbers.iter().position(|own| *own == number).unwrap()] += 1;
     });
-    println!("accepted, refused with 10, 11, 12: {counts:?}");
+    println!("accepted (0) or refused with {numbers:?}: {counts:?}");
     assert!(counts.iter().all(|count| *count > 20));
 }

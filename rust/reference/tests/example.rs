@@ -99,9 +99,9 @@ e2:|sleep|done|zero x0|enter L0|choose";
 #[test]
 fn changes_that_are_refused() {
     let hub_low_3 = changed(|t| set_low(&mut t.components[1].edges[0], 3));
-    assert_eq!(hub_low_3, Some(refused(11, 0)));
+    assert_eq!(hub_low_3, Some(refused(16, 0)));
     let hub_bound_5 = changed(|t| t.components[1].locations[0].bound = 5);
-    assert_eq!(hub_bound_5, Some(refused(11, 0)));
+    assert_eq!(hub_bound_5, Some(refused(17, 0)));
     let probe_low_5 = changed(|t| set_low(&mut t.components[0].edges[0], 5));
     assert_eq!(probe_low_5, Some(refused(8, 0)));
     assert_eq!(verdict(&[]).err(), Some(refused(1, 255)));

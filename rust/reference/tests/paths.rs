@@ -125,7 +125,7 @@ fn random_runs_of_accepted_tables() {
 #[test]
 fn random_runs_of_refused_tables() {
     let mut numbers = Numbers(1181783497276652981);
-    let mut failures = [0; 13];
+    let mut failures = [0; 18];
     for_each_schedule(60_000, |table, passages| {
         let Err(refusal) = check_messages(table, passages) else {
             return;
@@ -137,7 +137,8 @@ fn random_runs_of_refused_tables() {
         }
     });
     println!("failures by refusal: {failures:?}");
-    assert!(failures[10] > 0 && failures[11] > 0);
+    // A send that nobody hears, 11, cannot finish: such a run goes no other way.
+    assert!([10, 15, 16, 17].iter().all(|number| failures[*number] > 0));
 }
 
 #[test]

@@ -36,15 +36,18 @@ fn each_source_says_what_it_shows_and_tries_and_its_answer() {
     }
 }
 
+/// The refusals of checks 1 to 12; 15 to 17 stand in the place of 11.
+const NUMBERS: [u8; 15] = [1, 2, 3, 4, 5, 6, 7, 8, 9, 10, 11, 12, 15, 16, 17];
+
 #[test]
 fn answers_are_those_of_checks_1_to_12() {
     for (name, answer, _) in stored() {
         if let Answer::Refused { number, component } = answer {
-            assert!((1..=12).contains(&number), "{name}");
+            assert!(NUMBERS.contains(&number), "{name}");
             assert_eq!(component == 255, number <= 3, "{name}");
         }
     }
-    for wanted in 1..=12 {
+    for wanted in NUMBERS {
         let tried =
             |answer: &Answer| matches!(answer, Answer::Refused { number, .. } if *number == wanted);
         assert!(

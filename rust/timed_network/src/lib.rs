@@ -4,7 +4,7 @@
 //! schedule of an accepted table into a lent list of numbers,
 //! [`schedule_into`] into a lent list of passages, [`passages`] gives it as a
 //! list of its own, and [`timing_chart`] draws it. [`meetings`] tells which
-//! windows met where 10, 11 or 12 refuses a table. [`translate`] writes the
+//! windows met where checks 10 to 12 refuse a table. [`translate`] writes the
 //! program of an accepted table, [`program`] gives it as bytes of its own,
 //! [`part`] finds one node's part in it, [`run`] carries out choices. [`node`]
 //! has one node whose registers the caller lends. The declarations of the
@@ -49,7 +49,8 @@ pub enum Verdict {
     Accepted,
     /// A check is not passed.
     Refused {
-        /// The number of the first check that is not passed.
+        /// The number of the first check that is not passed; 15 to 17 stand
+        /// in the place of 11 (document 02, wish 3).
         number: u8,
         /// The component that it concerns, or 255 for none.
         component: u8,
@@ -129,9 +130,10 @@ pub struct Meetings {
     pub size: usize,
 }
 
-/// Lists which windows met: for a table that 10, 11 or 12 refuses the passage
-/// at fault, then those that it meets, [`FIELDS`] numbers a passage, at the
-/// front of the list; for any other table nothing. What stands past it stays;
+/// Lists which windows met: for a table that checks 10 to 12 refuse (with 10,
+/// 11, 12 or 15 to 17) the passage at fault, then those that it meets,
+/// [`FIELDS`] numbers a passage, at the front of the list; for any other table
+/// nothing. What stands past it stays;
 /// after 13 the whole list does. A list for [`MAX_PASSAGES`] and one more is
 /// never too short.
 ///

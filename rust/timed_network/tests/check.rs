@@ -44,9 +44,9 @@ fn version_2_has_a_band_for_each_channel_behind_the_header() {
 #[test]
 fn refusals_of_the_worked_example_s_neighbours() {
     let hub_low_3 = with(70, 3);
-    assert_eq!(check(&hub_low_3), refused(11, 0));
+    assert_eq!(check(&hub_low_3), refused(16, 0));
     let hub_bound_5 = with(54, 5);
-    assert_eq!(check(&hub_bound_5), refused(11, 0));
+    assert_eq!(check(&hub_bound_5), refused(17, 0));
     let probe_low_5 = with(29, 5);
     assert_eq!(check(&probe_low_5), refused(8, 0));
 }

@@ -81,7 +81,7 @@ fn no_bytes_and_no_room() {
         assert_eq!((ran.end, ran.used, ran.size), (End::UsedUp, 0, 0));
     }
     // The refusal of the table comes before that of the lent length.
-    assert_eq!(schedule(&with(70, 3), &mut []), call(refused(11, 0), 0));
+    assert_eq!(schedule(&with(70, 3), &mut []), call(refused(16, 0), 0));
     assert_eq!(schedule(&PROBE_AND_HUB, &mut []), call(refused(13, 255), 0));
     assert_eq!(
         translate(&PROBE_AND_HUB, &mut []),

@@ -14,7 +14,7 @@ fn the_listener_that_starts_with_the_sender_is_listed() {
     for more in [0, 1, 100] {
         let mut list = vec![9; 2 * FIELDS + more];
         let answer = meetings(&with(70, 3), &mut list);
-        assert_eq!(answer.table, refused(11, 0));
+        assert_eq!(answer.table, refused(16, 0));
         assert_eq!((answer.verdict, answer.size), (Verdict::Accepted, 2));
         assert_eq!(list[..2 * FIELDS], MET.concat());
         assert_eq!(list[2 * FIELDS..], vec![9; more]);
@@ -26,7 +26,7 @@ fn a_list_that_is_too_short_is_refused_and_the_table_is_judged_all_the_same() {
     for length in [0, 1, 7, 13] {
         let mut list = vec![9; length];
         let answer = meetings(&with(70, 3), &mut list);
-        assert_eq!(answer.table, refused(11, 0));
+        assert_eq!(answer.table, refused(16, 0));
         assert_eq!((answer.verdict, answer.size), (refused(13, 255), 0));
         assert_eq!(list, vec![9; length]);
     }

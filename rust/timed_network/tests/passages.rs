@@ -62,7 +62,7 @@ fn a_list_that_is_too_short_is_refused_and_stays_as_it_was() {
 fn a_refused_table_leaves_the_list_as_it_was() {
     for length in [0, 8, 20] {
         let mut list = vec![BEFORE; length];
-        let (verdict, size) = (refused(11, 0), 0);
+        let (verdict, size) = (refused(16, 0), 0);
         assert_eq!(
             schedule_into(&with(70, 3), &mut list),
             Call { verdict, size }

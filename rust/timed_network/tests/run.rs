@@ -119,7 +119,7 @@ fn refusals_write_nothing_and_have_an_order() {
         (&PROBE_AND_HUB, &many[..9], NEEDED - 1, (13, 255)),
         (&PROBE_AND_HUB, &many, NEEDED - 1, (13, 255)),
         (&PROBE_AND_HUB, &many, NEEDED, (14, 255)),
-        (&hub_low_3, &many, NEEDED, (11, 0)),
+        (&hub_low_3, &many, NEEDED, (16, 0)),
         (&[], &many, 0, (1, 255)),
     ];
     for (table, choices, length, (number, component)) in all {

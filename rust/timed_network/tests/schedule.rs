@@ -55,8 +55,8 @@ fn a_refused_table_leaves_the_list_as_it_was() {
     let hub_low_3 = with(70, 3);
     for length in [0, NEEDED, 2 * NEEDED] {
         let mut list = vec![5; length];
-        assert_eq!(schedule(&hub_low_3, &mut list), call(refused(11, 0), 0));
+        assert_eq!(schedule(&hub_low_3, &mut list), call(refused(16, 0), 0));
         assert_eq!(list, vec![5; length]);
     }
-    assert_eq!(passages(&hub_low_3), Err(refused(11, 0)));
+    assert_eq!(passages(&hub_low_3), Err(refused(16, 0)));
 }

@@ -76,11 +76,11 @@ fn a_refused_table_leaves_the_bytes_as_they_were() {
     let hub_low_3 = with(70, 3);
     for length in [0, LENGTH, 2 * LENGTH] {
         let mut bytes = vec![77; length];
-        let (verdict, size) = (refused(11, 0), 0);
+        let (verdict, size) = (refused(16, 0), 0);
         assert_eq!(translate(&hub_low_3, &mut bytes), Call { verdict, size });
         assert_eq!(bytes, vec![77; length]);
     }
-    assert_eq!(program(&hub_low_3), Err(refused(11, 0)));
+    assert_eq!(program(&hub_low_3), Err(refused(16, 0)));
     assert_eq!(program(&[]), Err(refused(1, 255)));
 }
 

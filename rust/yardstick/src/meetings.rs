@@ -13,9 +13,14 @@ use crate::{Refusal, NO_MESSAGE};
 const UNHEARD: u8 = 0;
 /// Of a send: one listener, which starts earlier and ends later.
 const HEARD: u8 = 1;
-/// Of a send: more than one listener, or one that is too short. Of a receive:
-/// more than one send.
+/// Of a send: more than one listener. Of a receive: more than one send.
 const TOO_MUCH: u8 = 2;
+/// Of a send: one listener, which does not start earlier.
+const LATE: u8 = 3;
+/// Of a send: one listener, which starts earlier and does not end later.
+const SOON: u8 = 4;
+/// The refusal of a send that has met so much, or 0.
+const REFUSALS: [u8; 5] = [11, 0, 15, 16, 17];
 
 /// No passage is at fault.
 const NOWHERE: u32 = u32::MAX;
@@ -74,6 +79,8 @@ pub(crate) struct Meetings {
     /// For 10, 11 and 12 the place of the first passage at fault, times 8,
     /// with its component.
     first: [u32; 3],
+    /// What the first send that is not heard well has met.
+    met: u8,
 }
 
 impl Meetings {
@@ -86,6 +93,7 @@ impl Meetings {
             senders: 0,
             listeners: 0,
             first: [NOWHERE; 3],
+            met: UNHEARD,
         }
     }
 
@@ -117,11 +125,13 @@ impl Meetings {
             match (closed.sends, own.sends) {
                 (true, true) if closed.band == own.band => self.note(10, closed.row, other),
                 (true, false) if closed.channels & own.channels != 0 => {
-                    self.note(11, closed.row, other);
+                    listen(&mut closed, LATE);
+                    self.note_unheard(&closed, other);
+                    self.closed[other] = closed;
                     self.count_send(&mut own, number);
                 }
                 (false, true) if closed.channels & own.channels != 0 => {
-                    own.met = TOO_MUCH;
+                    listen(&mut own, SOON);
                     self.count_send(&mut closed, other);
                     self.closed[other] = closed;
                 }
@@ -170,7 +180,7 @@ impl Meetings {
             }
         }
         if send.met != HEARD {
-            self.note(11, send.row, number);
+            self.note_unheard(&send, number);
         }
         self.closed[number % COMPONENTS] = send;
     }
@@ -182,7 +192,8 @@ impl Meetings {
         for other in Bits(self.senders) {
             let send = &mut self.open[other % COMPONENTS];
             if receive.channels & send.channels != 0 && send.ready <= receive.end {
-                send.met = TOO_MUCH;
+                let late = receive.ready >= send.ready;
+                listen(send, if late { LATE } else { SOON });
                 self.count_send(&mut receive, number);
             }
         }
@@ -206,9 +217,19 @@ impl Meetings {
         *first = (*first).min(row << 3 | number as u32);
     }
 
-    /// Checks 10 to 12, after all passages are closed.
+    /// Notes a closed send that is not heard well, or that has met more.
+    fn note_unheard(&mut self, send: &Window, number: usize) {
+        self.note(11, send.row, number);
+        if self.first[1] >> 3 == send.row {
+            self.met = send.met;
+        }
+    }
+
+    /// Checks 10 to 12, after all passages are closed. In the place of 11
+    /// stands what the send has met.
     pub(crate) fn verdict(&self) -> Result<(), Refusal> {
-        for (number, first) in (10..).zip(self.first) {
+        let unheard = REFUSALS[usize::from(self.met) % REFUSALS.len()];
+        for (number, first) in [10, unheard, 12].into_iter().zip(self.first) {
             if first != NOWHERE {
                 return Err(Refusal::of(number, first as usize % COMPONENTS));
             }
@@ -221,12 +242,22 @@ impl Meetings {
 /// earlier and ends later, the send is its message if it is the first.
 #[inline]
 fn hear(send: &mut Window, receive: &mut Window) {
-    let around = receive.ready < send.ready && send.end < receive.end;
-    send.met = match (send.met, around) {
-        (UNHEARD, true) => HEARD,
-        _ => TOO_MUCH,
+    let met = match (receive.ready < send.ready, send.end < receive.end) {
+        (true, true) => HEARD,
+        (true, false) => SOON,
+        (false, _) => LATE,
     };
-    if around && receive.message == NO_MESSAGE {
+    listen(send, met);
+    if met == HEARD && receive.message == NO_MESSAGE {
         receive.message = send.channels.trailing_zeros() as u8;
     }
+}
+
+/// One listener more for a send, which alone would be met so.
+#[inline]
+fn listen(send: &mut Window, alone: u8) {
+    send.met = match send.met {
+        UNHEARD => alone,
+        _ => TOO_MUCH,
+    };
 }

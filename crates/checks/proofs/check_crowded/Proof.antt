@@ -34,14 +34,14 @@ returns c =
     let a = c .before .before .before .before .before .args in
     let T = readOf (a .s .now) .table in
     let S = rowsOf (a .l .now) (a .n) in
-    passed (crowded T (a .h) S) S (a .l .now) (c .before .before .first-crowded .result) (c .before .before .first-crowded .ensures .0) 12 (accepted S) _ (c .enum-told .given .1) refl
+    passed (crowded T (a .h) S) S (a .l .now) (c .before .before .first-crowded .result) (c .before .before .first-crowded .ensures .0) (λ v. 12) (accepted S) _ (c .enum-told .given .1) refl
 
 returns-2 : tie.Need-returns-2
 returns-2 c =
     let a = c .before .before .before .before .before .before .before .args in
     let T = readOf (a .s .now) .table in
     let S = rowsOf (a .l .now) (a .n) in
-    failed (crowded T (a .h) S) S (a .l .now) (c .before .before .before .before .first-crowded .result) (c .before .before .before .before .first-crowded .ensures .0) 12 (accepted S) (c .refused .result) (c .before .before .fault .given .0 .0) (c .before .before .fault .given .1) (c .refused .ensures)
+    failed (crowded T (a .h) S) S (a .l .now) (c .before .before .before .before .first-crowded .result) (c .before .before .before .before .first-crowded .ensures .0) (λ v. 12) (accepted S) (c .refused .result) (c .before .before .fault .given .0 .0) (c .before .before .fault .given .1) (c .refused .ensures)
 
 pub check-crowded-spec : {M : Type 1} → statement M
 check-crowded-spec =

@@ -1,11 +1,13 @@
 -- `checks::check_heard` meets its contract. Assumes nothing.
-use mathlib.Core.Path.{subst, refl}
+use mathlib.Core.Path.{ap, subst, refl, _∙_}
+use Prim.Native.Nat.{ℕ}
 use native.Mathlib.Omega.{arith}
 use borrow.Author.Needs.{needs}
+use Rattle.model.specs.declared.Verdict.the-variants.{Refused}
 use Rattle.model.specs.Places.{readOf}
 use Rattle.model.specs.Lists.{accepted}
-use Rattle.model.specs.Checks.{unheard, crowded}
-use Rattle.rows.specs.Rows.{rowsOf}
+use Rattle.model.specs.Checks.{unheardNumber, unheard, crowded}
+use Rattle.rows.specs.Rows.{num, rowsOf}
 use Rattle.checks.specs.declared.Fault.the-variants.{Nothing, At}
 use Rattle.checks.specs.Faults.{from12}
 use Rattle.checks.specs.Listening.{HeardAs}
@@ -29,12 +31,19 @@ check-crowded-requires c κs = search needs
 enum-known-heard : tie.Need-enum-known-heard
 enum-known-heard c = search needs
 
-refused-requires : tie.Need-refused-requires
-refused-requires c κs =
+number-requires : tie.Need-number-requires
+number-requires c κs =
     let e = c .before .before .before .before .before .before in
     let a = e .args in
     let told = subst (HeardAs (readOf (a .s .now) .table) (a .h) (a .l .now) (a .n)) (c .before .heard .given .1) (c .before .before .before .hear-sends .ensures) in
-    row-stands (a .s .now) (a .l .now) (a .n) _ (c .before .before .before .before .before .shared-slice-known .given) (e .pre) (omega (arith, told .1))
+    (e .pre, told .1)
+
+refused-requires : tie.Need-refused-requires
+refused-requires c κs =
+    let e = c .before .before .before .before .before .before .before in
+    let a = e .args in
+    let told = subst (HeardAs (readOf (a .s .now) .table) (a .h) (a .l .now) (a .n)) (c .before .before .heard .given .1) (c .before .before .before .before .hear-sends .ensures) in
+    row-stands (a .s .now) (a .l .now) (a .n) _ (c .before .before .before .before .before .before .shared-slice-known .given) (e .pre) (omega (arith, told .1))
 
 returns : tie.Need-returns
 returns c =
@@ -42,8 +51,8 @@ returns c =
     let T = readOf (a .s .now) .table in
     let S = rowsOf (a .l .now) (a .n) in
     let told = subst (HeardAs T (a .h) (a .l .now) (a .n)) (c .enum-told .given .1) (c .before .before .hear-sends .ensures) in
-    passed (unheard T (a .h) S) S (a .l .now) Nothing (told .0) 11 (from12 T (a .h) S) _ refl
-    (passed (crowded T (a .h) S) S (a .l .now) Nothing (told .1) 12 (accepted S) _ refl refl)
+    passed (unheard T (a .h) S) S (a .l .now) Nothing (told .0) (unheardNumber T S) (from12 T (a .h) S) _ refl
+    (passed (crowded T (a .h) S) S (a .l .now) Nothing (told .1) (λ v. 12) (accepted S) _ refl refl)
 
 returns-2 : tie.Need-returns-2
 returns-2 c =
@@ -51,16 +60,17 @@ returns-2 c =
     let T = readOf (a .s .now) .table in
     let S = rowsOf (a .l .now) (a .n) in
     let told = subst (HeardAs T (a .h) (a .l .now) (a .n)) (c .before .enum-told2 .given .1) (c .before .before .before .hear-sends .ensures) in
-    passed (unheard T (a .h) S) S (a .l .now) Nothing told 11 (from12 T (a .h) S) (c .check-crowded .result) refl (c .check-crowded .ensures)
+    passed (unheard T (a .h) S) S (a .l .now) Nothing told (unheardNumber T S) (from12 T (a .h) S) (c .check-crowded .result) refl (c .check-crowded .ensures)
 
 returns-3 : tie.Need-returns-3
 returns-3 c =
-    let a = c .before .before .before .before .before .before .before .args in
+    let a = c .before .before .before .before .before .before .before .before .args in
     let T = readOf (a .s .now) .table in
     let S = rowsOf (a .l .now) (a .n) in
-    let i = c .before .before .heard .given .0 .0 in
-    let told = subst (HeardAs T (a .h) (a .l .now) (a .n)) (c .before .before .heard .given .1) (c .before .before .before .before .hear-sends .ensures) in
-    failed (unheard T (a .h) S) S (a .l .now) (At i) (told .0) 11 (from12 T (a .h) S) (c .refused .result) i refl (c .refused .ensures)
+    let i = c .before .before .before .heard .given .0 .0 in
+    let told = subst (HeardAs T (a .h) (a .l .now) (a .n)) (c .before .before .before .heard .given .1) (c .before .before .before .before .before .hear-sends .ensures) in
+    failed (unheard T (a .h) S) S (a .l .now) (At i) (told .0) (unheardNumber T S) (from12 T (a .h) S) (c .refused .result) i refl
+    (c .refused .ensures ∙ ap (λ (k : ℕ). Refused k (num (a .l .now) i 0)) (c .before .number .ensures))
 
 pub check-heard-spec : {M : Type 1} → statement M
 check-heard-spec =
@@ -71,6 +81,7 @@ check-heard-spec =
     enum-told-2
     check-crowded-requires
     enum-known-heard
+    number-requires
     refused-requires
     returns
     returns-2

@@ -33,7 +33,7 @@ unfolding acceptedSchedule
 plan-is most T H S = (schedule-at T H most S, λ p. ap (λ (x : Answer (List Passage)). x after λ X. checked T H X) (is-schedule most T H S .1 (p .0)) ∙ p .1)
 
 -- no window ends before it starts
-windows : {most : ℕ} {T : Table} {H : ℕ} {S : List Passage} → IsSchedule most T H S → (v : Passage) → v ∈ S → v .ready ≤ v .end
+pub windows : {most : ℕ} {T : Table} {H : ℕ} {S : List Passage} → IsSchedule most T H S → (v : Passage) → v ∈ S → v .ready ≤ v .end
 windows s v i = let e = all-in (entered s) i in omega (arith, e .wide)
 
 -- the call `check` accepts exactly what demand 2 says

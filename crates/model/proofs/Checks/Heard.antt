@@ -14,7 +14,7 @@ use Rattle.model.specs.Lists.{any, only, first, isNone, _∈_, here, acc
 use Rattle.model.specs.Table.{Arc, Table}
 use Rattle.model.specs.Window.{channelOf}
 use Rattle.model.specs.Schedule.{Passage, passageArc, names, others, heardBy, earliest, carried, messageIn}
-use Rattle.model.specs.Checks.{shareTick, startsEarlier, endsLater, disturb, isSend, isReceive, meets, collides, mayHear, heardWell, unheard, two, crowded, faultOf, checked}
+use Rattle.model.specs.Checks.{shareTick, startsEarlier, endsLater, disturb, isSend, isReceive, meets, collides, mayHear, heardWell, unheard, two, crowded, faultOf, faultBy, unheardNumber, checked}
 use Rattle.model.proofs.Basics.Bools.{clash, and-is}
 use Rattle.model.proofs.Reader.Parts.{refused-clash, accepted-same}
 use Rattle.model.proofs.Basics.Members.{alone, first-none, only-is, any-none, any-is, not-true-is, one-left, fewer, earliest-only, earliest-some}
@@ -86,11 +86,11 @@ pub checked-is : (T : Table) (H : ℕ) (S S′ : List Passage) → (checked T H 
 unfolding checked
 checked-is T H S S′ = go (first (collides T H S) S) (first (unheard T H S) S) (first (crowded T H S) S)
   where
-    go : (a b c : Option Passage) → (faultOf 10 a (faultOf 11 b (faultOf 12 c (accepted S))) ≡ accepted S′)
+    go : (a b c : Option Passage) → (faultOf 10 a (faultBy (unheardNumber T S) b (faultOf 12 c (accepted S))) ≡ accepted S′)
         ↔ (S ≡ S′) × (a ≡ none) × (b ≡ none) × (c ≡ none)
     go none none none = (λ e. (accepted-same e, refl, refl, refl), λ h. ap accepted (h .0))
     go none none (some v) = (λ e. refused-clash 12 (v .component) S′ e, λ h. let z : _≡_ {A = ℕ} 0 1 = cc in absurd (omega arith))
-    go none (some v) c = (λ e. refused-clash 11 (v .component) S′ e, λ h. let z : _≡_ {A = ℕ} 0 1 = cc in absurd (omega arith))
+    go none (some v) c = (λ e. refused-clash (unheardNumber T S v) (v .component) S′ e, λ h. let z : _≡_ {A = ℕ} 0 1 = cc in absurd (omega arith))
     go (some v) b c = (λ e. refused-clash 10 (v .component) S′ e, λ h. let z : _≡_ {A = ℕ} 0 1 = cc in absurd (omega arith))
 
 -- ## The three questions, passage by passage

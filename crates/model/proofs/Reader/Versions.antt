@@ -1,12 +1,13 @@
--- A table of version 1 gets what document 01 gave it: verdict, schedule, program, run and meetings; and the chart of that schedule. Assumes nothing.
-use mathlib.Core.Path.{_≡_, refl, sym, ap, _∙_}
+-- A table of version 1 gets what document 01 gave it: verdict, schedule, program, run and meetings; and the chart of that schedule. The verdict is
+-- document 01's with 15 to 17 read as 11 (document 02, wish 3). Assumes nothing.
+use mathlib.Core.Path.{_≡_, refl, sym, ap, subst, _∙_}
 use mathlib.Core.Bool.{Bool, true, false, cond, _&&_}
 use mathlib.Core.List.{List, [], _∷_}
 use mathlib.Core.Option.{Option, none, some}
-use Prim.Native.Nat.{ℕ, zero, suc}
+use Prim.Native.Nat.{ℕ, zero, suc, _*_}
 use native.Mathlib.Omega.{arith}
 use borrow.Author.Tests.{eq-eqb}
-use lib.Dec.{leb, eqb}
+use lib.Dec.{leb, ltb, eqb}
 use lib.ListN.{length, drop, getD, replicate}
 use Rattle.model.specs.Lists.{any, only, first, each, Answer, accepted, refused, _after_}
 use Rattle.model.specs.Table.{Component, Read, bandOf}
@@ -15,16 +16,19 @@ use Rattle.model.specs.Reader.{byte, word, readComponents, lengthFine, c
 use Rattle.model.specs.Schedule.{Passage, others, schedule}
 use Rattle.model.specs.Checks.{shareTick, disturb, isSend, meets, collides, unheard, crowded, limit, checked, acceptedSchedule, acceptedScheduleOf}
 use Rattle.model.specs.Program.{programBytes}
-use Rattle.model.specs.Run.{run}
-use Rattle.model.specs.Calls.{verdictOf, scheduleWith, bytesWith, acceptedScheduleIn, checkCall, scheduleCall, translateCall, runPlanned, runRead, runCall}
+use Rattle.model.specs.Run.{settingOf, run}
+use Rattle.model.specs.Calls.{verdictOf, scheduleWith, bytesWith, acceptedScheduleIn, checkCall, scheduleCall, programIn, translateCall, notRun, ran, runWith, runPlanned, runRead, runCall}
 use Rattle.model.specs.Meetings.{sendsMet, listenersMet, sendsHeard, withMet, concerned, concernedIn, listOr, meetingsIn, meetingsCall}
-use Rattle.model.specs.Chart.{chart, chartCall}
+use Rattle.model.specs.Chart.{chart, chartIn, chartCall}
+use Rattle.model.specs.Hearings.{merged, mergedVerdict, mergedCall, mergedRun, mergedMeetings}
 use Rattle.model.specs.Versions.{readWith01, readTable01, meets01, collides01, checked01, acceptedScheduleOf01, programBytes01, checkCall01, scheduleCall01, translateCall01, chartCall01, runWith01, runRead01, runCall01, concerned01, meetingsIn01, meetingsCall01}
 use Rattle.model.proofs.Basics.Bools.{and-is}
 use Rattle.model.proofs.Reader.Bands.{zeros-small}
 use Rattle.model.proofs.Reader.Parts.{after-ok, cond-accepted, accepted-same}
 use Rattle.model.proofs.Basics.Members.{first-some}
 use Rattle.model.proofs.Checks.Heard.{send-is}
+use Rattle.model.proofs.Checks.Numbers.{UpTo, read-up-to}
+use Rattle.model.proofs.Checks.Merged.{as-below, merged-faults, schedule-merged, read-merged, verdict-merged, schedule-call-merged, bytes-call-merged, made-merged}
 use Rattle.model.proofs.Reader.Limits.{read-limits}
 
 -- ## Equal questions
@@ -135,11 +139,14 @@ module _ (t : Read) (h : InLimits t) (one : t .version ≡ 1) where
   pub same-first : (H : ℕ) (S : List Passage) → first (collides (t .table) H S) S ≡ first (collides01 (t .table) H S) S
   same-first H S = first-same (collides (t .table) H S) (collides01 (t .table) H S) (same-collides H S) S
 
+  -- 10 to 12 answer what they answered
+  pub same-checked : (H : ℕ) (S : List Passage) → merged (checked (t .table) H S) ≡ checked01 (t .table) H S
+  unfolding checked checked01
+  same-checked H S = rw (same-first H S) (merged-faults (t .table) H S (first (collides01 (t .table) H S) S))
+
   -- 7 to 12 answer what they answered, with the schedule
-  pub same-schedule : acceptedScheduleOf t ≡ acceptedScheduleOf01 t
-  unfolding acceptedSchedule checked checked01
-  same-schedule =
-      after-same (schedule limit (t .table) (t .horizon)) (checked (t .table) (t .horizon)) (checked01 (t .table) (t .horizon)) (λ S e. rw (same-first (t .horizon) S))
+  pub same-schedule : merged (acceptedScheduleOf t) ≡ acceptedScheduleOf01 t
+  same-schedule = schedule-merged t (checked01 (t .table) (t .horizon)) (same-checked (t .horizon))
 
   -- and the windows that met are those that did
   pub same-concerned : (H : ℕ) (S : List Passage) → concerned (t .table) H S ≡ concerned01 (t .table) H S
@@ -174,29 +181,40 @@ module _ (bs : List ℕ) (one : byte bs 0 ≡ 1) where
   read-same {A} f g h =
       ap (λ (a : Answer Read). a after f) (same-reading bs one) ∙ after-same (readTable01 bs) f g (λ t e. let k = known t e in h t (k .0) (k .1))
 
-  pub same-check : checkCall bs ≡ checkCall01 bs
+  -- and with its verdict
+  answer-same : {A : Type 0} (f g : Read → Answer A) → ((t : Read) → InLimits t → t .version ≡ 1 → merged (f t) ≡ g t)
+      → merged (readTable bs after f) ≡ (readTable01 bs after g)
+  answer-same {A} f g h =
+      read-merged bs f (λ t. merged (f t)) (λ t e. refl) ∙ read-same (λ t. merged (f t)) g h
+
+  pub same-check : mergedVerdict (checkCall bs) ≡ checkCall01 bs
   unfolding checkCall acceptedScheduleIn checkCall01
-  same-check = ap verdictOf (read-same acceptedScheduleOf acceptedScheduleOf01 same-schedule)
+  same-check = verdict-merged (readTable bs after acceptedScheduleOf) ∙ ap verdictOf (answer-same acceptedScheduleOf acceptedScheduleOf01 same-schedule)
 
-  pub same-schedule-call : (lent : List ℕ) → scheduleCall bs lent ≡ scheduleCall01 bs lent
+  pub same-schedule-call : (lent : List ℕ) → mergedCall (scheduleCall bs lent) ≡ scheduleCall01 bs lent
   unfolding scheduleCall acceptedScheduleIn scheduleCall01
-  same-schedule-call lent = ap (scheduleWith lent) (read-same acceptedScheduleOf acceptedScheduleOf01 same-schedule)
+  same-schedule-call lent =
+      schedule-call-merged lent (readTable bs after acceptedScheduleOf)
+      ∙ ap (scheduleWith lent) (answer-same acceptedScheduleOf acceptedScheduleOf01 same-schedule)
 
-  pub same-translate : (lent : List ℕ) → translateCall bs lent ≡ translateCall01 bs lent
+  pub same-translate : (lent : List ℕ) → mergedCall (translateCall bs lent) ≡ translateCall01 bs lent
   unfolding translateCall translateCall01
   same-translate lent =
-      ap (bytesWith lent)
-      (read-same (λ t. acceptedScheduleOf t after λ S. accepted (programBytes t)) (λ t. acceptedScheduleOf01 t after λ S. accepted (programBytes01 t))
-      (λ t h v. rw (same-schedule t h v, same-program t v)))
+      bytes-call-merged lent (programIn bs)
+      ∙ ap (bytesWith lent)
+      (answer-same (λ t. acceptedScheduleOf t after λ S. accepted (programBytes t)) (λ t. acceptedScheduleOf01 t after λ S. accepted (programBytes01 t))
+      (λ t h v. made-merged (acceptedScheduleOf t) (λ S. programBytes t) ∙ rw (same-schedule t h v, same-program t v)))
 
-  pub same-chart : (lent : List ℕ) → chartCall bs lent ≡ chartCall01 bs lent
+  pub same-chart : (lent : List ℕ) → mergedCall (chartCall bs lent) ≡ chartCall01 bs lent
   unfolding chartCall chartCall01
   same-chart lent =
-      ap (bytesWith lent)
-      (read-same (λ t. acceptedScheduleOf t after λ S. accepted (chart (t .table) (t .horizon) S))
-      (λ t. acceptedScheduleOf01 t after λ S. accepted (chart (t .table) (t .horizon) S)) (λ t h v. rw (same-schedule t h v)))
+      bytes-call-merged lent (chartIn bs)
+      ∙ ap (bytesWith lent)
+      (answer-same (λ t. acceptedScheduleOf t after λ S. accepted (chart (t .table) (t .horizon) S))
+      (λ t. acceptedScheduleOf01 t after λ S. accepted (chart (t .table) (t .horizon) S))
+      (λ t h v. made-merged (acceptedScheduleOf t) (chart (t .table) (t .horizon)) ∙ rw (same-schedule t h v)))
 
-  pub same-meetings : (lent : List ℕ) → meetingsCall bs lent ≡ meetingsCall01 bs lent
+  pub same-meetings : (lent : List ℕ) → mergedMeetings (meetingsCall bs lent) ≡ meetingsCall01 bs lent
   unfolding meetingsCall meetingsIn meetingsCall01
   same-meetings lent =
       let m : meetingsIn bs ≡ meetingsIn01 bs = ap listOr (read-same concernedIn (λ t. schedule limit (t .table) (t .horizon) after λ S. accepted (concerned01 (t .table) (t .horizon) S)) (λ t h v.
@@ -204,14 +222,28 @@ module _ (bs : List ℕ) (one : byte bs 0 ≡ 1) where
       ap accepted (same-concerned t h v (t .horizon) S)))) in
       rw (same-check, m)
 
-  pub same-run : (choices lent : List ℕ) → runCall bs choices lent ≡ runCall01 bs choices lent
+  pub same-run : (choices lent : List ℕ) → mergedRun (runCall bs choices lent) ≡ runCall01 bs choices lent
   unfolding runCall runCall01
-  same-run choices lent = rw (same-reading bs one) (read (readTable01 bs) known)
+  same-run choices lent = rw (same-reading bs one) (read (readTable01 bs) known few)
     where
-      scheduled : (t : Read) (a : Answer (List Passage)) → t .version ≡ 1 → runPlanned t a choices lent ≡ runWith01 t choices lent a
-      scheduled t (accepted S) v = rw (same-program t v)
+      few : UpTo 6 (readTable01 bs)
+      few = subst (UpTo 6) (same-reading bs one) (read-up-to bs)
+
+      -- a run's answer is no refusal of a table but by 13 and 14
+      with-run : (t : Read) (S : List Passage) → mergedRun (runWith t S choices lent) ≡ runWith t S choices lent
+      with-run t S = go (ltb (length lent) (length S * 32)) (ltb 1000000 (length choices))
+        where
+          go : (a b : Bool)
+              → mergedRun (cond a (notRun 13 255 lent) (cond b (notRun 14 255 lent) (ran (run (settingOf t S) choices) lent)))
+              ≡ cond a (notRun 13 255 lent) (cond b (notRun 14 255 lent) (ran (run (settingOf t S) choices) lent))
+          go true b = refl
+          go false true = refl
+          go false false = refl
+
+      scheduled : (t : Read) (a : Answer (List Passage)) → t .version ≡ 1 → mergedRun (runPlanned t a choices lent) ≡ runWith01 t choices lent (merged a)
+      scheduled t (accepted S) v = with-run t S ∙ rw (same-program t v)
       scheduled t (refused n c) v = refl
 
-      read : (a : Answer Read) → ((t : Read) → a ≡ accepted t → InLimits t × (t .version ≡ 1)) → runRead a choices lent ≡ runRead01 choices lent a
-      read (accepted t) h = let k = h t refl in rw (same-schedule t (k .0) (k .1)) (scheduled t (acceptedScheduleOf01 t) (k .1))
-      read (refused n c) h = refl
+      read : (a : Answer Read) → ((t : Read) → a ≡ accepted t → InLimits t × (t .version ≡ 1)) → UpTo 6 a → mergedRun (runRead a choices lent) ≡ runRead01 choices lent a
+      read (accepted t) h u = let k = h t refl in scheduled t (acceptedScheduleOf t) (k .1) ∙ ap (runWith01 t choices lent) (same-schedule t (k .0) (k .1))
+      read (refused n c) h u = ap (λ (m : ℕ). notRun m c lent) (as-below n (omega (arith, u)))

@@ -2,7 +2,7 @@
 use mathlib.Core.Path.{_≡_}
 use native.Mathlib.Omega.{arith}
 use Rattle.refusal_text.specs.RefusalText.{question}
-use Rattle.refusal_text.proofs.Questions.{asked, not-asked}
+use Rattle.refusal_text.proofs.Questions.{asked}
 use borrow.Author.Needs.{needs}
 use Rattle.refusal_text.proofs.put_question_on_call.Statement.{statement}
 use Rattle.refusal_text.proofs.put_question_on_call.Tie as tie
@@ -18,12 +18,6 @@ slice-aggregate-put-2 c = search needs
 
 put-requires-2 : tie.Need-put-requires-2
 put-requires-2 c κs = search needs
-
-slice-aggregate-put-3 : tie.Need-slice-aggregate-put-3
-slice-aggregate-put-3 c = search needs
-
-put-requires-3 : tie.Need-put-requires-3
-put-requires-3 c κs = search needs
 
 same-length : tie.Need-same-length
 same-length c = search needs
@@ -41,16 +35,8 @@ returns-2 : tie.Need-returns-2
 unfolding question
 returns-2 c =
     let p = c .before .before .put2 in
-    (asked (c .before .before .before .before .before .before .before .args .number) 14 (c .before .before .before .before .before .match .keys2) (p .ensures .0), omega (arith, p .ensures .1))
-
-same-length-3 : tie.Need-same-length-3
-same-length-3 c = search needs
-
-returns-3 : tie.Need-returns-3
-returns-3 c =
-    let p = c .before .before .put3 in
-    let rest = c .before .before .before .before .before .match .rest in
-    (not-asked (c .before .before .before .before .before .before .before .args .number) (omega (arith, c .before .before .before .before .before .before .before .pre, rest .1, rest .0 .1)) (p .ensures .0), omega (arith, p .ensures .1))
+    let known : c .before .before .before .before .before .before .before .args .number ≡ 14 = omega (arith, c .before .before .before .before .before .before .before .pre, c .before .before .before .before .before .match .rest) in
+    (asked (c .before .before .before .before .before .before .before .args .number) 14 known (p .ensures .0), omega (arith, p .ensures .1))
 
 pub put-question-on-call-spec : {M : Type 1} → statement M
 put-question-on-call-spec =
@@ -60,11 +46,7 @@ put-question-on-call-spec =
     put-requires
     slice-aggregate-put-2
     put-requires-2
-    slice-aggregate-put-3
-    put-requires-3
     same-length
     returns
     same-length-2
-    returns-2
-    same-length-3
-    returns-3)
+    returns-2)

@@ -23,16 +23,20 @@ put-fault-requires c κs = search needs
 put-met-lines-requires : tie.Need-put-met-lines-requires
 put-met-lines-requires c κs = search needs
 
+put-remedy-requires : tie.Need-put-remedy-requires
+put-remedy-requires c κs = search needs
+
 same-length : tie.Need-same-length
 same-length c = search needs
 
 returns-2 : tie.Need-returns-2
 returns-2 c =
-    let a = c .before .before .before .before .before .before .before .before .before .before .before .args in
-    let p1 = c .before .before .before .before .before .before .put-fault in
-    let p2 = c .before .before .put-met-lines in
-    (same-words (meetingsText (a .number) (metsOf (a .list .now) (a .n))) (next (p1 .ensures .0) (p2 .ensures .0)) (first-at-fault (a .number) (a .list .now) (a .n) (c .before .before .before .before .before .before .before .before .if1 .left)), omega (arith, p1 .ensures .1, p2 .ensures .1))
+    let a = c .before .before .before .before .before .before .before .before .before .before .before .before .before .before .before .args in
+    let p1 = c .before .before .before .before .before .before .before .before .before .before .put-fault in
+    let p2 = c .before .before .before .before .before .before .put-met-lines in
+    let p3 = c .before .before .put-remedy in
+    (same-words (meetingsText (a .number) (metsOf (a .list .now) (a .n))) (next (next (p1 .ensures .0) (p2 .ensures .0)) (p3 .ensures .0)) (first-at-fault (a .number) (a .list .now) (a .n) (c .before .before .before .before .before .before .before .before .before .before .before .before .if1 .left)), omega (arith, p1 .ensures .1, p2 .ensures .1, p3 .ensures .1))
 
 pub put-meetings-spec : {M : Type 1} → statement M
 put-meetings-spec =
-    tie.close (tie.spec returns put-fault-requires put-met-lines-requires same-length returns-2)
+    tie.close (tie.spec returns put-fault-requires put-met-lines-requires put-remedy-requires same-length returns-2)

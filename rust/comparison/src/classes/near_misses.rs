@@ -136,24 +136,52 @@ fn collide(random: &mut Random, plan: &Plan) -> Option<Plan> {
     Some(changed)
 }
 
-/// A listener that starts or ends with the sender, none, or two.
+/// A listener that starts or ends with the sender or a tick to either side, at
+/// the send's other end, or past it; none, or two windows, of one component or
+/// of two. Document 02, wish 3, has a number for each.
 pub(super) fn listeners(trial: &mut Trial, random: &mut Random, extent: &Extent) -> Outcome {
-    for change in [starts_together, ends_together, unheard, heard_twice] {
-        try_changes(trial, random, extent, 11, change)?;
+    let changes: [(u8, fn(&mut Random, &Plan) -> Option<Plan>); 13] = [
+        (16, |random, plan| {
+            moved(random, plan, |[from, _], [_, end]| [from, end])
+        }),
+        (16, |random, plan| {
+            moved(random, plan, |[from, _], [_, end]| [from + 1, end])
+        }),
+        (16, |random, plan| {
+            moved(random, plan, |[_, to], [_, end]| [to, end])
+        }),
+        (11, |random, plan| {
+            moved(random, plan, |[_, to], [_, end]| [to + 1, end])
+        }),
+        (17, |random, plan| {
+            moved(random, plan, |[_, to], [start, _]| [start, to])
+        }),
+        (17, |random, plan| {
+            moved(random, plan, |[_, to], [start, _]| [start, to - 1])
+        }),
+        (17, |random, plan| {
+            moved(random, plan, |[from, _], [start, _]| [start, from])
+        }),
+        (11, |random, plan| {
+            moved(random, plan, |[from, _], [start, _]| [start, from - 1])
+        }),
+        (16, |random, plan| moved(random, plan, |send, _| send)),
+        (16, |random, plan| {
+            moved(random, plan, |[from, to], _| [from + 1, to - 1])
+        }),
+        (11, unheard),
+        (15, heard_twice),
+        (15, heard_twice_by_one),
+    ];
+    for (number, change) in changes {
+        try_changes(trial, random, extent, number, change)?;
     }
     Ok(())
 }
 
-fn starts_together(random: &mut Random, plan: &Plan) -> Option<Plan> {
-    change_listener(random, plan, |send, listen| [send[0], listen[1]])
-}
-
-fn ends_together(random: &mut Random, plan: &Plan) -> Option<Plan> {
-    change_listener(random, plan, |send, listen| [listen[0], send[1]])
-}
-
-/// Gives the listener of one slot another window inside its own.
-fn change_listener(
+/// Gives the listener of one slot another window inside its own, if that has
+/// one tick's length.
+fn moved(
     random: &mut Random,
     plan: &Plan,
     window: fn([u32; 2], [u32; 2]) -> [u32; 2],
@@ -161,8 +189,9 @@ fn change_listener(
     let mut changed = plan.clone();
     let at = random.below(plan.slots.len());
     let slot = changed.slots.get_mut(at)?;
-    slot.listen = Some(window(slot.send, slot.listen?));
-    Some(changed)
+    let [from, to] = window(slot.send, slot.listen?);
+    slot.listen = Some([from, to]);
+    (from < to).then_some(changed)
 }
 
 /// Nobody listens, or to another channel only.
@@ -198,6 +227,21 @@ fn heard_twice(random: &mut Random, plan: &Plan) -> Option<Plan> {
     let mut changed = plan.clone();
     let step = Step::listen(window[0], window[1], &[slot.channel]);
     changed.beside.push((third, step));
+    Some(changed)
+}
+
+/// The listener's window becomes two, which both share a tick with the send:
+/// the first ends before the second starts, or when it does.
+fn heard_twice_by_one(random: &mut Random, plan: &Plan) -> Option<Plan> {
+    let mut changed = plan.clone();
+    let at = random.below(plan.slots.len());
+    let slot = changed.slots.get_mut(at)?;
+    let ([from, to], [start, end]) = (slot.send, slot.listen?);
+    let middle = random.within(from as usize..=to as usize) as u32;
+    let second = random.within(middle as usize..=to as usize) as u32;
+    slot.listen = Some([start, middle]);
+    let step = Step::listen(second, end, &slot.names);
+    changed.beside.push((slot.hub, step));
     Some(changed)
 }
 

@@ -310,7 +310,7 @@ pub(super) fn too_many(trial: &mut Trial, random: &mut Random, extent: &Extent) 
                 }
             }
             trial.run(&refused_table, None, &choices, needed - 1)?;
-            trial.expect_refused(&refused_table, &choices, refused(11, 0))?;
+            trial.expect_refused(&refused_table, &choices, refused(16, 0))?;
         }
     }
     Ok(())

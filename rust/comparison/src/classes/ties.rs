@@ -207,10 +207,10 @@ impl Meeting {
         trial.expect(&self.bytes(random, order, lanes), collide)?;
         let lanes = self.lanes([Work::Send(0), listen(&[0])], [EARLIER, LONG_PAST]);
         let counts = before(EARLIER[0]) && before(self.entry);
-        let heard_after = self.answer(counts, 11, earlier);
+        let heard_after = self.answer(counts, 15, earlier);
         trial.expect(&self.bytes(random, order, lanes), heard_after)?;
         let lanes = self.lanes([listen(&[1]), Work::Send(1)], [LONG_PAST, self.later()]);
-        let heard_before = self.answer(before(self.ready), 11, later);
+        let heard_before = self.answer(before(self.ready), 15, later);
         trial.expect(&self.bytes(random, order, lanes), heard_before)
     }
 

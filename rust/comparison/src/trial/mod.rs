@@ -105,7 +105,7 @@ impl<'a> Trial<'a> {
             ..=6 => SAMPLE_READ,
             _ => SAMPLE_SCHEDULED,
         };
-        let count = self.tally.answers[usize::from(number)] - 1;
+        let count = self.tally.answered(number) - 1;
         if count.is_multiple_of(every) {
             self.lend(input, lists::length_for_refused(count / every))?;
             self.translate_and_run_refused(input, count / every)?;

@@ -82,17 +82,19 @@ pub fn check_messages(table: &Table, list: &[Passage], fault: Fault) -> Result<(
         _ => [10, 11, 12],
     };
     for number in numbers {
-        let at_fault = |own: &&Passage| match number {
-            10 => all.collides(own),
-            11 => all.is_send(own) && !all.is_heard_once(own),
-            _ => all.hears_two(own),
+        let at_fault = |own: &Passage| match number {
+            10 => all.collides(own).then_some(10),
+            11 if all.is_send(own) => all.unheard(own),
+            11 => None,
+            _ => all.hears_two(own).then_some(12),
         };
+        let found = |own: &Passage| Some((at_fault(own)?, own.component));
         let first = match fault {
-            Fault::LastAtFaultNamed => list.iter().rev().find(at_fault),
-            _ => list.iter().find(at_fault),
+            Fault::LastAtFaultNamed => list.iter().rev().find_map(found),
+            _ => list.iter().find_map(found),
         };
-        if let Some(own) = first {
-            return Err(verdict(number, own.component));
+        if let Some((number, component)) = first {
+            return Err(verdict(number, component));
         }
     }
     Ok(())
@@ -149,27 +151,50 @@ impl All<'_> {
             })
     }
 
-    fn is_heard_once(&self, own: &Passage) -> bool {
-        let listeners: Vec<&Passage> = self
-            .list
-            .iter()
-            .filter(|other| self.listens(other, own))
-            .collect();
-        let enclosing = |listener: &&Passage| {
-            let starts = match self.fault {
-                Fault::ListenerStartsTogether => listener.ready <= own.ready,
-                _ => listener.ready < own.ready,
-            };
-            let ends = match self.fault {
-                Fault::ListenerEndsTogether => own.end <= listener.end,
-                _ => own.end < listener.end,
-            };
-            starts && ends
+    /// The number of the fault in how a send is heard, if it has one.
+    fn unheard(&self, own: &Passage) -> Option<u8> {
+        let listens = |other: &&Passage| self.listens(other, own);
+        let mut listeners: Vec<&Passage> = self.list.iter().filter(listens).collect();
+        if self.fault == Fault::ComponentsForWindows {
+            listeners.dedup_by_key(|listener| listener.component);
+        }
+        let number = match (self.fault, &listeners[..]) {
+            (Fault::SecondListenerAllowed, several) => {
+                let lies: Vec<u8> = several.iter().map(|one| self.alone(own, one)).collect();
+                lies.iter().copied().min().unwrap_or(11)
+            }
+            (Fault::FirstOfSeveralDecides, [one, ..]) => self.alone(own, one),
+            (_, []) => 11,
+            (_, [one]) => self.alone(own, one),
+            _ => 15,
         };
-        match (self.fault, &listeners[..]) {
-            (Fault::SecondListenerAllowed, several) => several.iter().any(enclosing),
-            (_, [one]) => enclosing(one),
-            _ => false,
+        let number = match (self.fault, number) {
+            (Fault::ElevenForAll, 15..=17) => 11,
+            (Fault::LateForEarly, 16) => 17,
+            (Fault::LateForEarly, 17) => 16,
+            (Fault::SeveralForNobody, 11) => 15,
+            (Fault::EarlyForNobody, 11) => 17,
+            _ => number,
+        };
+        (number > 0).then_some(number)
+    }
+
+    /// How a listener lies to a send, if it is the only one: 16 if it starts
+    /// too late, 17 if it starts early enough but ends too soon, else 0.
+    fn alone(&self, own: &Passage, listener: &Passage) -> u8 {
+        let starts = match self.fault {
+            Fault::ListenerStartsTogether => listener.ready <= own.ready,
+            _ => listener.ready < own.ready,
+        };
+        let ends = match self.fault {
+            Fault::ListenerEndsTogether => own.end <= listener.end,
+            _ => own.end < listener.end,
+        };
+        match (starts, ends) {
+            (true, true) => 0,
+            (true, false) => 17,
+            (false, false) if self.fault == Fault::EndBeforeStart => 17,
+            (false, _) => 16,
         }
     }
 

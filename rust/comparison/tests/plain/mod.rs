@@ -70,6 +70,14 @@ pub enum Fault {
     TwelveBeforeEleven,
     ElevenBeforeTen,
     LastAtFaultNamed,
+    // The numbers of a send that is not heard well.
+    ComponentsForWindows,
+    FirstOfSeveralDecides,
+    ElevenForAll,
+    LateForEarly,
+    SeveralForNobody,
+    EarlyForNobody,
+    EndBeforeStart,
     // The list.
     MessageWrittenAs0,
     PassagesByEnd,
