@@ -42,12 +42,12 @@ enum SendsHeard {
 }
 
 // Whether row i's edge sends.
-fn row_sends(s: &[u8], l: &[u32], i: usize) -> bool
-    requires { ⌜ RowKnown (now s) (now l) i ⌝ }
-    ensures { λ r. ⌜ r ≡ not (isNone (channelOf (passageArc (readOf (now (s .entry)) .table) (rowPassage (now (l .entry)) i)))) ⌝ }
+fn row_sends(table: &[u8], rows: &[u32], i: usize) -> bool
+    requires { ⌜ RowKnown (now table) (now rows) i ⌝ }
+    ensures { λ r. ⌜ r ≡ not (isNone (channelOf (passageArc (readOf (now (table .entry)) .table) (rowPassage (now (rows .entry)) i)))) ⌝ }
 {
-    let at = rows::index(l, i, rows::PLACE);
-    let action = decoder::action_at(&s[at..]);
+    let at = rows::index(rows, i, rows::PLACE);
+    let action = decoder::action_at(&table[at..]);
     match action {
         Action::Internal => false,
         Action::Send(_) => true,
@@ -56,88 +56,88 @@ fn row_sends(s: &[u8], l: &[u32], i: usize) -> bool
 }
 
 // Whether row i is a send that is ready before the tick h.
-pub fn is_send(s: &[u8], l: &[u32], i: usize, h: u32) -> bool
-    requires { ⌜ RowKnown (now s) (now l) i ⌝ }
-    ensures { λ r. ⌜ r ≡ isSend (readOf (now (s .entry)) .table) h (rowPassage (now (l .entry)) i) ⌝ }
+pub fn is_send(table: &[u8], rows: &[u32], i: usize, horizon: u32) -> bool
+    requires { ⌜ RowKnown (now table) (now rows) i ⌝ }
+    ensures { λ r. ⌜ r ≡ isSend (readOf (now (table .entry)) .table) horizon (rowPassage (now (rows .entry)) i) ⌝ }
 {
-    if h <= rows::number(l, i, rows::READY) {
+    if horizon <= rows::number(rows, i, rows::READY) {
         return false;
     }
-    row_sends(s, l, i)
+    row_sends(table, rows, i)
 }
 
 // Whether rows i and j are of different components and share a tick.
-fn overlap(l: &[u32], i: usize, j: usize) -> bool
-    requires { ⌜ (i * 9 + 9 ≤ length (now l)) × (j * 9 + 9 ≤ length (now l)) ⌝ }
-    ensures { λ r. ⌜ r ≡ others (rowPassage (now (l .entry)) i) (rowPassage (now (l .entry)) j) && shareTick (rowPassage (now (l .entry)) i) (rowPassage (now (l .entry)) j) ⌝ }
+fn overlap(rows: &[u32], i: usize, j: usize) -> bool
+    requires { ⌜ (i * 9 + 9 ≤ length (now rows)) × (j * 9 + 9 ≤ length (now rows)) ⌝ }
+    ensures { λ r. ⌜ r ≡ others (rowPassage (now (rows .entry)) i) (rowPassage (now (rows .entry)) j) && shareTick (rowPassage (now (rows .entry)) i) (rowPassage (now (rows .entry)) j) ⌝ }
 {
-    let started = rows::number(l, i, rows::READY) <= rows::number(l, j, rows::END);
+    let started = rows::number(rows, i, rows::READY) <= rows::number(rows, j, rows::END);
     let shared = parts::both(
         started,
-        rows::number(l, j, rows::READY) <= rows::number(l, i, rows::END),
+        rows::number(rows, j, rows::READY) <= rows::number(rows, i, rows::END),
     );
     parts::both(
-        rows::number(l, i, rows::COMPONENT) != rows::number(l, j, rows::COMPONENT),
+        rows::number(rows, i, rows::COMPONENT) != rows::number(rows, j, rows::COMPONENT),
         shared,
     )
 }
 
 // The band of a channel: in version 1 always 0, else its byte after the header.
-fn band(s: &[u8], channel: u8) -> u8
-    requires { ⌜ Valid (now s) × (channel < readOf (now s) .table .channels) ⌝ }
-    ensures { λ r. ⌜ r ≡ bandOf (readOf (now (s .entry)) .table) channel ⌝ }
+fn band(table: &[u8], channel: u8) -> u8
+    requires { ⌜ Valid (now table) × (channel < readOf (now table) .table .channels) ⌝ }
+    ensures { λ r. ⌜ r ≡ bandOf (readOf (now (table .entry)) .table) channel ⌝ }
 {
-    if s[layout::TABLE_VERSION] < 2 {
+    if table[layout::TABLE_VERSION] < 2 {
         return 0;
     }
-    s[layout::TABLE_HEADER + channel as usize]
+    table[layout::TABLE_HEADER + channel as usize]
 }
 
 // Whether rows i and j are sends on one band.
-fn same_band(s: &[u8], l: &[u32], i: usize, j: usize) -> bool
-    requires { ⌜ RowKnown (now s) (now l) i × RowKnown (now s) (now l) j ⌝ }
-    ensures { λ r. ⌜ r ≡ disturb (readOf (now (s .entry)) .table) (rowPassage (now (l .entry)) i) (rowPassage (now (l .entry)) j) ⌝ }
+fn same_band(table: &[u8], rows: &[u32], i: usize, j: usize) -> bool
+    requires { ⌜ RowKnown (now table) (now rows) i × RowKnown (now table) (now rows) j ⌝ }
+    ensures { λ r. ⌜ r ≡ disturb (readOf (now (table .entry)) .table) (rowPassage (now (rows .entry)) i) (rowPassage (now (rows .entry)) j) ⌝ }
 {
-    let one = rows::row_sent(s, l, i);
+    let one = rows::row_sent(table, rows, i);
     if one == 255 {
         return false;
     }
-    let other = rows::row_sent(s, l, j);
+    let other = rows::row_sent(table, rows, j);
     if other == 255 {
         return false;
     }
-    band(s, one) == band(s, other)
+    band(table, one) == band(table, other)
 }
 
 // Whether row j is a send of another component, on the band of row i, a send, and shares a tick with it.
-pub fn is_met(s: &[u8], l: &[u32], i: usize, j: usize, h: u32) -> bool
-    requires { ⌜ RowKnown (now s) (now l) i × RowKnown (now s) (now l) j ⌝ }
-    ensures { λ r. ⌜ r ≡ meets (readOf (now (s .entry)) .table) h (rowPassage (now (l .entry)) i) (rowPassage (now (l .entry)) j) ⌝ }
+pub fn is_met(table: &[u8], rows: &[u32], i: usize, j: usize, horizon: u32) -> bool
+    requires { ⌜ RowKnown (now table) (now rows) i × RowKnown (now table) (now rows) j ⌝ }
+    ensures { λ r. ⌜ r ≡ meets (readOf (now (table .entry)) .table) horizon (rowPassage (now (rows .entry)) i) (rowPassage (now (rows .entry)) j) ⌝ }
 {
-    if !overlap(l, j, i) {
+    if !overlap(rows, j, i) {
         return false;
     }
-    if !is_send(s, l, j, h) {
+    if !is_send(table, rows, j, horizon) {
         return false;
     }
-    same_band(s, l, i, j)
+    same_band(table, rows, i, j)
 }
 
 // Whether the send window of row i shares a tick with one of another component on its band, where no row before it does so: then it meets none of them.
-fn collides_with_one(s: &[u8], l: &[u32], n: usize, i: usize, h: u32) -> bool
-    requires { ⌜ RowsPlaced (now s) (now l) n × (i < n) × ((k : ℕ) → k < i → collides (readOf (now s) .table) h (rowsOf (now l) n) (rowPassage (now l) k) ≡ false) ⌝ }
-    ensures { λ r. ⌜ r ≡ collides (readOf (now (s .entry)) .table) h (rowsOf (now (l .entry)) n) (rowPassage (now (l .entry)) i) ⌝ }
+fn collides_with_one(table: &[u8], rows: &[u32], count: usize, i: usize, horizon: u32) -> bool
+    requires { ⌜ RowsPlaced (now table) (now rows) count × (i < count) × ((k : ℕ) → k < i → collides (readOf (now table) .table) horizon (rowsOf (now rows) count) (rowPassage (now rows) k) ≡ false) ⌝ }
+    ensures { λ r. ⌜ r ≡ collides (readOf (now (table .entry)) .table) horizon (rowsOf (now (rows .entry)) count) (rowPassage (now (rows .entry)) i) ⌝ }
 {
-    if !is_send(s, l, i, h) {
+    if !is_send(table, rows, i, horizon) {
         return false;
     }
-    let until = rows::number(l, i, rows::END);
+    let until = rows::number(rows, i, rows::END);
     let mut j = i;
-    while j < n {
-        if until < rows::number(l, j, rows::ENTRY) {
+    while j < count {
+        if until < rows::number(rows, j, rows::ENTRY) {
             return false;
         }
-        if is_met(s, l, i, j, h) {
+        if is_met(table, rows, i, j, horizon) {
             return true;
         }
         j += 1;
@@ -146,69 +146,69 @@ fn collides_with_one(s: &[u8], l: &[u32], n: usize, i: usize, h: u32) -> bool
 }
 
 // Whether row j hears the send window of row i, which is on that channel (255: none).
-pub fn may_hear(s: &[u8], l: &[u32], j: usize, i: usize, channel: u8) -> bool
-    requires { ⌜ RowKnown (now s) (now l) j × RowKnown (now s) (now l) i × (messageOf channel ≡ channelOf (passageArc (readOf (now s) .table) (rowPassage (now l) i))) ⌝ }
-    ensures { λ r. ⌜ r ≡ mayHear (readOf (now (s .entry)) .table) (rowPassage (now (l .entry)) j) (rowPassage (now (l .entry)) i) ⌝ }
+pub fn may_hear(table: &[u8], rows: &[u32], j: usize, i: usize, channel: u8) -> bool
+    requires { ⌜ RowKnown (now table) (now rows) j × RowKnown (now table) (now rows) i × (messageOf channel ≡ channelOf (passageArc (readOf (now table) .table) (rowPassage (now rows) i))) ⌝ }
+    ensures { λ r. ⌜ r ≡ mayHear (readOf (now (table .entry)) .table) (rowPassage (now (rows .entry)) j) (rowPassage (now (rows .entry)) i) ⌝ }
 {
-    if !overlap(l, j, i) {
+    if !overlap(rows, j, i) {
         return false;
     }
-    if !rows::row_receives(s, l, j) {
+    if !rows::row_receives(table, rows, j) {
         return false;
     }
-    rows::row_lists(s, l, j, channel)
+    rows::row_lists(table, rows, j, channel)
 }
 
 // The mask with bit c set.
-fn with_bit(mask: u8, c: usize) -> u8
-    requires { ⌜ c < 8 ⌝ }
-    ensures { λ r. ⌜ r ≡ bitOr mask (2 ^ c) ⌝ }
+fn with_bit(mask: u8, component: usize) -> u8
+    requires { ⌜ component < 8 ⌝ }
+    ensures { λ r. ⌜ r ≡ bitOr mask (2 ^ component) ⌝ }
 {
-    mask | (1 << c)
+    mask | (1 << component)
 }
 
 // Whether row k starts earlier and ends later than row i.
-fn surrounds(l: &[u32], k: usize, i: usize) -> bool
-    requires { ⌜ (k * 9 + 9 ≤ length (now l)) × (i * 9 + 9 ≤ length (now l)) ⌝ }
-    ensures { λ r. ⌜ r ≡ startsEarlier (rowPassage (now (l .entry)) k) (rowPassage (now (l .entry)) i) && endsLater (rowPassage (now (l .entry)) k) (rowPassage (now (l .entry)) i) ⌝ }
+fn surrounds(rows: &[u32], receive: usize, send: usize) -> bool
+    requires { ⌜ (receive * 9 + 9 ≤ length (now rows)) × (send * 9 + 9 ≤ length (now rows)) ⌝ }
+    ensures { λ r. ⌜ r ≡ startsEarlier (rowPassage (now (rows .entry)) receive) (rowPassage (now (rows .entry)) send) && endsLater (rowPassage (now (rows .entry)) receive) (rowPassage (now (rows .entry)) send) ⌝ }
 {
-    let earlier = rows::number(l, k, rows::READY) < rows::number(l, i, rows::READY);
+    let earlier = rows::number(rows, receive, rows::READY) < rows::number(rows, send, rows::READY);
     parts::both(
         earlier,
-        rows::number(l, i, rows::END) < rows::number(l, k, rows::END),
+        rows::number(rows, send, rows::END) < rows::number(rows, receive, rows::END),
     )
 }
 
 // The components that listen by more than one window, with one more window of component c: setting a bit that is set changes nothing.
-fn with_repeated(listening: u8, repeated: u8, c: usize) -> u8
-    requires { ⌜ c < 8 ⌝ }
-    ensures { λ r. ⌜ r ≡ repeatedWith listening repeated c ⌝ }
+fn with_repeated(listening: u8, repeated: u8, component: usize) -> u8
+    requires { ⌜ component < 8 ⌝ }
+    ensures { λ r. ⌜ r ≡ repeatedWith listening repeated component ⌝ }
 {
-    if with_bit(listening, c) == listening {
-        return with_bit(repeated, c);
+    if with_bit(listening, component) == listening {
+        return with_bit(repeated, component);
     }
     repeated
 }
 
 // Who listens to the send window of row i by a window before row i. Rows that ended before it are passed over by their links.
-fn listeners_before(s: &[u8], l: &[u32], n: usize, i: usize, channel: u8) -> Listeners
-    requires { ⌜ RowsPlaced (now s) (now l) n × (i < n) × (messageOf channel ≡ channelOf (passageArc (readOf (now s) .table) (rowPassage (now l) i))) ⌝ }
-    ensures { λ r. ⌜ Noted (now (l .entry)) n (only (λ v. mayHear (readOf (now (s .entry)) .table) v (rowPassage (now (l .entry)) i)) (rowsOf (now (l .entry)) i)) (r .listening) (r .repeated) (r .row) ⌝ }
+fn listeners_before(table: &[u8], rows: &[u32], count: usize, i: usize, channel: u8) -> Listeners
+    requires { ⌜ RowsPlaced (now table) (now rows) count × (i < count) × (messageOf channel ≡ channelOf (passageArc (readOf (now table) .table) (rowPassage (now rows) i))) ⌝ }
+    ensures { λ r. ⌜ Noted (now (rows .entry)) count (only (λ v. mayHear (readOf (now (table .entry)) .table) v (rowPassage (now (rows .entry)) i)) (rowsOf (now (rows .entry)) i)) (r .listening) (r .repeated) (r .row) ⌝ }
 {
     let mut listening: u8 = 0;
     let mut repeated: u8 = 0;
     let mut row: [usize; 8] = [0; 8];
-    let ready = rows::number(l, i, rows::READY);
-    let mut j = rows::open_before(l, i, ready);
+    let ready = rows::number(rows, i, rows::READY);
+    let mut j = rows::open_before(rows, i, ready);
     while 0 < j {
         let k = j - 1;
-        if may_hear(s, l, k, i, channel) {
-            let c = rows::index(l, k, rows::COMPONENT);
-            repeated = with_repeated(listening, repeated, c);
-            listening = with_bit(listening, c);
-            row[c] = k;
+        if may_hear(table, rows, k, i, channel) {
+            let component = rows::index(rows, k, rows::COMPONENT);
+            repeated = with_repeated(listening, repeated, component);
+            listening = with_bit(listening, component);
+            row[component] = k;
         }
-        j = rows::open_before(l, k, ready);
+        j = rows::open_before(rows, k, ready);
     }
     Listeners {
         listening,
@@ -219,30 +219,30 @@ fn listeners_before(s: &[u8], l: &[u32], n: usize, i: usize, channel: u8) -> Lis
 
 // Who listens to the send window of row i, after those that do so by a window before row i.
 fn listeners_from(
-    s: &[u8],
-    l: &[u32],
-    n: usize,
+    table: &[u8],
+    rows: &[u32],
+    count: usize,
     i: usize,
     channel: u8,
     before: Listeners,
 ) -> Listeners
-    requires { ⌜ RowsPlaced (now s) (now l) n × (i < n) × (messageOf channel ≡ channelOf (passageArc (readOf (now s) .table) (rowPassage (now l) i))) × Noted (now l) n (only (λ v. mayHear (readOf (now s) .table) v (rowPassage (now l) i)) (rowsOf (now l) i)) (before .listening) (before .repeated) (before .row) ⌝ }
-    ensures { λ r. ⌜ Noted (now (l .entry)) n (only (λ v. mayHear (readOf (now (s .entry)) .table) v (rowPassage (now (l .entry)) i)) (rowsOf (now (l .entry)) n)) (r .listening) (r .repeated) (r .row) ⌝ }
+    requires { ⌜ RowsPlaced (now table) (now rows) count × (i < count) × (messageOf channel ≡ channelOf (passageArc (readOf (now table) .table) (rowPassage (now rows) i))) × Noted (now rows) count (only (λ v. mayHear (readOf (now table) .table) v (rowPassage (now rows) i)) (rowsOf (now rows) i)) (before .listening) (before .repeated) (before .row) ⌝ }
+    ensures { λ r. ⌜ Noted (now (rows .entry)) count (only (λ v. mayHear (readOf (now (table .entry)) .table) v (rowPassage (now (rows .entry)) i)) (rowsOf (now (rows .entry)) count)) (r .listening) (r .repeated) (r .row) ⌝ }
 {
-    let until = rows::number(l, i, rows::END);
+    let until = rows::number(rows, i, rows::END);
     let mut listening = before.listening;
     let mut repeated = before.repeated;
     let mut row = before.row;
     let mut j = i;
-    while j < n {
-        if until < rows::number(l, j, rows::ENTRY) {
+    while j < count {
+        if until < rows::number(rows, j, rows::ENTRY) {
             break;
         }
-        if may_hear(s, l, j, i, channel) {
-            let c = rows::index(l, j, rows::COMPONENT);
-            repeated = with_repeated(listening, repeated, c);
-            listening = with_bit(listening, c);
-            row[c] = j;
+        if may_hear(table, rows, j, i, channel) {
+            let component = rows::index(rows, j, rows::COMPONENT);
+            repeated = with_repeated(listening, repeated, component);
+            listening = with_bit(listening, component);
+            row[component] = j;
         }
         j += 1;
     }
@@ -286,56 +286,56 @@ fn listener(table: &[u8], rows: &[u32], count: usize, send: usize) -> usize
 }
 
 // Whether row j is a send that row i, a receive, may hear.
-fn hears_send(s: &[u8], l: &[u32], i: usize, j: usize, h: u32) -> bool
-    requires { ⌜ RowKnown (now s) (now l) i × RowKnown (now s) (now l) j × (isReceive (readOf (now s) .table) (rowPassage (now l) i) ≡ true) ⌝ }
-    ensures { λ r. ⌜ r ≡ isSend (readOf (now (s .entry)) .table) h (rowPassage (now (l .entry)) j) && mayHear (readOf (now (s .entry)) .table) (rowPassage (now (l .entry)) i) (rowPassage (now (l .entry)) j) ⌝ }
+fn hears_send(table: &[u8], rows: &[u32], i: usize, j: usize, horizon: u32) -> bool
+    requires { ⌜ RowKnown (now table) (now rows) i × RowKnown (now table) (now rows) j × (isReceive (readOf (now table) .table) (rowPassage (now rows) i) ≡ true) ⌝ }
+    ensures { λ r. ⌜ r ≡ isSend (readOf (now (table .entry)) .table) horizon (rowPassage (now (rows .entry)) j) && mayHear (readOf (now (table .entry)) .table) (rowPassage (now (rows .entry)) i) (rowPassage (now (rows .entry)) j) ⌝ }
 {
-    if !overlap(l, i, j) {
+    if !overlap(rows, i, j) {
         return false;
     }
-    if !is_send(s, l, j, h) {
+    if !is_send(table, rows, j, horizon) {
         return false;
     }
-    rows::row_lists(s, l, i, rows::row_sent(s, l, j))
+    rows::row_lists(table, rows, i, rows::row_sent(table, rows, j))
 }
 
 // How many rows before row i, a receive, are sends that it may hear.
-fn sends_before(s: &[u8], l: &[u32], n: usize, i: usize, h: u32) -> usize
-    requires { ⌜ RowsPlaced (now s) (now l) n × (i < n) × (isReceive (readOf (now s) .table) (rowPassage (now l) i) ≡ true) ⌝ }
-    ensures { λ r. ⌜ r ≡ length (only (λ o. isSend (readOf (now (s .entry)) .table) h o && mayHear (readOf (now (s .entry)) .table) (rowPassage (now (l .entry)) i) o) (rowsOf (now (l .entry)) i)) ⌝ }
+fn sends_before(table: &[u8], rows: &[u32], count: usize, i: usize, horizon: u32) -> usize
+    requires { ⌜ RowsPlaced (now table) (now rows) count × (i < count) × (isReceive (readOf (now table) .table) (rowPassage (now rows) i) ≡ true) ⌝ }
+    ensures { λ r. ⌜ r ≡ length (only (λ o. isSend (readOf (now (table .entry)) .table) horizon o && mayHear (readOf (now (table .entry)) .table) (rowPassage (now (rows .entry)) i) o) (rowsOf (now (rows .entry)) i)) ⌝ }
 {
-    let ready = rows::number(l, i, rows::READY);
+    let ready = rows::number(rows, i, rows::READY);
     let mut sends: usize = 0;
-    let mut j = rows::open_before(l, i, ready);
+    let mut j = rows::open_before(rows, i, ready);
     while 0 < j {
         let k = j - 1;
-        if hears_send(s, l, i, k, h) {
+        if hears_send(table, rows, i, k, horizon) {
             sends += 1;
         }
-        j = rows::open_before(l, k, ready);
+        j = rows::open_before(rows, k, ready);
     }
     sends
 }
 
 // Whether the receive window of row i shares a tick with two send windows of other components on its channels.
-pub fn is_crowded(s: &[u8], l: &[u32], n: usize, i: usize, h: u32) -> bool
-    requires { ⌜ RowsPlaced (now s) (now l) n × (i < n) ⌝ }
-    ensures { λ r. ⌜ r ≡ crowded (readOf (now (s .entry)) .table) h (rowsOf (now (l .entry)) n) (rowPassage (now (l .entry)) i) ⌝ }
+pub fn is_crowded(table: &[u8], rows: &[u32], count: usize, i: usize, horizon: u32) -> bool
+    requires { ⌜ RowsPlaced (now table) (now rows) count × (i < count) ⌝ }
+    ensures { λ r. ⌜ r ≡ crowded (readOf (now (table .entry)) .table) horizon (rowsOf (now (rows .entry)) count) (rowPassage (now (rows .entry)) i) ⌝ }
 {
-    if !rows::row_receives(s, l, i) {
+    if !rows::row_receives(table, rows, i) {
         return false;
     }
-    let until = rows::number(l, i, rows::END);
-    let mut sends = sends_before(s, l, n, i, h);
+    let until = rows::number(rows, i, rows::END);
+    let mut sends = sends_before(table, rows, count, i, horizon);
     if 2 <= sends {
         return true;
     }
     let mut j = i;
-    while j < n {
-        if until < rows::number(l, j, rows::ENTRY) {
+    while j < count {
+        if until < rows::number(rows, j, rows::ENTRY) {
             return false;
         }
-        if hears_send(s, l, i, j, h) {
+        if hears_send(table, rows, i, j, horizon) {
             sends += 1;
             if 2 <= sends {
                 return true;
@@ -347,13 +347,13 @@ pub fn is_crowded(s: &[u8], l: &[u32], n: usize, i: usize, h: u32) -> bool
 }
 
 // 10: the first send that collides with another.
-pub fn first_collision(s: &[u8], l: &[u32], n: usize, h: u32) -> Fault
-    requires { ⌜ RowsPlaced (now s) (now l) n ⌝ }
-    ensures { λ r. ⌜ (faultView (now (l .entry)) r ≡ first (collides (readOf (now (s .entry)) .table) h (rowsOf (now (l .entry)) n)) (rowsOf (now (l .entry)) n)) × FaultBelow n r ⌝ }
+pub fn first_collision(table: &[u8], rows: &[u32], count: usize, horizon: u32) -> Fault
+    requires { ⌜ RowsPlaced (now table) (now rows) count ⌝ }
+    ensures { λ r. ⌜ (faultView (now (rows .entry)) r ≡ first (collides (readOf (now (table .entry)) .table) horizon (rowsOf (now (rows .entry)) count)) (rowsOf (now (rows .entry)) count)) × FaultBelow count r ⌝ }
 {
     let mut i: usize = 0;
-    while i < n {
-        if collides_with_one(s, l, n, i, h) {
+    while i < count {
+        if collides_with_one(table, rows, count, i, horizon) {
             return Fault::At(i);
         }
         i += 1;
@@ -387,11 +387,11 @@ fn hear_sends(table: &[u8], rows: &[u32], count: usize, horizon: u32) -> SendsHe
 }
 
 // 11: the first send that is not heard well.
-pub fn first_unheard(s: &[u8], l: &[u32], n: usize, h: u32) -> Fault
-    requires { ⌜ RowsPlaced (now s) (now l) n ⌝ }
-    ensures { λ r. ⌜ (faultView (now (l .entry)) r ≡ first (unheard (readOf (now (s .entry)) .table) h (rowsOf (now (l .entry)) n)) (rowsOf (now (l .entry)) n)) × FaultBelow n r ⌝ }
+pub fn first_unheard(table: &[u8], rows: &[u32], count: usize, horizon: u32) -> Fault
+    requires { ⌜ RowsPlaced (now table) (now rows) count ⌝ }
+    ensures { λ r. ⌜ (faultView (now (rows .entry)) r ≡ first (unheard (readOf (now (table .entry)) .table) horizon (rowsOf (now (rows .entry)) count)) (rowsOf (now (rows .entry)) count)) × FaultBelow count r ⌝ }
 {
-    let heard = hear_sends(s, l, n, h);
+    let heard = hear_sends(table, rows, count, horizon);
     match heard {
         SendsHeard::Apart => Fault::Nothing,
         SendsHeard::Shared => Fault::Nothing,
@@ -400,13 +400,13 @@ pub fn first_unheard(s: &[u8], l: &[u32], n: usize, h: u32) -> Fault
 }
 
 // 12: the first receive that hears two sends.
-pub fn first_crowded(s: &[u8], l: &[u32], n: usize, h: u32) -> Fault
-    requires { ⌜ RowsPlaced (now s) (now l) n ⌝ }
-    ensures { λ r. ⌜ (faultView (now (l .entry)) r ≡ first (crowded (readOf (now (s .entry)) .table) h (rowsOf (now (l .entry)) n)) (rowsOf (now (l .entry)) n)) × FaultBelow n r ⌝ }
+pub fn first_crowded(table: &[u8], rows: &[u32], count: usize, horizon: u32) -> Fault
+    requires { ⌜ RowsPlaced (now table) (now rows) count ⌝ }
+    ensures { λ r. ⌜ (faultView (now (rows .entry)) r ≡ first (crowded (readOf (now (table .entry)) .table) horizon (rowsOf (now (rows .entry)) count)) (rowsOf (now (rows .entry)) count)) × FaultBelow count r ⌝ }
 {
     let mut i: usize = 0;
-    while i < n {
-        if is_crowded(s, l, n, i, h) {
+    while i < count {
+        if is_crowded(table, rows, count, i, horizon) {
             return Fault::At(i);
         }
         i += 1;
@@ -415,46 +415,46 @@ pub fn first_crowded(s: &[u8], l: &[u32], n: usize, h: u32) -> Fault
 }
 
 // The refusal with that number, of the component of row i.
-pub fn refused(l: &[u32], number: u8, i: usize) -> Verdict
-    requires { ⌜ RowStands (now l) i ⌝ }
-    ensures { λ r. ⌜ r ≡ Refused number (num (now (l .entry)) i 0) ⌝ }
+pub fn refused(rows: &[u32], number: u8, i: usize) -> Verdict
+    requires { ⌜ RowStands (now rows) i ⌝ }
+    ensures { λ r. ⌜ r ≡ Refused number (num (now (rows .entry)) i 0) ⌝ }
 {
-    Verdict::Refused(number, rows::number(l, i, rows::COMPONENT) as u8)
+    Verdict::Refused(number, rows::number(rows, i, rows::COMPONENT) as u8)
 }
 
 // Check 12.
-fn check_crowded(s: &[u8], l: &[u32], n: usize, h: u32) -> Verdict
-    requires { ⌜ RowsPlaced (now s) (now l) n ⌝ }
-    ensures { λ r. ⌜ r ≡ verdictOf (from12 (readOf (now (s .entry)) .table) h (rowsOf (now (l .entry)) n)) ⌝ }
+fn check_crowded(table: &[u8], rows: &[u32], count: usize, horizon: u32) -> Verdict
+    requires { ⌜ RowsPlaced (now table) (now rows) count ⌝ }
+    ensures { λ r. ⌜ r ≡ verdictOf (from12 (readOf (now (table .entry)) .table) horizon (rowsOf (now (rows .entry)) count)) ⌝ }
 {
-    let fault = first_crowded(s, l, n, h);
+    let fault = first_crowded(table, rows, count, horizon);
     match fault {
         Fault::Nothing => Verdict::Accepted,
-        Fault::At(i) => refused(l, 12, i),
+        Fault::At(i) => refused(rows, 12, i),
     }
 }
 
 // Checks 11 and 12. Where each send has a listener of its own, no receive hears two.
-fn check_heard(s: &[u8], l: &[u32], n: usize, h: u32) -> Verdict
-    requires { ⌜ RowsPlaced (now s) (now l) n ⌝ }
-    ensures { λ r. ⌜ r ≡ verdictOf (from11 (readOf (now (s .entry)) .table) h (rowsOf (now (l .entry)) n)) ⌝ }
+fn check_heard(table: &[u8], rows: &[u32], count: usize, horizon: u32) -> Verdict
+    requires { ⌜ RowsPlaced (now table) (now rows) count ⌝ }
+    ensures { λ r. ⌜ r ≡ verdictOf (from11 (readOf (now (table .entry)) .table) horizon (rowsOf (now (rows .entry)) count)) ⌝ }
 {
-    let heard = hear_sends(s, l, n, h);
+    let heard = hear_sends(table, rows, count, horizon);
     match heard {
         SendsHeard::Apart => Verdict::Accepted,
-        SendsHeard::Shared => check_crowded(s, l, n, h),
-        SendsHeard::Unheard(i) => refused(l, unheard::number(s, l, n, i), i),
+        SendsHeard::Shared => check_crowded(table, rows, count, horizon),
+        SendsHeard::Unheard(i) => refused(rows, unheard::number(table, rows, count, i), i),
     }
 }
 
 // Checks 10, 11, 12, each over the whole schedule before the next.
-pub fn check_messages(s: &[u8], l: &[u32], n: usize, h: u32) -> Verdict
-    requires { ⌜ RowsPlaced (now s) (now l) n ⌝ }
-    ensures { λ r. ⌜ r ≡ verdictOf (checked (readOf (now (s .entry)) .table) h (rowsOf (now (l .entry)) n)) ⌝ }
+pub fn check_messages(table: &[u8], rows: &[u32], count: usize, horizon: u32) -> Verdict
+    requires { ⌜ RowsPlaced (now table) (now rows) count ⌝ }
+    ensures { λ r. ⌜ r ≡ verdictOf (checked (readOf (now (table .entry)) .table) horizon (rowsOf (now (rows .entry)) count)) ⌝ }
 {
-    let fault = first_collision(s, l, n, h);
+    let fault = first_collision(table, rows, count, horizon);
     match fault {
-        Fault::Nothing => check_heard(s, l, n, h),
-        Fault::At(i) => refused(l, 10, i),
+        Fault::Nothing => check_heard(table, rows, count, horizon),
+        Fault::At(i) => refused(rows, 10, i),
     }
 }

@@ -35,42 +35,42 @@ number-requires : tie.Need-number-requires
 number-requires c κs =
     let e = c .before .before .before .before .before .before in
     let a = e .args in
-    let told = subst (HeardAs (readOf (a .s .now) .table) (a .h) (a .l .now) (a .n)) (c .before .heard .given .1) (c .before .before .before .hear-sends .ensures) in
+    let told = subst (HeardAs (readOf (a .table .now) .table) (a .horizon) (a .rows .now) (a .count)) (c .before .heard .given .1) (c .before .before .before .hear-sends .ensures) in
     (e .pre, told .1)
 
 refused-requires : tie.Need-refused-requires
 refused-requires c κs =
     let e = c .before .before .before .before .before .before .before in
     let a = e .args in
-    let told = subst (HeardAs (readOf (a .s .now) .table) (a .h) (a .l .now) (a .n)) (c .before .before .heard .given .1) (c .before .before .before .before .hear-sends .ensures) in
-    row-stands (a .s .now) (a .l .now) (a .n) _ (c .before .before .before .before .before .before .shared-slice-known .given) (e .pre) (omega (arith, told .1))
+    let told = subst (HeardAs (readOf (a .table .now) .table) (a .horizon) (a .rows .now) (a .count)) (c .before .before .heard .given .1) (c .before .before .before .before .hear-sends .ensures) in
+    row-stands (a .table .now) (a .rows .now) (a .count) _ (c .before .before .before .before .before .before .shared-slice-known .given) (e .pre) (omega (arith, told .1))
 
 returns : tie.Need-returns
 returns c =
     let a = c .before .before .before .before .before .args in
-    let T = readOf (a .s .now) .table in
-    let S = rowsOf (a .l .now) (a .n) in
-    let told = subst (HeardAs T (a .h) (a .l .now) (a .n)) (c .enum-told .given .1) (c .before .before .hear-sends .ensures) in
-    passed (unheard T (a .h) S) S (a .l .now) Nothing (told .0) (unheardNumber T S) (from12 T (a .h) S) _ refl
-    (passed (crowded T (a .h) S) S (a .l .now) Nothing (told .1) (λ v. 12) (accepted S) _ refl refl)
+    let T = readOf (a .table .now) .table in
+    let S = rowsOf (a .rows .now) (a .count) in
+    let told = subst (HeardAs T (a .horizon) (a .rows .now) (a .count)) (c .enum-told .given .1) (c .before .before .hear-sends .ensures) in
+    passed (unheard T (a .horizon) S) S (a .rows .now) Nothing (told .0) (unheardNumber T S) (from12 T (a .horizon) S) _ refl
+    (passed (crowded T (a .horizon) S) S (a .rows .now) Nothing (told .1) (λ v. 12) (accepted S) _ refl refl)
 
 returns-2 : tie.Need-returns-2
 returns-2 c =
     let a = c .before .before .before .before .before .before .args in
-    let T = readOf (a .s .now) .table in
-    let S = rowsOf (a .l .now) (a .n) in
-    let told = subst (HeardAs T (a .h) (a .l .now) (a .n)) (c .before .enum-told2 .given .1) (c .before .before .before .hear-sends .ensures) in
-    passed (unheard T (a .h) S) S (a .l .now) Nothing told (unheardNumber T S) (from12 T (a .h) S) (c .check-crowded .result) refl (c .check-crowded .ensures)
+    let T = readOf (a .table .now) .table in
+    let S = rowsOf (a .rows .now) (a .count) in
+    let told = subst (HeardAs T (a .horizon) (a .rows .now) (a .count)) (c .before .enum-told2 .given .1) (c .before .before .before .hear-sends .ensures) in
+    passed (unheard T (a .horizon) S) S (a .rows .now) Nothing told (unheardNumber T S) (from12 T (a .horizon) S) (c .check-crowded .result) refl (c .check-crowded .ensures)
 
 returns-3 : tie.Need-returns-3
 returns-3 c =
     let a = c .before .before .before .before .before .before .before .before .args in
-    let T = readOf (a .s .now) .table in
-    let S = rowsOf (a .l .now) (a .n) in
+    let T = readOf (a .table .now) .table in
+    let S = rowsOf (a .rows .now) (a .count) in
     let i = c .before .before .before .heard .given .0 .0 in
-    let told = subst (HeardAs T (a .h) (a .l .now) (a .n)) (c .before .before .before .heard .given .1) (c .before .before .before .before .before .hear-sends .ensures) in
-    failed (unheard T (a .h) S) S (a .l .now) (At i) (told .0) (unheardNumber T S) (from12 T (a .h) S) (c .refused .result) i refl
-    (c .refused .ensures ∙ ap (λ (k : ℕ). Refused k (num (a .l .now) i 0)) (c .before .number .ensures))
+    let told = subst (HeardAs T (a .horizon) (a .rows .now) (a .count)) (c .before .before .before .heard .given .1) (c .before .before .before .before .before .hear-sends .ensures) in
+    failed (unheard T (a .horizon) S) S (a .rows .now) (At i) (told .0) (unheardNumber T S) (from12 T (a .horizon) S) (c .refused .result) i refl
+    (c .refused .ensures ∙ ap (λ (k : ℕ). Refused k (num (a .rows .now) i 0)) (c .before .number .ensures))
 
 pub check-heard-spec : {M : Type 1} → statement M
 check-heard-spec =

@@ -28,24 +28,24 @@ refused-requires : tie.Need-refused-requires
 refused-requires c κs =
     let e = c .before .before .before .before .before .before in
     let a = e .args in
-    let b : c .before .fault .given .0 .0 < a .n = subst (FaultBelow (a .n)) (c .before .fault .given .1) (c .before .before .before .first-collision .ensures .1) in
-    row-stands (a .s .now) (a .l .now) (a .n) _ (c .before .before .before .before .before .shared-slice-known .given) (e .pre) (omega (arith, b))
+    let b : c .before .fault .given .0 .0 < a .count = subst (FaultBelow (a .count)) (c .before .fault .given .1) (c .before .before .before .first-collision .ensures .1) in
+    row-stands (a .table .now) (a .rows .now) (a .count) _ (c .before .before .before .before .before .shared-slice-known .given) (e .pre) (omega (arith, b))
 
 returns : tie.Need-returns
 unfolding checked
 returns c =
     let a = c .before .before .before .before .before .before .args in
-    let T = readOf (a .s .now) .table in
-    let S = rowsOf (a .l .now) (a .n) in
-    passed (collides T (a .h) S) S (a .l .now) (c .before .before .before .first-collision .result) (c .before .before .before .first-collision .ensures .0) (λ v. 10) (from11 T (a .h) S) (c .check-heard .result) (c .before .enum-told .given .1) (c .check-heard .ensures)
+    let T = readOf (a .table .now) .table in
+    let S = rowsOf (a .rows .now) (a .count) in
+    passed (collides T (a .horizon) S) S (a .rows .now) (c .before .before .before .first-collision .result) (c .before .before .before .first-collision .ensures .0) (λ v. 10) (from11 T (a .horizon) S) (c .check-heard .result) (c .before .enum-told .given .1) (c .check-heard .ensures)
 
 returns-2 : tie.Need-returns-2
 unfolding checked
 returns-2 c =
     let a = c .before .before .before .before .before .before .before .args in
-    let T = readOf (a .s .now) .table in
-    let S = rowsOf (a .l .now) (a .n) in
-    failed (collides T (a .h) S) S (a .l .now) (c .before .before .before .before .first-collision .result) (c .before .before .before .before .first-collision .ensures .0) (λ v. 10) (from11 T (a .h) S) (c .refused .result) (c .before .before .fault .given .0 .0) (c .before .before .fault .given .1) (c .refused .ensures)
+    let T = readOf (a .table .now) .table in
+    let S = rowsOf (a .rows .now) (a .count) in
+    failed (collides T (a .horizon) S) S (a .rows .now) (c .before .before .before .before .first-collision .result) (c .before .before .before .before .first-collision .ensures .0) (λ v. 10) (from11 T (a .horizon) S) (c .refused .result) (c .before .before .fault .given .0 .0) (c .before .before .fault .given .1) (c .refused .ensures)
 
 pub check-messages-spec : {M : Type 1} → statement M
 check-messages-spec =

@@ -25,12 +25,12 @@ is-send-requires : tie.Need-is-send-requires Inv-loop μ-loop
 is-send-requires c κs =
     let e = (c .before .before) in
     let a = e .args in
-    row-known (a .s .now) (a .l .now) (a .n) (a .i) (e .pre .0) (e .pre .1)
+    row-known (a .table .now) (a .rows .now) (a .count) (a .i) (e .pre .0) (e .pre .1)
 
 returns : tie.Need-returns Inv-loop μ-loop
 returns c =
     let a = c .before .before .before .before .args in
-    not-asked (readOf (a .s .now) .table) (a .h) (rowPassage (a .l .now) (a .i)) (c .before .is-send .result) _ (c .before .is-send .ensures) (c .if1 .taken)
+    not-asked (readOf (a .table .now) .table) (a .horizon) (rowPassage (a .rows .now) (a .i)) (c .before .is-send .result) _ (c .before .is-send .ensures) (c .if1 .taken)
 
 number-requires : tie.Need-number-requires Inv-loop μ-loop
 number-requires c κs = omega (arith, c .before .before .before .before .pre .0 .fits, c .before .before .before .before .pre .1)
@@ -39,10 +39,10 @@ loop-holds : tie.Need-loop-holds Inv-loop μ-loop
 loop-holds c =
     let e = (c .before .before .before .before .before) in
     let a = e .args in
-    let T = readOf (a .s .now) .table in
-    let p = meets T (a .h) (rowPassage (a .l .now) (a .i)) in
-    let none = none-earlier T (a .h) (a .l .now) (a .n) (a .i) (e .pre .1) (sym (c .before .before .is-send .ensures) ∙ not-false (c .before .before .is-send .result) (c .before .if1 .left)) (e .pre .2) in
-    (omega (arith, e .pre .1), swept-at p (a .s .now) (a .l .now) (a .n) (a .i) (e .pre .0) (e .pre .1) (meets-near T (a .h) (a .l .now) (a .i)) [] none)
+    let T = readOf (a .table .now) .table in
+    let p = meets T (a .horizon) (rowPassage (a .rows .now) (a .i)) in
+    let none = none-earlier T (a .horizon) (a .rows .now) (a .count) (a .i) (e .pre .1) (sym (c .before .before .is-send .ensures) ∙ not-false (c .before .before .is-send .result) (c .before .if1 .left)) (e .pre .2) in
+    (omega (arith, e .pre .1), swept-at p (a .table .now) (a .rows .now) (a .count) (a .i) (e .pre .0) (e .pre .1) (meets-near T (a .horizon) (a .rows .now) (a .i)) [] none)
 
 number-requires-2 : tie.Need-number-requires-2 Inv-loop μ-loop
 number-requires-2 c κs = omega (arith, c .before .before .before .before .before .before .before .pre .0 .fits, c .before .before .before .before .before .before .before .pre .1)
@@ -52,25 +52,25 @@ returns-2 c =
     let e = (c .before .before .before .before .before .before .before .before .before) in
     let a = e .args in
     let l = c .before .before .before .loop in
-    let T = readOf (a .s .now) .table in
-    let v = rowPassage (a .l .now) (a .i) in
-    collides-none T (a .h) (rowsOf (a .l .now) (a .n)) v (c .before .before .before .before .before .before .is-send .result) (c .before .before .before .before .before .before .is-send .ensures) (c .before .before .before .before .before .if1 .left)
-    (swept-stop (meets T (a .h) v) (a .s .now) (a .l .now) (a .n) (a .i) (e .pre .0) (e .pre .1) (meets-near T (a .h) (a .l .now) (a .i)) (l .j) [] (c .before .before .loop-test .taken) (omega (arith, c .before .before .before .before .number .ensures, c .before .number2 .ensures)) (l .inv .1))
+    let T = readOf (a .table .now) .table in
+    let v = rowPassage (a .rows .now) (a .i) in
+    collides-none T (a .horizon) (rowsOf (a .rows .now) (a .count)) v (c .before .before .before .before .before .before .is-send .result) (c .before .before .before .before .before .before .is-send .ensures) (c .before .before .before .before .before .if1 .left)
+    (swept-stop (meets T (a .horizon) v) (a .table .now) (a .rows .now) (a .count) (a .i) (e .pre .0) (e .pre .1) (meets-near T (a .horizon) (a .rows .now) (a .i)) (l .j) [] (c .before .before .loop-test .taken) (omega (arith, c .before .before .before .before .number .ensures, c .before .number2 .ensures)) (l .inv .1))
 
 is-met-requires : tie.Need-is-met-requires Inv-loop μ-loop
 is-met-requires c κs =
     let e = (c .before .before .before .before .before .before .before .before .before) in
     let a = e .args in
-    (row-known (a .s .now) (a .l .now) (a .n) (a .i) (e .pre .0) (e .pre .1), row-known (a .s .now) (a .l .now) (a .n) (c .before .before .before .loop .j) (e .pre .0) (c .before .before .loop-test .taken))
+    (row-known (a .table .now) (a .rows .now) (a .count) (a .i) (e .pre .0) (e .pre .1), row-known (a .table .now) (a .rows .now) (a .count) (c .before .before .before .loop .j) (e .pre .0) (c .before .before .loop-test .taken))
 
 returns-3 : tie.Need-returns-3 Inv-loop μ-loop
 returns-3 c =
     let a = c .before .before .before .before .before .before .before .before .before .before .before .args in
     let l = c .before .before .before .before .before .loop in
-    let T = readOf (a .s .now) .table in
-    let v = rowPassage (a .l .now) (a .i) in
-    collides-one T (a .h) (rowsOf (a .l .now) (a .n)) v (c .before .before .before .before .before .before .before .before .is-send .result) (c .before .before .before .before .before .before .before .before .is-send .ensures) (c .before .before .before .before .before .before .before .if1 .left) (rowPassage (a .l .now) (l .j)) (only (meets T (a .h) v) (rest (a .l .now) (a .n) (l .j + 1)))
-    (swept-in (meets T (a .h) v) (a .l .now) (a .n) (l .j) [] (c .before .is-met .result) (c .before .before .before .before .loop-test .taken) (c .before .is-met .ensures) (c .if3 .taken) (l .inv .1))
+    let T = readOf (a .table .now) .table in
+    let v = rowPassage (a .rows .now) (a .i) in
+    collides-one T (a .horizon) (rowsOf (a .rows .now) (a .count)) v (c .before .before .before .before .before .before .before .before .is-send .result) (c .before .before .before .before .before .before .before .before .is-send .ensures) (c .before .before .before .before .before .before .before .if1 .left) (rowPassage (a .rows .now) (l .j)) (only (meets T (a .horizon) v) (rest (a .rows .now) (a .count) (l .j + 1)))
+    (swept-in (meets T (a .horizon) v) (a .rows .now) (a .count) (l .j) [] (c .before .is-met .result) (c .before .before .before .before .loop-test .taken) (c .before .is-met .ensures) (c .if3 .taken) (l .inv .1))
 
 add-j : tie.Need-add-j Inv-loop μ-loop
 add-j c = omega (arith, c .before .before .before .before .before .before .before .before .before .before .before .pre .0 .few, c .before .before .before .before .before .before .before .before .before .before .before .pre .1)
@@ -82,15 +82,15 @@ loop-again : tie.Need-loop-again Inv-loop μ-loop
 loop-again c =
     let a = c .before .before .before .before .before .before .before .before .before .before .before .args in
     let l = c .before .before .before .before .before .loop in
-    (omega (arith, c .before .before .before .before .before .before .before .before .before .before .before .pre .1), swept-out (meets (readOf (a .s .now) .table) (a .h) (rowPassage (a .l .now) (a .i))) (a .l .now) (a .n) (l .j) [] (c .before .is-met .result) (c .before .before .before .before .loop-test .taken) (c .before .is-met .ensures) (c .if3 .left) (l .inv .1))
+    (omega (arith, c .before .before .before .before .before .before .before .before .before .before .before .pre .1), swept-out (meets (readOf (a .table .now) .table) (a .horizon) (rowPassage (a .rows .now) (a .i))) (a .rows .now) (a .count) (l .j) [] (c .before .is-met .result) (c .before .before .before .before .loop-test .taken) (c .before .is-met .ensures) (c .if3 .left) (l .inv .1))
 
 returns-4 : tie.Need-returns-4 Inv-loop μ-loop
 returns-4 c =
     let a = c .before .before .before .before .before .before .before .args in
     let l = c .before .loop in
-    let T = readOf (a .s .now) .table in
-    let v = rowPassage (a .l .now) (a .i) in
-    collides-none T (a .h) (rowsOf (a .l .now) (a .n)) v (c .before .before .before .before .is-send .result) (c .before .before .before .before .is-send .ensures) (c .before .before .before .if1 .left) (swept-done (meets T (a .h) v) (a .l .now) (a .n) (l .j) [] (omega arith) (l .inv .1))
+    let T = readOf (a .table .now) .table in
+    let v = rowPassage (a .rows .now) (a .i) in
+    collides-none T (a .horizon) (rowsOf (a .rows .now) (a .count)) v (c .before .before .before .before .is-send .result) (c .before .before .before .before .is-send .ensures) (c .before .before .before .if1 .left) (swept-done (meets T (a .horizon) v) (a .rows .now) (a .count) (l .j) [] (omega arith) (l .inv .1))
 
 pub collides-with-one-spec : {M : Type 1} → statement M
 collides-with-one-spec =

@@ -12,7 +12,7 @@ overlap-requires c κs = search needs
 returns : tie.Need-returns
 returns c =
     let a = c .before .before .before .before .args in
-    no-send-beside (readOf (a .s .now) .table) (a .h) (rowPassage (a .l .now) (a .i)) (rowPassage (a .l .now) (a .j)) (c .before .overlap .result) (c .before .overlap .ensures) (c .if1 .taken)
+    no-send-beside (readOf (a .table .now) .table) (a .horizon) (rowPassage (a .rows .now) (a .i)) (rowPassage (a .rows .now) (a .j)) (c .before .overlap .result) (c .before .overlap .ensures) (c .if1 .taken)
 
 is-send-requires : tie.Need-is-send-requires
 is-send-requires c κs = search needs
@@ -20,7 +20,7 @@ is-send-requires c κs = search needs
 returns-2 : tie.Need-returns-2
 returns-2 c =
     let a = c .before .before .before .before .before .before .args in
-    not-asked (readOf (a .s .now) .table) (a .h) (rowPassage (a .l .now) (a .j)) (c .before .is-send .result) _ (c .before .is-send .ensures) (c .if2 .taken)
+    not-asked (readOf (a .table .now) .table) (a .horizon) (rowPassage (a .rows .now) (a .j)) (c .before .is-send .result) _ (c .before .is-send .ensures) (c .if2 .taken)
 
 row-sent-requires : tie.Need-row-sent-requires
 row-sent-requires c κs = search needs
@@ -32,7 +32,7 @@ returns-3 : tie.Need-returns-3
 returns-3 c =
     let e = c .before .before .before .before .before .before .before .before in
     let a = e .args in
-    hear-send (readOf (a .s .now) .table) (a .h) (rowPassage (a .l .now) (a .i)) (rowPassage (a .l .now) (a .j)) (c .before .before .before .before .before .overlap .result) (c .before .before .before .is-send .result) (c .row-lists .result) (messageOf (c .before .row-sent .result)) (c .before .before .before .before .before .overlap .ensures) (c .before .before .before .before .if1 .left) (c .before .before .before .is-send .ensures) (c .before .before .if2 .left) (e .pre .2) (c .before .row-sent .ensures) (c .row-lists .ensures)
+    hear-send (readOf (a .table .now) .table) (a .horizon) (rowPassage (a .rows .now) (a .i)) (rowPassage (a .rows .now) (a .j)) (c .before .before .before .before .before .overlap .result) (c .before .before .before .is-send .result) (c .row-lists .result) (messageOf (c .before .row-sent .result)) (c .before .before .before .before .before .overlap .ensures) (c .before .before .before .before .if1 .left) (c .before .before .before .is-send .ensures) (c .before .before .if2 .left) (e .pre .2) (c .before .row-sent .ensures) (c .row-lists .ensures)
 
 pub hears-send-spec : {M : Type 1} → statement M
 hears-send-spec =

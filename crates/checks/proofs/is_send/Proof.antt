@@ -13,7 +13,7 @@ number-requires c κs = search needs
 returns : tie.Need-returns
 returns c =
     let a = c .before .before .before .before .args in
-    ready-late (readOf (a .s .now) .table) (a .h) (rowPassage (a .l .now) (a .i)) (omega (arith, c .before .number .ensures))
+    ready-late (readOf (a .table .now) .table) (a .horizon) (rowPassage (a .rows .now) (a .i)) (omega (arith, c .before .number .ensures))
 
 row-sends-requires : tie.Need-row-sends-requires
 row-sends-requires c κs = search needs
@@ -21,7 +21,7 @@ row-sends-requires c κs = search needs
 returns-2 : tie.Need-returns-2
 returns-2 c =
     let a = c .before .before .before .before .before .args in
-    ready-early (readOf (a .s .now) .table) (a .h) (rowPassage (a .l .now) (a .i)) (c .row-sends .result) (omega (arith, c .before .before .number .ensures)) (c .row-sends .ensures)
+    ready-early (readOf (a .table .now) .table) (a .horizon) (rowPassage (a .rows .now) (a .i)) (c .row-sends .result) (omega (arith, c .before .before .number .ensures)) (c .row-sends .ensures)
 
 pub is-send-spec : {M : Type 1} → statement M
 is-send-spec = tie.close (tie.spec number-requires returns row-sends-requires returns-2)

@@ -35,12 +35,12 @@ loop-holds c =
     let e = c .before .before .before .before in
     let a = e .args in
     let r = c .open-before in
-    let T = readOf (a .s .now) .table in (
+    let T = readOf (a .table .now) .table in (
       r .ensures .0,
       record {
         found = [];
-        back = back-start (hearing T (rowPassage (a .l .now) (a .i))) (a .s .now) (a .l .now) (a .n) (a .i) (e .pre .0) (e .pre .1) (hear-near T (a .l .now) (a .i)) (r .result) (r .ensures .0) (λ t x y. omega (arith, r .ensures .1 t x y, c .before .number .ensures));
-        noted = noted-none (a .l .now) _ (a .n) refl;
+        back = back-start (hearing T (rowPassage (a .rows .now) (a .i))) (a .table .now) (a .rows .now) (a .count) (a .i) (e .pre .0) (e .pre .1) (hear-near T (a .rows .now) (a .i)) (r .result) (r .ensures .0) (λ t x y. omega (arith, r .ensures .1 t x y, c .before .number .ensures));
+        noted = noted-none (a .rows .now) _ (a .count) refl;
       },
     )
 
@@ -51,7 +51,7 @@ may-hear-requires : tie.Need-may-hear-requires Inv-loop μ-loop
 may-hear-requires c κs =
     let e = c .before .before .before .before .before .before in
     let a = e .args in
-    (row-known (a .s .now) (a .l .now) (a .n) (c .before .loop .j - 1) (e .pre .0) (omega (arith, c .before .loop .inv .0, e .pre .1)), row-known (a .s .now) (a .l .now) (a .n) (a .i) (e .pre .0) (e .pre .1), e .pre .2)
+    (row-known (a .table .now) (a .rows .now) (a .count) (c .before .loop .j - 1) (e .pre .0) (omega (arith, c .before .loop .inv .0, e .pre .1)), row-known (a .table .now) (a .rows .now) (a .count) (a .i) (e .pre .0) (e .pre .1), e .pre .2)
 
 index-requires : tie.Need-index-requires Inv-loop μ-loop
 index-requires c κs = omega (arith, c .before .before .before .before .before .before .before .before .pre .0 .fits, c .before .before .before .loop .inv .0, c .before .before .loop-test .taken, c .before .before .before .before .before .before .before .before .pre .1)
@@ -61,7 +61,7 @@ small : (c : tie.After-index Inv-loop μ-loop) → c .index .result < 8
 small c =
     let e = c .before .before .before .before .before .before .before .before .before in
     let a = e .args in
-    omega (arith, c .index .ensures, row-small (a .s .now) (a .l .now) (a .n) (c .before .before .before .before .loop .j - 1) (c .before .before .before .before .before .before .before .before .shared-slice-known .given) (e .pre .0) (omega (arith, c .before .before .before .before .loop .inv .0, e .pre .1)))
+    omega (arith, c .index .ensures, row-small (a .table .now) (a .rows .now) (a .count) (c .before .before .before .before .loop .j - 1) (c .before .before .before .before .before .before .before .before .shared-slice-known .given) (e .pre .0) (omega (arith, c .before .before .before .before .loop .inv .0, e .pre .1)))
 
 with-repeated-requires : tie.Need-with-repeated-requires Inv-loop μ-loop
 with-repeated-requires c κs = small c
@@ -89,16 +89,16 @@ loop-again c =
     let r = c .open-before2 in
     let k = l .j - 1 in
     let z : l .j ≡ k + 1 = omega (arith, c .before .before .before .loop-test .taken) in
-    let T = readOf (a .s .now) .table in
-    let p = hearing T (rowPassage (a .l .now) (a .i)) in
-    let q = subst (λ (m : ℕ). ListenedBack p (a .l .now) (a .n) (a .i) m (l .listening) (l .repeated) (l .row)) z (l .inv .1) in
+    let T = readOf (a .table .now) .table in
+    let p = hearing T (rowPassage (a .rows .now) (a .i)) in
+    let q = subst (λ (m : ℕ). ListenedBack p (a .rows .now) (a .count) (a .i) m (l .listening) (l .repeated) (l .row)) z (l .inv .1) in
     let below : k < a .i = omega (arith, c .before .before .before .loop-test .taken, l .inv .0) in
-    let ended : (t : ℕ) → r .result ≤ t → t < k → num (a .l .now) t 5 < num (a .l .now) (a .i) 4 = λ t x y. omega (arith, r .ensures .1 t x y, c .before .before .before .before .before .before .number .ensures) in
-    let few = row-small (a .s .now) (a .l .now) (a .n) k (c .before .before .before .before .before .before .before .before .shared-slice-known .given) (e .pre .0) (omega (arith, below, e .pre .1)) in (
+    let ended : (t : ℕ) → r .result ≤ t → t < k → num (a .rows .now) t 5 < num (a .rows .now) (a .i) 4 = λ t x y. omega (arith, r .ensures .1 t x y, c .before .before .before .before .before .before .number .ensures) in
+    let few = row-small (a .table .now) (a .rows .now) (a .count) k (c .before .before .before .before .before .before .before .before .shared-slice-known .given) (e .pre .0) (omega (arith, below, e .pre .1)) in (
       omega (arith, r .ensures .0, l .inv .0),
       ⊎-elim
-          (λ w. listened-back-in p (a .s .now) (a .l .now) (a .n) (a .i) (e .pre .0) (e .pre .1) (hear-near T (a .l .now) (a .i)) (r .result) k (l .listening) (l .repeated) (l .row) below (r .ensures .0) ended (c .before .before .may-hear .result) (c .before .before .may-hear .ensures) q (c .before .if1 .listening) (c .before .if1 .repeated) (c .before .if1 .row) (w .0 .taken) (w .1 .result) (w .1 .ensures) (omega (arith, w .1 .ensures, few)) (w .5 ∙ w .2 .ensures) (w .4 ∙ w .3 .ensures) (w .6))
-          (λ w. listened-back-out p (a .s .now) (a .l .now) (a .n) (a .i) (e .pre .0) (e .pre .1) (hear-near T (a .l .now) (a .i)) (r .result) k (l .listening) (l .repeated) (l .row) below (r .ensures .0) ended (c .before .before .may-hear .result) (c .before .before .may-hear .ensures) q (c .before .if1 .listening) (c .before .if1 .repeated) (c .before .if1 .row) (w .0 .left) (w .1) (w .2) (w .3))
+          (λ w. listened-back-in p (a .table .now) (a .rows .now) (a .count) (a .i) (e .pre .0) (e .pre .1) (hear-near T (a .rows .now) (a .i)) (r .result) k (l .listening) (l .repeated) (l .row) below (r .ensures .0) ended (c .before .before .may-hear .result) (c .before .before .may-hear .ensures) q (c .before .if1 .listening) (c .before .if1 .repeated) (c .before .if1 .row) (w .0 .taken) (w .1 .result) (w .1 .ensures) (omega (arith, w .1 .ensures, few)) (w .5 ∙ w .2 .ensures) (w .4 ∙ w .3 .ensures) (w .6))
+          (λ w. listened-back-out p (a .table .now) (a .rows .now) (a .count) (a .i) (e .pre .0) (e .pre .1) (hear-near T (a .rows .now) (a .i)) (r .result) k (l .listening) (l .repeated) (l .row) below (r .ensures .0) ended (c .before .before .may-hear .result) (c .before .before .may-hear .ensures) q (c .before .if1 .listening) (c .before .if1 .repeated) (c .before .if1 .row) (w .0 .left) (w .1) (w .2) (w .3))
           (c .before .if1 .came),
     )
 
@@ -107,11 +107,11 @@ returns c =
     let e = c .before .before .before .before .before .before in
     let a = e .args in
     let l = c .before .loop in
-    let T = readOf (a .s .now) .table in
-    let p = hearing T (rowPassage (a .l .now) (a .i)) in
+    let T = readOf (a .table .now) .table in
+    let p = hearing T (rowPassage (a .rows .now) (a .i)) in
     subst
-    (λ (vs : List Passage). Noted (a .l .now) (a .n) vs (l .listening) (l .repeated) (l .row))
-    (sym (back-done p (a .s .now) (a .l .now) (a .n) (a .i) (e .pre .0) (e .pre .1) (hear-near T (a .l .now) (a .i)) (l .j) (l .inv .1 .found) (omega (arith, c .loop-test .left)) (l .inv .1 .back)))
+    (λ (vs : List Passage). Noted (a .rows .now) (a .count) vs (l .listening) (l .repeated) (l .row))
+    (sym (back-done p (a .table .now) (a .rows .now) (a .count) (a .i) (e .pre .0) (e .pre .1) (hear-near T (a .rows .now) (a .i)) (l .j) (l .inv .1 .found) (omega (arith, c .loop-test .left)) (l .inv .1 .back)))
     (l .inv .1 .noted)
 
 pub listeners-before-spec : {M : Type 1} → statement M

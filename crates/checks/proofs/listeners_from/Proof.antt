@@ -31,12 +31,12 @@ loop-holds : tie.Need-loop-holds Inv-loop μ-loop
 loop-holds c =
     let e = c .before .before .before .before in
     let a = e .args in
-    let T = readOf (a .s .now) .table in
-    let p = hearing T (rowPassage (a .l .now) (a .i)) in (
+    let T = readOf (a .table .now) .table in
+    let p = hearing T (rowPassage (a .rows .now) (a .i)) in (
       omega (arith, e .pre .1),
       record {
-        found = only p (rowsOf (a .l .now) (a .i));
-        swept = swept-at p (a .s .now) (a .l .now) (a .n) (a .i) (e .pre .0) (e .pre .1) (hear-near T (a .l .now) (a .i)) (only p (rowsOf (a .l .now) (a .i))) refl;
+        found = only p (rowsOf (a .rows .now) (a .i));
+        swept = swept-at p (a .table .now) (a .rows .now) (a .count) (a .i) (e .pre .0) (e .pre .1) (hear-near T (a .rows .now) (a .i)) (only p (rowsOf (a .rows .now) (a .i))) refl;
         noted = e .pre .3;
       },
     )
@@ -48,7 +48,7 @@ may-hear-requires : tie.Need-may-hear-requires Inv-loop μ-loop
 may-hear-requires c κs =
     let e = c .before .before .before .before .before .before .before .before in
     let a = e .args in
-    (row-known (a .s .now) (a .l .now) (a .n) (c .before .before .before .loop .j) (e .pre .0) (c .before .before .loop-test .taken), row-known (a .s .now) (a .l .now) (a .n) (a .i) (e .pre .0) (e .pre .1), e .pre .2)
+    (row-known (a .table .now) (a .rows .now) (a .count) (c .before .before .before .loop .j) (e .pre .0) (c .before .before .loop-test .taken), row-known (a .table .now) (a .rows .now) (a .count) (a .i) (e .pre .0) (e .pre .1), e .pre .2)
 
 index-requires : tie.Need-index-requires Inv-loop μ-loop
 index-requires c κs = omega (arith, c .before .before .before .before .before .before .before .before .before .before .pre .0 .fits, c .before .before .before .before .loop-test .taken)
@@ -58,7 +58,7 @@ small : (c : tie.After-index Inv-loop μ-loop) → c .index .result < 8
 small c =
     let e = c .before .before .before .before .before .before .before .before .before .before .before in
     let a = e .args in
-    omega (arith, c .index .ensures, row-small (a .s .now) (a .l .now) (a .n) (c .before .before .before .before .before .before .loop .j) (c .before .before .before .before .before .before .before .before .before .before .shared-slice-known .given) (e .pre .0) (c .before .before .before .before .before .loop-test .taken))
+    omega (arith, c .index .ensures, row-small (a .table .now) (a .rows .now) (a .count) (c .before .before .before .before .before .before .loop .j) (c .before .before .before .before .before .before .before .before .before .before .shared-slice-known .given) (e .pre .0) (c .before .before .before .before .before .loop-test .taken))
 
 with-repeated-requires : tie.Need-with-repeated-requires Inv-loop μ-loop
 with-repeated-requires c κs = small c
@@ -84,12 +84,12 @@ loop-again c =
     let a = e .args in
     let l = c .before .before .before .before .before .loop in
     let there = c .before .before .before .before .loop-test .taken in
-    let p = hearing (readOf (a .s .now) .table) (rowPassage (a .l .now) (a .i)) in
-    let few = row-small (a .s .now) (a .l .now) (a .n) (l .j) (c .before .before .before .before .before .before .before .before .before .shared-slice-known .given) (e .pre .0) there in (
+    let p = hearing (readOf (a .table .now) .table) (rowPassage (a .rows .now) (a .i)) in
+    let few = row-small (a .table .now) (a .rows .now) (a .count) (l .j) (c .before .before .before .before .before .before .before .before .before .shared-slice-known .given) (e .pre .0) there in (
       omega (arith, there),
       ⊎-elim
-          (λ w. listened-in p (a .l .now) (a .n) (l .j) (l .listening) (l .repeated) (l .row) (c .before .may-hear .result) there (c .before .may-hear .ensures) (l .inv .1) (c .if2 .listening) (c .if2 .repeated) (c .if2 .row) (w .0 .taken) (w .1 .result) (w .1 .ensures) (omega (arith, w .1 .ensures, few)) (w .5 ∙ w .2 .ensures) (w .4 ∙ w .3 .ensures) (w .6))
-          (λ w. listened-out p (a .l .now) (a .n) (l .j) (l .listening) (l .repeated) (l .row) (c .before .may-hear .result) there (c .before .may-hear .ensures) (l .inv .1) (c .if2 .listening) (c .if2 .repeated) (c .if2 .row) (w .0 .left) (w .1) (w .2) (w .3))
+          (λ w. listened-in p (a .rows .now) (a .count) (l .j) (l .listening) (l .repeated) (l .row) (c .before .may-hear .result) there (c .before .may-hear .ensures) (l .inv .1) (c .if2 .listening) (c .if2 .repeated) (c .if2 .row) (w .0 .taken) (w .1 .result) (w .1 .ensures) (omega (arith, w .1 .ensures, few)) (w .5 ∙ w .2 .ensures) (w .4 ∙ w .3 .ensures) (w .6))
+          (λ w. listened-out p (a .rows .now) (a .count) (l .j) (l .listening) (l .repeated) (l .row) (c .before .may-hear .result) there (c .before .may-hear .ensures) (l .inv .1) (c .if2 .listening) (c .if2 .repeated) (c .if2 .row) (w .0 .left) (w .1) (w .2) (w .3))
           (c .if2 .came),
     )
 
@@ -97,10 +97,10 @@ returns : tie.Need-returns Inv-loop μ-loop
 returns c =
     let a = c .before .before .before .before .before .before .args in
     let l = c .before .loop in
-    let p = hearing (readOf (a .s .now) .table) (rowPassage (a .l .now) (a .i)) in
+    let p = hearing (readOf (a .table .now) .table) (rowPassage (a .rows .now) (a .i)) in
     subst
-    (λ (vs : List Passage). Noted (a .l .now) (a .n) vs (l .listening) (l .repeated) (l .row))
-    (swept-done p (a .l .now) (a .n) (l .j) (l .inv .1 .found) (c .loop-test .left) (l .inv .1 .swept))
+    (λ (vs : List Passage). Noted (a .rows .now) (a .count) vs (l .listening) (l .repeated) (l .row))
+    (swept-done p (a .rows .now) (a .count) (l .j) (l .inv .1 .found) (c .loop-test .left) (l .inv .1 .swept))
     (l .inv .1 .noted)
 
 returns-2 : tie.Need-returns-2 Inv-loop μ-loop
@@ -108,11 +108,11 @@ returns-2 c =
     let e = c .before .before .before .before .before .before .before .before in
     let a = e .args in
     let l = c .before .before .before .loop in
-    let T = readOf (a .s .now) .table in
-    let p = hearing T (rowPassage (a .l .now) (a .i)) in
+    let T = readOf (a .table .now) .table in
+    let p = hearing T (rowPassage (a .rows .now) (a .i)) in
     subst
-    (λ (vs : List Passage). Noted (a .l .now) (a .n) vs (l .listening) (l .repeated) (l .row))
-    (swept-stop p (a .s .now) (a .l .now) (a .n) (a .i) (e .pre .0) (e .pre .1) (hear-near T (a .l .now) (a .i)) (l .j) (l .inv .1 .found) (c .before .before .loop-test .taken) (omega (arith, c .before .before .before .before .before .number .ensures, c .before .number2 .ensures, c .if1 .taken)) (l .inv .1 .swept))
+    (λ (vs : List Passage). Noted (a .rows .now) (a .count) vs (l .listening) (l .repeated) (l .row))
+    (swept-stop p (a .table .now) (a .rows .now) (a .count) (a .i) (e .pre .0) (e .pre .1) (hear-near T (a .rows .now) (a .i)) (l .j) (l .inv .1 .found) (c .before .before .loop-test .taken) (omega (arith, c .before .before .before .before .before .number .ensures, c .before .number2 .ensures, c .if1 .taken)) (l .inv .1 .swept))
     (l .inv .1 .noted)
 
 pub listeners-from-spec : {M : Type 1} → statement M

@@ -32,7 +32,7 @@ both-requires-2 c κs = search needs
 returns : tie.Need-returns
 returns c =
     let a = c .before .before .before .before .before .before .before .before .before .args in
-    beside-is (rowPassage (a .l .now) (a .i)) (rowPassage (a .l .now) (a .j)) (c .before .before .before .before .before .before .before .number .result) (c .before .before .before .before .before .before .number2 .result) (c .before .before .before .before .before .number3 .result) (c .before .before .before .before .number4 .result) (c .before .before .number5 .result) (c .before .number6 .result) (c .both2 .result) (c .before .before .before .both .result) (c .before .before .before .before .before .before .before .number .ensures) (c .before .before .before .before .before .before .number2 .ensures) (c .before .before .before .before .before .number3 .ensures) (c .before .before .before .before .number4 .ensures) (c .before .before .number5 .ensures) (c .before .number6 .ensures) (c .before .before .before .both .ensures) (c .both2 .ensures)
+    beside-is (rowPassage (a .rows .now) (a .i)) (rowPassage (a .rows .now) (a .j)) (c .before .before .before .before .before .before .before .number .result) (c .before .before .before .before .before .before .number2 .result) (c .before .before .before .before .before .number3 .result) (c .before .before .before .before .number4 .result) (c .before .before .number5 .result) (c .before .number6 .result) (c .both2 .result) (c .before .before .before .both .result) (c .before .before .before .before .before .before .before .number .ensures) (c .before .before .before .before .before .before .number2 .ensures) (c .before .before .before .before .before .number3 .ensures) (c .before .before .before .before .number4 .ensures) (c .before .before .number5 .ensures) (c .before .number6 .ensures) (c .before .before .before .both .ensures) (c .both2 .ensures)
 
 pub overlap-spec : {M : Type 1} → statement M
 overlap-spec =

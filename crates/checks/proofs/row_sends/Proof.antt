@@ -14,12 +14,12 @@ index-requires c κs = search needs
 sub-action-at : tie.Need-sub-action-at
 sub-action-at c =
     let e = c .before .before .before in
-    omega (arith, at-within (e .args .s .now) (e .args .l .now) (e .args .i) (c .index .result) (c .before .before .shared-slice-known .given) (e .pre) (c .index .ensures))
+    omega (arith, at-within (e .args .table .now) (e .args .rows .now) (e .args .i) (c .index .result) (c .before .before .shared-slice-known .given) (e .pre) (c .index .ensures))
 
 part-action-at-start : tie.Need-part-action-at-start
 part-action-at-start c =
     let e = c .before .before .before in
-    omega (arith, at-within (e .args .s .now) (e .args .l .now) (e .args .i) (c .index .result) (c .before .before .shared-slice-known .given) (e .pre) (c .index .ensures))
+    omega (arith, at-within (e .args .table .now) (e .args .rows .now) (e .args .i) (c .index .result) (c .before .before .shared-slice-known .given) (e .pre) (c .index .ensures))
 
 part-action-at-end : tie.Need-part-action-at-end
 part-action-at-end c = search needs
@@ -27,7 +27,7 @@ part-action-at-end c = search needs
 action-at-requires : tie.Need-action-at-requires
 action-at-requires c κs =
     let e = c .before .before .before .before in
-    let stands = at-stands (e .args .s .now) (e .args .l .now) (e .args .i) (c .before .index .result) (c .before .before .before .shared-slice-known .given) (e .pre) (c .before .index .ensures) in
+    let stands = at-stands (e .args .table .now) (e .args .rows .now) (e .args .i) (c .before .index .result) (c .before .before .before .shared-slice-known .given) (e .pre) (c .before .index .ensures) in
     (stands .head, stands .whole)
 
 enum-told : tie.Need-enum-told
@@ -42,19 +42,19 @@ enum-told-3 c = search needs
 returns : tie.Need-returns
 returns c =
     let e = c .before .before .before .before .before .before .before in
-    let arc = at-arc (e .args .s .now) (e .args .l .now) (e .args .i) (c .before .before .before .before .index .result) (c .before .before .before .before .before .before .shared-slice-known .given) (e .pre) (c .before .before .before .before .index .ensures) in
+    let arc = at-arc (e .args .table .now) (e .args .rows .now) (e .args .i) (c .before .before .before .before .index .result) (c .before .before .before .before .before .before .shared-slice-known .given) (e .pre) (c .before .before .before .before .index .ensures) in
     ap sending (sym (c .enum-told .given .1) ∙ c .before .before .action-at .ensures) ∙ ap (λ (a : Arc). sending (a .edge .action)) arc
 
 returns-2 : tie.Need-returns-2
 returns-2 c =
     let e = c .before .before .before .before .before .before .before in
-    let arc = at-arc (e .args .s .now) (e .args .l .now) (e .args .i) (c .before .before .before .before .index .result) (c .before .before .before .before .before .before .shared-slice-known .given) (e .pre) (c .before .before .before .before .index .ensures) in
+    let arc = at-arc (e .args .table .now) (e .args .rows .now) (e .args .i) (c .before .before .before .before .index .result) (c .before .before .before .before .before .before .shared-slice-known .given) (e .pre) (c .before .before .before .before .index .ensures) in
     ap sending (sym (c .enum-told2 .given .1) ∙ c .before .before .action-at .ensures) ∙ ap (λ (a : Arc). sending (a .edge .action)) arc
 
 returns-3 : tie.Need-returns-3
 returns-3 c =
     let e = c .before .before .before .before .before .before .before in
-    let arc = at-arc (e .args .s .now) (e .args .l .now) (e .args .i) (c .before .before .before .before .index .result) (c .before .before .before .before .before .before .shared-slice-known .given) (e .pre) (c .before .before .before .before .index .ensures) in
+    let arc = at-arc (e .args .table .now) (e .args .rows .now) (e .args .i) (c .before .before .before .before .index .result) (c .before .before .before .before .before .before .shared-slice-known .given) (e .pre) (c .before .before .before .before .index .ensures) in
     ap sending (sym (c .enum-told3 .given .1) ∙ c .before .before .action-at .ensures) ∙ ap (λ (a : Arc). sending (a .edge .action)) arc
 
 pub row-sends-spec : {M : Type 1} → statement M

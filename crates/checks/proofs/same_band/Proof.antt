@@ -13,7 +13,7 @@ row-sent-requires c κs = search needs
 returns : tie.Need-returns
 returns c =
     let a = c .before .before .before .before .args in
-    none-disturbs (readOf (a .s .now) .table) (rowPassage (a .l .now) (a .i)) (rowPassage (a .l .now) (a .j)) (c .before .row-sent .result) (c .if1 .taken) (c .before .row-sent .ensures)
+    none-disturbs (readOf (a .table .now) .table) (rowPassage (a .rows .now) (a .i)) (rowPassage (a .rows .now) (a .j)) (c .before .row-sent .result) (c .if1 .taken) (c .before .row-sent .ensures)
 
 row-sent-requires-2 : tie.Need-row-sent-requires-2
 row-sent-requires-2 c κs = search needs
@@ -21,27 +21,27 @@ row-sent-requires-2 c κs = search needs
 returns-2 : tie.Need-returns-2
 returns-2 c =
     let a = c .before .before .before .before .before .before .args in
-    disturbs-none (readOf (a .s .now) .table) (rowPassage (a .l .now) (a .i)) (rowPassage (a .l .now) (a .j)) (c .before .row-sent2 .result) (c .if2 .taken) (c .before .row-sent2 .ensures)
+    disturbs-none (readOf (a .table .now) .table) (rowPassage (a .rows .now) (a .i)) (rowPassage (a .rows .now) (a .j)) (c .before .row-sent2 .result) (c .if2 .taken) (c .before .row-sent2 .ensures)
 
 band-requires : tie.Need-band-requires
 band-requires c κs =
     let e = c .before .before .before .before .before .before in
     let a = e .args in
-    let b = known-bytes (a .s .now) (c .before .before .before .before .before .shared-slice-known .given) in
-    (e .pre .0 .valid, row-channel (a .s .now) (a .l .now) (a .i) (c .before .before .before .row-sent .result) b (e .pre .0) (c .before .before .before .row-sent .ensures) (c .before .before .if1 .left))
+    let b = known-bytes (a .table .now) (c .before .before .before .before .before .shared-slice-known .given) in
+    (e .pre .0 .valid, row-channel (a .table .now) (a .rows .now) (a .i) (c .before .before .before .row-sent .result) b (e .pre .0) (c .before .before .before .row-sent .ensures) (c .before .before .if1 .left))
 
 band-requires-2 : tie.Need-band-requires-2
 band-requires-2 c κs =
     let e = c .before .before .before .before .before .before .before in
     let a = e .args in
-    let b = known-bytes (a .s .now) (c .before .before .before .before .before .before .shared-slice-known .given) in
-    (e .pre .1 .valid, row-channel (a .s .now) (a .l .now) (a .j) (c .before .before .row-sent2 .result) b (e .pre .1) (c .before .before .row-sent2 .ensures) (c .before .if2 .left))
+    let b = known-bytes (a .table .now) (c .before .before .before .before .before .before .shared-slice-known .given) in
+    (e .pre .1 .valid, row-channel (a .table .now) (a .rows .now) (a .j) (c .before .before .row-sent2 .result) b (e .pre .1) (c .before .before .row-sent2 .ensures) (c .before .if2 .left))
 
 returns-3 : tie.Need-returns-3
 returns-3 c =
     let d = c .before .before in
     let a = d .before .before .before .before .before .before .args in
-    disturbs (readOf (a .s .now) .table) (rowPassage (a .l .now) (a .i)) (rowPassage (a .l .now) (a .j)) (d .before .before .before .row-sent .result) (d .before .row-sent2 .result) (c .before .band .result) (c .band2 .result) (d .before .before .if1 .left) (d .if2 .left) (d .before .before .before .row-sent .ensures) (d .before .row-sent2 .ensures) (c .before .band .ensures) (c .band2 .ensures)
+    disturbs (readOf (a .table .now) .table) (rowPassage (a .rows .now) (a .i)) (rowPassage (a .rows .now) (a .j)) (d .before .before .before .row-sent .result) (d .before .row-sent2 .result) (c .before .band .result) (c .band2 .result) (d .before .before .if1 .left) (d .if2 .left) (d .before .before .before .row-sent .ensures) (d .before .row-sent2 .ensures) (c .before .band .ensures) (c .band2 .ensures)
 
 pub same-band-spec : {M : Type 1} → statement M
 same-band-spec =

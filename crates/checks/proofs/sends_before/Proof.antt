@@ -33,8 +33,8 @@ loop-holds c =
     let e = c .before .before .before .before in
     let a = e .args in
     let r = c .open-before in
-    let T = readOf (a .s .now) .table in
-    let none = back-start (heardSend T (a .h) (rowPassage (a .l .now) (a .i))) (a .s .now) (a .l .now) (a .n) (a .i) (e .pre .0) (e .pre .1) (heard-near T (a .h) (a .l .now) (a .i)) (r .result) (r .ensures .0) (λ t x y. omega (arith, r .ensures .1 t x y, c .before .number .ensures)) in
+    let T = readOf (a .table .now) .table in
+    let none = back-start (heardSend T (a .horizon) (rowPassage (a .rows .now) (a .i))) (a .table .now) (a .rows .now) (a .count) (a .i) (e .pre .0) (e .pre .1) (heard-near T (a .horizon) (a .rows .now) (a .i)) (r .result) (r .ensures .0) (λ t x y. omega (arith, r .ensures .1 t x y, c .before .number .ensures)) in
     (r .ensures .0, omega (arith, r .ensures .0), sym (ap length none))
 
 sub-k : tie.Need-sub-k Inv-loop μ-loop
@@ -44,7 +44,7 @@ hears-send-requires : tie.Need-hears-send-requires Inv-loop μ-loop
 hears-send-requires c κs =
     let e = c .before .before .before .before .before .before in
     let a = e .args in
-    (row-known (a .s .now) (a .l .now) (a .n) (a .i) (e .pre .0) (e .pre .1), row-known (a .s .now) (a .l .now) (a .n) (c .before .loop .j - 1) (e .pre .0) (omega (arith, c .before .loop .inv .0, e .pre .1)), e .pre .2)
+    (row-known (a .table .now) (a .rows .now) (a .count) (a .i) (e .pre .0) (e .pre .1), row-known (a .table .now) (a .rows .now) (a .count) (c .before .loop .j - 1) (e .pre .0) (omega (arith, c .before .loop .inv .0, e .pre .1)), e .pre .2)
 
 add-sends : tie.Need-add-sends Inv-loop μ-loop
 add-sends c = omega (arith, c .before .before .before .loop .inv .1, c .before .before .before .before .before .before .before .before .pre .0 .few, c .before .before .before .before .before .before .before .before .pre .1)
@@ -63,15 +63,15 @@ loop-again c =
     let r = c .open-before2 in
     let k = l .j - 1 in
     let z : l .j ≡ k + 1 = omega (arith, c .before .before .before .loop-test .taken) in
-    let T = readOf (a .s .now) .table in
-    let p = heardSend T (a .h) (rowPassage (a .l .now) (a .i)) in
-    let f = only p (rowsFrom (a .l .now) (k + 1) (a .i - (k + 1))) in
-    let q = subst (λ (m : ℕ). l .sends ≡ length (only p (rowsFrom (a .l .now) m (a .i - m)))) z (l .inv .2) in
+    let T = readOf (a .table .now) .table in
+    let p = heardSend T (a .horizon) (rowPassage (a .rows .now) (a .i)) in
+    let f = only p (rowsFrom (a .rows .now) (k + 1) (a .i - (k + 1))) in
+    let q = subst (λ (m : ℕ). l .sends ≡ length (only p (rowsFrom (a .rows .now) m (a .i - m)))) z (l .inv .2) in
     let below : k < a .i = omega (arith, c .before .before .before .loop-test .taken, l .inv .0) in
-    let ended : (t : ℕ) → r .result ≤ t → t < k → num (a .l .now) t 5 < num (a .l .now) (a .i) 4 = λ t x y. omega (arith, r .ensures .1 t x y, c .before .before .before .before .before .before .number .ensures) in
+    let ended : (t : ℕ) → r .result ≤ t → t < k → num (a .rows .now) t 5 < num (a .rows .now) (a .i) 4 = λ t x y. omega (arith, r .ensures .1 t x y, c .before .before .before .before .before .before .number .ensures) in
     ⊎-elim
-    (λ w. (omega (arith, r .ensures .0, l .inv .0), omega (arith, r .ensures .0, l .inv .1, w .1, c .before .before .before .loop-test .taken), omega (arith, w .1, q, ap length (back-in p (a .s .now) (a .l .now) (a .n) (a .i) (e .pre .0) (e .pre .1) (heard-near T (a .h) (a .l .now) (a .i)) (r .result) k f below (r .ensures .0) ended refl (c .before .before .hears-send .result) (c .before .before .hears-send .ensures) (w .0 .taken)))))
-    (λ w. (omega (arith, r .ensures .0, l .inv .0), omega (arith, r .ensures .0, l .inv .1, w .1, c .before .before .before .loop-test .taken), omega (arith, w .1, q, ap length (back-out p (a .s .now) (a .l .now) (a .n) (a .i) (e .pre .0) (e .pre .1) (heard-near T (a .h) (a .l .now) (a .i)) (r .result) k f below (r .ensures .0) ended refl (c .before .before .hears-send .result) (c .before .before .hears-send .ensures) (w .0 .left)))))
+    (λ w. (omega (arith, r .ensures .0, l .inv .0), omega (arith, r .ensures .0, l .inv .1, w .1, c .before .before .before .loop-test .taken), omega (arith, w .1, q, ap length (back-in p (a .table .now) (a .rows .now) (a .count) (a .i) (e .pre .0) (e .pre .1) (heard-near T (a .horizon) (a .rows .now) (a .i)) (r .result) k f below (r .ensures .0) ended refl (c .before .before .hears-send .result) (c .before .before .hears-send .ensures) (w .0 .taken)))))
+    (λ w. (omega (arith, r .ensures .0, l .inv .0), omega (arith, r .ensures .0, l .inv .1, w .1, c .before .before .before .loop-test .taken), omega (arith, w .1, q, ap length (back-out p (a .table .now) (a .rows .now) (a .count) (a .i) (e .pre .0) (e .pre .1) (heard-near T (a .horizon) (a .rows .now) (a .i)) (r .result) k f below (r .ensures .0) ended refl (c .before .before .hears-send .result) (c .before .before .hears-send .ensures) (w .0 .left)))))
     (c .before .if1 .came)
 
 returns : tie.Need-returns Inv-loop μ-loop
@@ -79,9 +79,9 @@ returns c =
     let e = c .before .before .before .before .before .before in
     let a = e .args in
     let l = c .before .loop in
-    let T = readOf (a .s .now) .table in
-    let p = heardSend T (a .h) (rowPassage (a .l .now) (a .i)) in
-    l .inv .2 ∙ sym (ap length (back-done p (a .s .now) (a .l .now) (a .n) (a .i) (e .pre .0) (e .pre .1) (heard-near T (a .h) (a .l .now) (a .i)) (l .j) _ (omega (arith, c .loop-test .left)) refl))
+    let T = readOf (a .table .now) .table in
+    let p = heardSend T (a .horizon) (rowPassage (a .rows .now) (a .i)) in
+    l .inv .2 ∙ sym (ap length (back-done p (a .table .now) (a .rows .now) (a .count) (a .i) (e .pre .0) (e .pre .1) (heard-near T (a .horizon) (a .rows .now) (a .i)) (l .j) _ (omega (arith, c .loop-test .left)) refl))
 
 pub sends-before-spec : {M : Type 1} → statement M
 sends-before-spec =

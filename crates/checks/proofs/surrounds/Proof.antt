@@ -23,7 +23,7 @@ both-requires c κs = search needs
 returns : tie.Need-returns
 returns c =
     let a = c .before .before .before .before .before .before .args in
-    surrounds-is (rowPassage (a .l .now) (a .k)) (rowPassage (a .l .now) (a .i)) (c .before .before .before .before .number .result) (c .before .before .before .number2 .result) (c .before .before .number3 .result) (c .before .number4 .result) (c .both .result) (c .before .before .before .before .number .ensures) (c .before .before .before .number2 .ensures) (c .before .before .number3 .ensures) (c .before .number4 .ensures) (c .both .ensures)
+    surrounds-is (rowPassage (a .rows .now) (a .receive)) (rowPassage (a .rows .now) (a .send)) (c .before .before .before .before .number .result) (c .before .before .before .number2 .result) (c .before .before .number3 .result) (c .before .number4 .result) (c .both .result) (c .before .before .before .before .number .ensures) (c .before .before .before .number2 .ensures) (c .before .before .number3 .ensures) (c .before .number4 .ensures) (c .both .ensures)
 
 pub surrounds-spec : {M : Type 1} → statement M
 surrounds-spec =

@@ -17,8 +17,8 @@ shl-result c = search needs
 
 returns : tie.Need-returns
 returns c =
-    let b : 1 * 2 ^ c .args .c < 256 = omega (arith, pow-lt {j = 8} (c .pre)) in
-    let e : 1 * 2 ^ c .args .c % 256 ≡ 2 ^ c .args .c = mod-eq-of-lt b ∙ omega arith in
+    let b : 1 * 2 ^ c .args .component < 256 = omega (arith, pow-lt {j = 8} (c .pre)) in
+    let e : 1 * 2 ^ c .args .component % 256 ≡ 2 ^ c .args .component = mod-eq-of-lt b ∙ omega arith in
     ap (bitOr (c .args .mask)) e
 
 pub with-bit-spec : {M : Type 1} → statement M
