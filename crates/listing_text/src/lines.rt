@@ -6,9 +6,9 @@ ghost use lib.ListN.{length};
 ghost use Rattle.text.specs.Words.{Added};
 ghost use Rattle.listing_text.specs.ListingText.{blocksOf, codeAt, statementsOf, startOf, endOf, placeText, blockName, blockHead, behind, counts, nodeHead, header, otherLength, programHead};
 use crate::statement::put_statement;
-use crate::statement::wide;
 use text::put;
 use text::put_field;
+use text::wide;
 
 pub fn blocks_of(part: &[u8]) -> u32
     requires { ⌜ 6 ≤ length (now part) ⌝ }

@@ -9,12 +9,7 @@ ghost use Rattle.listing_text.specs.StatementText.{hexDigit, hexByte, fo
 use text::put;
 use text::put_decimal;
 use text::put_field;
-
-pub fn wide(x: u8) -> u32
-    ensures { λ r. ⌜ (r ≡ x) × (r < 256) ⌝ }
-{
-    x as u32
-}
+use text::wide;
 
 // A digit below 16.
 fn hex_digit(d: u8) -> u8

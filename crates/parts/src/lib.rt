@@ -23,7 +23,7 @@ pub enum Kind {
     Updates,
 }
 
-// A byte as a wider number, and that it is below 256.
+// A byte or a number of two bytes as a wider number, and that it is below 256 or 65,536.
 pub fn wide(byte: u8) -> usize
     ensures { λ r. ⌜ (r ≡ byte) × (r < 256) ⌝ }
 {
@@ -34,6 +34,24 @@ pub fn wide16(byte: u8) -> u16
     ensures { λ r. ⌜ (r ≡ byte) × (r < 256) ⌝ }
 {
     byte as u16
+}
+
+pub fn wide32(byte: u8) -> u32
+    ensures { λ r. ⌜ (r ≡ byte) × (r < 256) ⌝ }
+{
+    byte as u32
+}
+
+pub fn word32(word: u16) -> u32
+    ensures { λ r. ⌜ (r ≡ word) × (r < 65536) ⌝ }
+{
+    word as u32
+}
+
+pub fn word_place(word: u16) -> usize
+    ensures { λ r. ⌜ (r ≡ word) × (r < 65536) ⌝ }
+{
+    word as usize
 }
 
 // The number of the two bytes at a place.

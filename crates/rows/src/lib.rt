@@ -33,12 +33,6 @@ pub const LINK: usize = 8;
 // How many numbers a row has.
 pub const WIDTH: usize = 9;
 
-fn wide(byte: u8) -> u32
-    ensures { λ r. ⌜ (r ≡ byte) × (r < 256) ⌝ }
-{
-    byte as u32
-}
-
 // Number k of row i.
 pub fn number(rows: &[u32], i: usize, field: usize) -> u32
     requires { ⌜ i * 9 + field < length (now rows) ⌝ }
@@ -325,7 +319,7 @@ pub fn put_message(rows: &mut [u32], i: usize, message: u8)
     requires { ⌜ (i * 9 + 9 ≤ length (now rows)) × (i ≤ 1024) ⌝ }
     ensures { λ _. ⌜ now (rows .exit) ≡ set (now (rows .entry)) (i * 9 + 6) message ⌝ }
 {
-    rows[i * WIDTH + MESSAGE] = wide(message);
+    rows[i * WIDTH + MESSAGE] = parts::wide32(message);
 }
 
 // The message of the passage of row i among n rows (255: none), which the row has if it ends before the tick h.
@@ -336,7 +330,7 @@ fn message_then(table: &[u8], rows: &[u32], count: usize, i: usize, horizon: u32
     if number(rows, i, END) < horizon {
         return number(rows, i, MESSAGE);
     }
-    wide(message(table, rows, count, i, horizon))
+    parts::wide32(message(table, rows, count, i, horizon))
 }
 
 // Gives each of n rows its message; those that end before the tick h have theirs. (The other numbers stay.)

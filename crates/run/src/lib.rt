@@ -80,19 +80,13 @@ fn calm_until(words: &[u64], count: usize, horizon: u64) -> u64
     calm
 }
 
-fn wide(byte: u8) -> u32
-    ensures { λ r. ⌜ (r ≡ byte) × (r < 256) ⌝ }
-{
-    byte as u32
-}
-
 // Four choices from a place on, added up: 1,020 if they are ticks.
 fn sum_of_four(choices: &[u8], at: usize) -> u32
     requires { ⌜ at + 4 ≤ length (now choices) ⌝ }
     ensures { λ r. ⌜ (r ≤ 1020) × (r ≡ 1020 → Ticks (now (choices .entry)) at (at + 4)) ⌝ }
 {
-    let first = wide(choices[at]) + wide(choices[at + 1]);
-    first + (wide(choices[at + 2]) + wide(choices[at + 3]))
+    let first = parts::wide32(choices[at]) + parts::wide32(choices[at + 1]);
+    first + (parts::wide32(choices[at + 2]) + parts::wide32(choices[at + 3]))
 }
 
 // How far the choices from a place on are ticks, eight looked at together.

@@ -10,12 +10,7 @@ use text::put;
 use text::put_column;
 use text::put_field;
 use text::put_signed_column;
-
-fn wide(x: u8) -> u32
-    ensures { λ r. ⌜ (r ≡ x) × (r < 256) ⌝ }
-{
-    x as u32
-}
+use text::wide;
 
 fn word_at(bytes: &[u8], at: usize) -> u32
     requires { ⌜ at + 1 < length (now bytes) ⌝ }

@@ -16,6 +16,7 @@ ghost use Rattle.rows.specs.Rows.{rowPassage, rowsOf, RowsPlaced};
 ghost use Rattle.schedule.specs.Filled.{Filled, scheduleOf, acceptedScheduleIn};
 ghost use Rattle.schedule.specs.Going.{keptOf, Soonest, Stands, Turned, Started, Begins, Listed, unfinished, EdgesIndexed};
 use model::Verdict;
+use model::layout;
 use window::Entry;
 use window::Opening;
 use window::TakenEdge;
@@ -45,24 +46,6 @@ pub struct Opened {
 pub struct Scheduled {
     pub verdict: Verdict,
     pub count: usize,
-}
-
-fn wide(byte: u8) -> usize
-    ensures { λ r. ⌜ (r ≡ byte) × (r < 256) ⌝ }
-{
-    byte as usize
-}
-
-fn wide16(word: u16) -> usize
-    ensures { λ r. ⌜ (r ≡ word) × (r < 65536) ⌝ }
-{
-    word as usize
-}
-
-fn wide32(word: u16) -> u32
-    ensures { λ r. ⌜ (r ≡ word) × (r < 65536) ⌝ }
-{
-    word as u32
 }
 
 fn listed(count: usize) -> Scheduled
@@ -194,10 +177,15 @@ fn index_edges(table: &[u8], starts: [u16; 8], index: &mut [u16])
     requires { ⌜ Valid (now table) × (starts ≡ startsOf (now table) (byte (now table) 3)) × (640 ≤ length (now index)) × ((component q : ℕ) → component < 8 → q < 16 → firstFrom (now index) component q ≡ 32) ⌝ }
     ensures { λ _. ⌜ EdgesIndexed (now (table .entry)) (now (index .exit)) ⌝ }
 {
-    let count = wide(table[3]);
+    let count = parts::wide(table[layout::TABLE_COMPONENTS]);
     let mut component: usize = 0;
     while component < count {
-        window::index::put_edges(table, wide16(starts[component]), component, index);
+        window::index::put_edges(
+            table,
+            parts::word_place(starts[component]),
+            component,
+            index,
+        );
         component += 1;
     }
 }
@@ -207,13 +195,13 @@ fn begin(table: &[u8], starts: [u16; 8], rows: &mut [u32], index: &[u16]) -> Ope
     requires { ⌜ Valid (now table) × (starts ≡ startsOf (now table) (byte (now table) 3)) × (9216 ≤ length (now rows)) × EdgesIndexed (now table) (now index) ⌝ }
     ensures { λ r. ⌜ Begins (now (table .entry)) (now (rows .exit)) r ⌝ }
 {
-    let count = wide(table[3]);
+    let count = parts::wide(table[layout::TABLE_COMPONENTS]);
     let none = no_node();
     let mut nodes = [none; 8];
     let mut ends = [0u32; 8];
     let mut component: usize = 0;
     while component < count {
-        let start = wide16(starts[component]);
+        let start = parts::word_place(starts[component]);
         let at = start_entry(table, start);
         let opening = window::open(table, start, component as u8, at, index);
         match opening {
@@ -251,8 +239,8 @@ fn go_on(
     requires { ⌜ Valid (now table) × (starts ≡ startsOf (now table) (byte (now table) 3)) × (9216 ≤ length (now rows)) × Started (now table) (now rows) from until × EdgesIndexed (now table) (now index) ⌝ }
     ensures { λ r. ⌜ Listed (now (table .entry)) (unfinished (now (table .entry))) r (now (rows .exit)) ⌝ }
 {
-    let count = wide(table[3]);
-    let horizon = wide32(parts::word_at(table, 5));
+    let count = parts::wide(table[layout::TABLE_COMPONENTS]);
+    let horizon = parts::word32(parts::word_at(table, layout::TABLE_HORIZON));
     let mut nodes = from;
     let mut ends = until;
     let mut filled = count;
@@ -270,7 +258,7 @@ fn go_on(
             table,
             rows,
             filled,
-            wide16(starts[component]),
+            parts::word_place(starts[component]),
             component as u8,
             node,
             end,
@@ -313,7 +301,12 @@ pub fn schedule_rows(table: &[u8], starts: [u16; 8], rows: &mut [u32]) -> Schedu
             let nodes = begun.nodes;
             let ends = begun.ends;
             let r = go_on(table, starts, rows, nodes, ends, &index);
-            rows::put_messages(table, rows, r.count, wide32(parts::word_at(table, 5)));
+            rows::put_messages(
+                table,
+                rows,
+                r.count,
+                parts::word32(parts::word_at(table, layout::TABLE_HORIZON)),
+            );
             r
         }
     }
@@ -333,7 +326,7 @@ pub fn plan_rows(table: &[u8], starts: [u16; 8], rows: &mut [u32]) -> Scheduled
                 table,
                 rows,
                 r.count,
-                wide32(parts::word_at(table, 5)),
+                parts::word32(parts::word_at(table, layout::TABLE_HORIZON)),
             );
             match checked {
                 Verdict::Refused(number, component) => Scheduled {

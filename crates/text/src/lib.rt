@@ -6,9 +6,16 @@ pub use columns::put_column;
 pub use columns::put_signed_column;
 ghost use mathlib.Core.Path.{_≡_};
 ghost use mathlib.Core.List.{List, _++_};
-ghost use Prim.Native.Nat.{ℕ, _+_, _≤_};
+ghost use Prim.Native.Nat.{ℕ, _+_, _≤_, _<_};
 ghost use lib.ListN.{length};
 ghost use Rattle.text.specs.Words.{decimal, refusalLine, Added};
+
+// A byte as a wider number, and that it is below 256.
+pub fn wide(byte: u8) -> u32
+    ensures { λ r. ⌜ (r ≡ byte) × (r < 256) ⌝ }
+{
+    byte as u32
+}
 
 // These words.
 pub fn put(out: &mut [u8], at: usize, words: &[u8]) -> usize

@@ -11,12 +11,6 @@ use calls::Called;
 use model::Verdict;
 use model::layout;
 
-fn wide32(number: u16) -> u32
-    ensures { λ r. ⌜ r ≡ number ⌝ }
-{
-    number as u32
-}
-
 fn refused(number: u8, component: u8) -> Called
     ensures { λ r. ⌜ (r .verdict ≡ Refused number component) × (r .size ≡ 0) ⌝ }
 {
@@ -39,7 +33,7 @@ fn chart_into(table: &[u8], starts: [u16; 8], chart: &mut [u8]) -> Called
         Verdict::Refused(number, component) => refused(number, component),
         Verdict::Accepted => {
             let components = parts::wide(table[layout::TABLE_COMPONENTS]);
-            let horizon = wide32(parts::word_at(table, layout::TABLE_HORIZON));
+            let horizon = parts::word32(parts::word_at(table, layout::TABLE_HORIZON));
             if chart.len() < components * chart::ROW_WIDTH {
                 return refused(13, 255);
             }

@@ -69,12 +69,6 @@ pub enum Opening {
     Fails(u8),
 }
 
-fn wide32(number: u16) -> u32
-    ensures { λ r. ⌜ (r ≡ number) × (r < 65536) ⌝ }
-{
-    number as u32
-}
-
 // What is left of a after b, or 0.
 fn left_of(a: u32, b: u32) -> u32
     ensures { λ r. ⌜ r ≡ a - b ⌝ }
@@ -99,14 +93,14 @@ fn narrowed(delays: Delays, guard: ClockGuard, clock: u32) -> Delays
     requires { ⌜ (delays .ready ≤ 65535) × (delays .past ≤ 65536) ⌝ }
     ensures { λ r. ⌜ (r .ready ≡ max (guard .low - clock) (delays .ready)) × (r .past ≡ cond (eqb (guard .high) 65535) (delays .past) (min (suc (guard .high) - clock) (delays .past))) × (r .ready ≤ 65535) × (r .past ≤ 65536) ⌝ }
 {
-    let ready = greater(left_of(wide32(guard.low), clock), delays.ready);
+    let ready = greater(left_of(parts::word32(guard.low), clock), delays.ready);
     if guard.high == 65535 {
         return Delays {
             ready,
             past: delays.past,
         };
     }
-    let past = lesser(left_of(wide32(guard.high) + 1, clock), delays.past);
+    let past = lesser(left_of(parts::word32(guard.high) + 1, clock), delays.past);
     Delays { ready, past }
 }
 
@@ -118,7 +112,7 @@ pub fn window(guards: &[u8], count: u8, location: Location, clocks: [u32; 4]) ->
     let i = parts::wide(location.clock);
     let mut delays = Delays {
         ready: 0,
-        past: left_of(wide32(location.bound) + 1, clocks[i]),
+        past: left_of(parts::word32(location.bound) + 1, clocks[i]),
     };
     let mut at: usize = 0;
     let mut k = count;

@@ -18,13 +18,13 @@ returns c = ap messageOf (c .number2 .ensures) ∙ c .before .before .before .be
 message-requires : tie.Need-message-requires
 message-requires c κs = search needs
 
-wide-requires : tie.Need-wide-requires
-wide-requires c κs = search needs
+wide32-requires : tie.Need-wide32-requires
+wide32-requires c κs = search needs
 
 returns-2 : tie.Need-returns-2
-returns-2 c = ap messageOf (c .wide .ensures .0) ∙ c .before .message .ensures
+returns-2 c = ap messageOf (c .wide32 .ensures .0) ∙ c .before .message .ensures
 
 pub message-then-spec : {M : Type 1} → statement M
 message-then-spec =
     tie.close
-    (tie.spec number-requires number-requires-2 returns message-requires wide-requires returns-2)
+    (tie.spec number-requires number-requires-2 returns message-requires wide32-requires returns-2)

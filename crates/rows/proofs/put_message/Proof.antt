@@ -6,8 +6,8 @@ use borrow.Author.Needs.{needs}
 use Rattle.rows.proofs.put_message.Statement.{statement}
 use Rattle.rows.proofs.put_message.Tie as tie
 
-wide-requires : tie.Need-wide-requires
-wide-requires c κs = search needs
+wide32-requires : tie.Need-wide32-requires
+wide32-requires c κs = search needs
 
 mul-rows : tie.Need-mul-rows
 mul-rows c = search needs
@@ -25,8 +25,8 @@ same-length : tie.Need-same-length
 same-length c = search needs
 
 returns : tie.Need-returns
-returns c = ap (set (c .before .before .args .rows .now) (c .before .before .args .i * 9 + 6)) (c .wide .ensures .0)
+returns c = ap (set (c .before .before .args .rows .now) (c .before .before .args .i * 9 + 6)) (c .wide32 .ensures .0)
 
 pub put-message-spec : {M : Type 1} → statement M
 put-message-spec =
-    tie.close (tie.spec wide-requires mul-rows add-rows mul-rows-2 slice-write-rows same-length returns)
+    tie.close (tie.spec wide32-requires mul-rows add-rows mul-rows-2 slice-write-rows same-length returns)

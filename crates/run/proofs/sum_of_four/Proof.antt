@@ -6,41 +6,41 @@ use Rattle.run.proofs.InARow.{ticks-four}
 use Rattle.run.proofs.sum_of_four.Statement.{statement}
 use Rattle.run.proofs.sum_of_four.Tie as tie
 
-shared-slice-read-wide : tie.Need-shared-slice-read-wide
-shared-slice-read-wide c = search needs
+shared-slice-read-wide32 : tie.Need-shared-slice-read-wide32
+shared-slice-read-wide32 c = search needs
 
-wide-requires : tie.Need-wide-requires
-wide-requires c κs = search needs
+wide32-requires : tie.Need-wide32-requires
+wide32-requires c κs = search needs
 
-add-wide : tie.Need-add-wide
-add-wide c = search needs
+add-wide32 : tie.Need-add-wide32
+add-wide32 c = search needs
 
-shared-slice-read-wide-2 : tie.Need-shared-slice-read-wide-2
-shared-slice-read-wide-2 c = search needs
+shared-slice-read-wide32-2 : tie.Need-shared-slice-read-wide32-2
+shared-slice-read-wide32-2 c = search needs
 
-wide-requires-2 : tie.Need-wide-requires-2
-wide-requires-2 c κs = search needs
+wide32-requires-2 : tie.Need-wide32-requires-2
+wide32-requires-2 c κs = search needs
 
 add-first : tie.Need-add-first
 add-first c = search needs
 
-add-wide-2 : tie.Need-add-wide-2
-add-wide-2 c = search needs
+add-wide32-2 : tie.Need-add-wide32-2
+add-wide32-2 c = search needs
 
-shared-slice-read-wide-3 : tie.Need-shared-slice-read-wide-3
-shared-slice-read-wide-3 c = search needs
+shared-slice-read-wide32-3 : tie.Need-shared-slice-read-wide32-3
+shared-slice-read-wide32-3 c = search needs
 
-wide-requires-3 : tie.Need-wide-requires-3
-wide-requires-3 c κs = search needs
+wide32-requires-3 : tie.Need-wide32-requires-3
+wide32-requires-3 c κs = search needs
 
-add-wide-3 : tie.Need-add-wide-3
-add-wide-3 c = search needs
+add-wide32-3 : tie.Need-add-wide32-3
+add-wide32-3 c = search needs
 
-shared-slice-read-wide-4 : tie.Need-shared-slice-read-wide-4
-shared-slice-read-wide-4 c = search needs
+shared-slice-read-wide32-4 : tie.Need-shared-slice-read-wide32-4
+shared-slice-read-wide32-4 c = search needs
 
-wide-requires-4 : tie.Need-wide-requires-4
-wide-requires-4 c κs = search needs
+wide32-requires-4 : tie.Need-wide32-requires-4
+wide32-requires-4 c κs = search needs
 
 add-result : tie.Need-add-result
 add-result c = search needs
@@ -51,10 +51,10 @@ add-result-2 c = search needs
 returns : tie.Need-returns
 returns c =
     let a = c .before .before .before .before .before .before .before .before .before .args in
-    let x = c .before .before .before .before .before .before .wide .ensures in
-    let y = c .before .before .before .before .wide2 .ensures in
-    let z = c .before .before .wide3 .ensures in
-    let w = c .wide4 .ensures in (
+    let x = c .before .before .before .before .before .before .wide32 .ensures in
+    let y = c .before .before .before .before .wide322 .ensures in
+    let z = c .before .before .wide323 .ensures in
+    let w = c .wide324 .ensures in (
       omega (arith, x .1, y .1, z .1, w .1),
       λ e. ticks-four (a .choices .now) (a .at) (omega (arith, x, y, z, w)) (omega (arith, x, y, z, w)) (omega (arith, x, y, z, w)) (omega (arith, x, y, z, w)),
     )
@@ -63,18 +63,18 @@ pub sum-of-four-spec : {M : Type 1} → statement M
 sum-of-four-spec =
     tie.close
     (tie.spec
-    shared-slice-read-wide
-    wide-requires
-    add-wide
-    shared-slice-read-wide-2
-    wide-requires-2
+    shared-slice-read-wide32
+    wide32-requires
+    add-wide32
+    shared-slice-read-wide32-2
+    wide32-requires-2
     add-first
-    add-wide-2
-    shared-slice-read-wide-3
-    wide-requires-3
-    add-wide-3
-    shared-slice-read-wide-4
-    wide-requires-4
+    add-wide32-2
+    shared-slice-read-wide32-3
+    wide32-requires-3
+    add-wide32-3
+    shared-slice-read-wide32-4
+    wide32-requires-4
     add-result
     add-result-2
     returns)

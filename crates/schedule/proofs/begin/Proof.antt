@@ -39,30 +39,30 @@ loop-holds c =
     let n : c .before .wide .result ≡ size (readOf s .table) = c .before .wide .ensures .0 ∙ counted s b (e .pre .0) in
     (omega arith, n, omega (arith, n, few-components s b (e .pre .0)), refl, refl, refl, begin-first s (e .args .rows .now) _ _ (e .pre .0))
 
-mul-wide16 : tie.Need-mul-wide16 Inv-loop μ-loop
-mul-wide16 c = search needs
+mul-word-place : tie.Need-mul-word-place Inv-loop μ-loop
+mul-word-place c = search needs
 
-array-read-wide16 : tie.Need-array-read-wide16 Inv-loop μ-loop
-array-read-wide16 c = search needs
+array-read-word-place : tie.Need-array-read-word-place Inv-loop μ-loop
+array-read-word-place c = search needs
 
-wide16-requires : tie.Need-wide16-requires Inv-loop μ-loop
-wide16-requires c κs = search needs
+word-place-requires : tie.Need-word-place-requires Inv-loop μ-loop
+word-place-requires c κs = search needs
 
 -- the component is there
 there : (c : tie.In-loop Inv-loop μ-loop) → c .before .loop .component < size (readOf (c .before .before .before .before .before .before .before .before .args .table .now) .table)
 there c = omega (arith, c .loop-test .taken, c .before .loop .inv .1)
 
 -- where it starts
-start-is : (c : tie.After-wide16 Inv-loop μ-loop) → c .wide16 .result ≡ startOf (c .before .before .before .before .before .before .before .before .before .args .table .now) (c .before .before .loop .component)
+start-is : (c : tie.After-word-place Inv-loop μ-loop) → c .word-place .result ≡ startOf (c .before .before .before .before .before .before .before .before .before .args .table .now) (c .before .before .loop .component)
 start-is c =
     let e = c .before .before .before .before .before .before .before .before .before in
-    start-read (e .args .table .now) (c .before .before .before .before .before .before .before .before .shared-slice-known .given) (e .pre .0) (e .args .t2) (c .before .before .loop .component) (c .wide16 .result)
-    (e .pre .1) (there (c .before)) (c .wide16 .ensures .0)
+    start-read (e .args .table .now) (c .before .before .before .before .before .before .before .before .shared-slice-known .given) (e .pre .0) (e .args .t2) (c .before .before .loop .component) (c .word-place .result)
+    (e .pre .1) (there (c .before)) (c .word-place .ensures .0)
 
 start-entry-requires : tie.Need-start-entry-requires Inv-loop μ-loop
 start-entry-requires c κs =
     let e = c .before .before .before .before .before .before .before .before .before in
-    omega (arith, start-fits (e .args .table .now) (c .before .before .before .before .before .before .before .before .shared-slice-known .given) (e .pre .0) (c .before .before .loop .component) (c .wide16 .result) (there (c .before)) (start-is c))
+    omega (arith, start-fits (e .args .table .now) (c .before .before .before .before .before .before .before .before .shared-slice-known .given) (e .pre .0) (c .before .before .loop .component) (c .word-place .result) (there (c .before)) (start-is c))
 
 cast-open : tie.Need-cast-open Inv-loop μ-loop
 cast-open c = search needs
@@ -72,7 +72,7 @@ location-is : (c : tie.After-start-entry Inv-loop μ-loop)
     → c .start-entry .result .location ≡ componentIn (c .before .before .before .before .before .before .before .before .before .before .args .table .now) (c .before .before .before .loop .component) .initial
 location-is c =
     let e = c .before .before .before .before .before .before .before .before .before .before in
-    initial-read (e .args .table .now) (c .before .before .before .before .before .before .before .before .before .shared-slice-known .given) (e .pre .0) (c .before .before .before .loop .component) (c .before .wide16 .result)
+    initial-read (e .args .table .now) (c .before .before .before .before .before .before .before .before .before .shared-slice-known .given) (e .pre .0) (c .before .before .before .loop .component) (c .before .word-place .result)
     (there (c .before .before)) (start-is (c .before)) (c .start-entry .ensures .0)
 
 open-requires : tie.Need-open-requires Inv-loop μ-loop
@@ -122,7 +122,7 @@ put-opened-requires c κs =
     let b = c .before .before .before .before .before .before .before .before .before .before .before .before .before .before .shared-slice-known .given in
     let p = c .before .before .before .before .before in
     let o = c .before .before .before .before .«open» in
-    let z = edge-small (e .args .table .now) b (e .pre .0) (l .component) (p .before .wide16 .result) (c .before .before .opening2 .given .1) (there (p .before .before)) (start-is (p .before)) (o .ensures .1) in
+    let z = edge-small (e .args .table .now) b (e .pre .0) (l .component) (p .before .word-place .result) (c .before .before .opening2 .given .1) (there (p .before .before)) (start-is (p .before)) (o .ensures .1) in
     (omega (arith, l .inv, e .pre), omega (arith, l .inv), z .0, omega arith, omega (arith, p .start-entry .ensures .1), z .1, z .2)
 
 kept-requires : tie.Need-kept-requires Inv-loop μ-loop
@@ -191,9 +191,9 @@ begin-spec =
     wide-requires
     no-node-requires
     loop-holds
-    mul-wide16
-    array-read-wide16
-    wide16-requires
+    mul-word-place
+    array-read-word-place
+    word-place-requires
     start-entry-requires
     cast-open
     open-requires

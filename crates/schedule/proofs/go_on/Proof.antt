@@ -37,8 +37,8 @@ wide-requires c κs = search needs
 word-at-requires : tie.Need-word-at-requires Inv-loop μ-loop
 word-at-requires c κs = let e = c .before .before .before .before .before in omega (arith, header (e .args .table .now) (c .before .shared-slice-known3 .given) (e .pre .0))
 
-wide32-requires : tie.Need-wide32-requires Inv-loop μ-loop
-wide32-requires c κs = search needs
+word32-requires : tie.Need-word32-requires Inv-loop μ-loop
+word32-requires c κs = search needs
 
 loop-holds : tie.Need-loop-holds Inv-loop μ-loop
 loop-holds c =
@@ -46,7 +46,7 @@ loop-holds c =
     let s = e .args .table .now in
     let b = c .before .before .before .before .before .before .shared-slice-known .given in
     let n : c .before .before .wide .result ≡ size (readOf s .table) = c .before .before .wide .ensures .0 ∙ counted s b (e .pre .0) in
-    let h : c .wide32 .result ≡ readOf s .horizon = c .wide32 .ensures .0 ∙ c .before .word-at .ensures ∙ horizon-is s b (e .pre .0) in
+    let h : c .word32 .result ≡ readOf s .horizon = c .word32 .ensures .0 ∙ c .before .word-at .ensures ∙ horizon-is s b (e .pre .0) in
     let few : c .before .before .wide .result ≤ 8 = omega (arith, n, few-components s b (e .pre .0)) in (
       omega arith,
       omega (arith, n, some-components s b (e .pre .0)),
@@ -134,14 +134,14 @@ mul-node c = search needs
 array-copy-out-node : tie.Need-array-copy-out-node Inv-loop μ-loop
 array-copy-out-node c = search needs
 
-mul-wide16 : tie.Need-mul-wide16 Inv-loop μ-loop
-mul-wide16 c = search needs
+mul-word-place : tie.Need-mul-word-place Inv-loop μ-loop
+mul-word-place c = search needs
 
-array-read-wide16 : tie.Need-array-read-wide16 Inv-loop μ-loop
-array-read-wide16 c = search needs
+array-read-word-place : tie.Need-array-read-word-place Inv-loop μ-loop
+array-read-word-place c = search needs
 
-wide16-requires : tie.Need-wide16-requires Inv-loop μ-loop
-wide16-requires c κs = search needs
+word-place-requires : tie.Need-word-place-requires Inv-loop μ-loop
+word-place-requires c κs = search needs
 
 cast-next-turn : tie.Need-cast-next-turn Inv-loop μ-loop
 cast-next-turn c = search needs
@@ -153,7 +153,7 @@ next-turn-requires c κs =
     let g = l .inv .10 in
     let s = e .args .table .now in
     let k = c .before .before .before .before .before .soonest .result in
-    let start = start-read s (c .before .before .before .before .before .before .before .before .before .before .before .before .before .before .shared-slice-known .given) (e .pre .0) (e .args .t2) k (c .wide16 .result) (e .pre .1) (closes (c .before .before .before .before .before) .there) (c .wide16 .ensures .0) in (
+    let start = start-read s (c .before .before .before .before .before .before .before .before .before .before .before .before .before .before .shared-slice-known .given) (e .pre .0) (e .args .t2) k (c .word-place .result) (e .pre .1) (closes (c .before .before .before .before .before) .there) (c .word-place .ensures .0) in (
       g .going .placed,
       start,
       node-stands s (l .rows) (c .before .before .before .before .before .before .before .before .before .before .before .before .before .before .shared-slice-known .given) (l .filled) (l .nodes) (l .ends) g k (closes (c .before .before .before .before .before)),
@@ -266,7 +266,7 @@ go-on-spec =
     shared-slice-read-wide
     wide-requires
     word-at-requires
-    wide32-requires
+    word32-requires
     loop-holds
     slice-aggregate-soonest
     soonest-requires
@@ -280,9 +280,9 @@ go-on-spec =
     returns-2
     mul-node
     array-copy-out-node
-    mul-wide16
-    array-read-wide16
-    wide16-requires
+    mul-word-place
+    array-read-word-place
+    word-place-requires
     cast-next-turn
     next-turn-requires
     enum-known-opening

@@ -30,25 +30,25 @@ loop-holds c =
     let n : c .wide .result ≡ size (readOf s .table) = c .wide .ensures .0 ∙ counted s b (c .before .before .before .before .pre .0) in
     (omega arith, n, omega (arith, n, few-components s b (c .before .before .before .before .pre .0)), indexed-none s (c .before .before .before .before .args .index .now))
 
-mul-wide16 : tie.Need-mul-wide16 Inv-loop μ-loop
-mul-wide16 c = search needs
+mul-word-place : tie.Need-mul-word-place Inv-loop μ-loop
+mul-word-place c = search needs
 
-array-read-wide16 : tie.Need-array-read-wide16 Inv-loop μ-loop
-array-read-wide16 c = search needs
+array-read-word-place : tie.Need-array-read-word-place Inv-loop μ-loop
+array-read-word-place c = search needs
 
-wide16-requires : tie.Need-wide16-requires Inv-loop μ-loop
-wide16-requires c κs = search needs
+word-place-requires : tie.Need-word-place-requires Inv-loop μ-loop
+word-place-requires c κs = search needs
 
 -- the component is there
 there : (c : tie.In-loop Inv-loop μ-loop) → c .before .loop .component < size (readOf (c .before .before .before .before .before .before .args .table .now) .table)
 there c = omega (arith, c .loop-test .taken, c .before .loop .inv .1)
 
 -- where it starts
-start-is : (c : tie.After-wide16 Inv-loop μ-loop) → c .wide16 .result ≡ startOf (c .before .before .before .before .before .before .before .args .table .now) (c .before .before .loop .component)
+start-is : (c : tie.After-word-place Inv-loop μ-loop) → c .word-place .result ≡ startOf (c .before .before .before .before .before .before .before .args .table .now) (c .before .before .loop .component)
 start-is c =
     let e = c .before .before .before .before .before .before .before in
-    start-read (e .args .table .now) (c .before .before .before .before .before .before .shared-slice-known .given) (e .pre .0) (e .args .t2) (c .before .before .loop .component) (c .wide16 .result)
-    (e .pre .1) (there (c .before)) (c .wide16 .ensures .0)
+    start-read (e .args .table .now) (c .before .before .before .before .before .before .shared-slice-known .given) (e .pre .0) (e .args .t2) (c .before .before .loop .component) (c .word-place .result)
+    (e .pre .1) (there (c .before)) (c .word-place .ensures .0)
 
 put-edges-requires : tie.Need-put-edges-requires Inv-loop μ-loop
 put-edges-requires c κs =
@@ -79,7 +79,7 @@ loop-again c =
       omega (arith, c .before .before .before .before .before .loop-test .taken),
       l .inv .1,
       l .inv .2,
-      indexed-turn s (c .before .before .before .before .before .before .before .before .before .before .before .args .index .now) (l .index) (p .last .1 .1 .1 .0) (l .component) (c .before .before .before .before .wide16 .result) (l .inv .3)
+      indexed-turn s (c .before .before .before .before .before .before .before .before .before .before .before .args .index .now) (l .index) (p .last .1 .1 .1 .0) (l .component) (c .before .before .before .before .word-place .result) (l .inv .3)
           (λ d h. limits-of s (c .before .before .before .before .before .before .before .before .before .before .shared-slice-known .given) (c .before .before .before .before .before .before .before .before .before .before .before .pre .0) d (omega (arith, h, here)) .mostArcs) (start-is (c .before .before .before .before)) (p .ensures .0) (p .ensures .1),
     )
 
@@ -98,9 +98,9 @@ index-edges-spec =
     shared-slice-read-wide
     wide-requires
     loop-holds
-    mul-wide16
-    array-read-wide16
-    wide16-requires
+    mul-word-place
+    array-read-word-place
+    word-place-requires
     put-edges-requires
     add-component
     loop-less

@@ -19,8 +19,8 @@ enum-told-2 c = search needs
 word-at-requires : tie.Need-word-at-requires
 word-at-requires c κs = let e = c .before .before .before .before .before .before .before .before .before in omega (arith, header (e .args .table .now) (c .before .before .before .before .before .before .before .before .shared-slice-known .given) (e .pre .0))
 
-wide32-requires : tie.Need-wide32-requires
-wide32-requires c κs = search needs
+word32-requires : tie.Need-word32-requires
+word32-requires c κs = search needs
 
 check-messages-requires : tie.Need-check-messages-requires
 check-messages-requires c κs = let r = c .before .before .before .before .before .before .before .schedule-rows in rows-placed (c .before .before .before .before .before .before .before .before .before .before .before .args .table .now) (r .result) (r .last .1 .1 .0) (r .ensures) (c .before .before .before .enum-told2 .given .1)
@@ -46,8 +46,8 @@ returns-2 c =
     let s = e .args .table .now in
     let r = c .before .before .before .before .before .before .before .before .before .before .before .schedule-rows in
     let w = c .before .before .before .check-messages in
-    plan-faulty s (r .result) (r .last .1 .1 .0) (r .ensures) (c .before .before .before .before .before .before .before .enum-told2 .given .1) (c .before .before .before .before .wide32 .result)
-    (c .before .before .before .before .wide32 .ensures .0 ∙ c .before .before .before .before .before .word-at .ensures ∙ horizon-is s (c .before .before .before .before .before .before .before .before .before .before .before .before .before .before .shared-slice-known .given) (e .pre .0)) (w .result) (w .ensures) (c .before .checked .given .1)
+    plan-faulty s (r .result) (r .last .1 .1 .0) (r .ensures) (c .before .before .before .before .before .before .before .enum-told2 .given .1) (c .before .before .before .before .word32 .result)
+    (c .before .before .before .before .word32 .ensures .0 ∙ c .before .before .before .before .before .word-at .ensures ∙ horizon-is s (c .before .before .before .before .before .before .before .before .before .before .before .before .before .before .shared-slice-known .given) (e .pre .0)) (w .result) (w .ensures) (c .before .checked .given .1)
 
 same-length-3 : tie.Need-same-length-3
 same-length-3 c = search needs
@@ -58,8 +58,8 @@ returns-3 c =
     let s = e .args .table .now in
     let r = c .before .before .before .before .before .before .before .before .before .before .schedule-rows in
     let w = c .before .before .check-messages in
-    plan-accepted s (r .result) (r .last .1 .1 .0) (r .ensures) (c .before .before .before .before .before .before .enum-told2 .given .1) (c .before .before .before .wide32 .result)
-    (c .before .before .before .wide32 .ensures .0 ∙ c .before .before .before .before .word-at .ensures ∙ horizon-is s (c .before .before .before .before .before .before .before .before .before .before .before .before .before .shared-slice-known .given) (e .pre .0)) (w .result) (w .ensures) (c .enum-told3 .given .1)
+    plan-accepted s (r .result) (r .last .1 .1 .0) (r .ensures) (c .before .before .before .before .before .before .enum-told2 .given .1) (c .before .before .before .word32 .result)
+    (c .before .before .before .word32 .ensures .0 ∙ c .before .before .before .before .word-at .ensures ∙ horizon-is s (c .before .before .before .before .before .before .before .before .before .before .before .before .before .shared-slice-known .given) (e .pre .0)) (w .result) (w .ensures) (c .enum-told3 .given .1)
 
 pub plan-rows-spec : {M : Type 1} → statement M
 plan-rows-spec =
@@ -69,7 +69,7 @@ plan-rows-spec =
     enum-told
     enum-told-2
     word-at-requires
-    wide32-requires
+    word32-requires
     check-messages-requires
     enum-known-checked
     enum-told-3

@@ -38,15 +38,15 @@ go-on-requires c κs =
 word-at-requires : tie.Need-word-at-requires
 word-at-requires c κs = omega (arith, header (c .before .before .before .before .before .before .before .before .before .before .before .before .before .before .before .before .before .before .before .before .args .table .now) (c .before .before .before .before .before .before .before .before .before .before .before .before .before .before .before .before .before .before .before .shared-slice-known .given) (c .before .before .before .before .before .before .before .before .before .before .before .before .before .before .before .before .before .before .before .before .pre .0))
 
-wide32-requires : tie.Need-wide32-requires
-wide32-requires c κs = search needs
+word32-requires : tie.Need-word32-requires
+word32-requires c κs = search needs
 
 put-messages-requires : tie.Need-put-messages-requires
 put-messages-requires c κs =
     let e = c .before .before .before .before .before .before .before .before .before .before .before .before .before .before .before .before .before .before .before .before .before .before in
     let g = c .before .before .before .before .before .go-on in
-    let h = c .wide32 .ensures .0 ∙ c .before .word-at .ensures ∙ horizon-is (e .args .table .now) (c .before .before .before .before .before .before .before .before .before .before .before .before .before .before .before .before .before .before .before .before .before .shared-slice-known .given) (e .pre .0) in
-    (g .ensures .placed, told-at (e .args .table .now) (g .result) (g .last .1 .1 .0) (c .wide32 .result) h (g .ensures))
+    let h = c .word32 .ensures .0 ∙ c .before .word-at .ensures ∙ horizon-is (e .args .table .now) (c .before .before .before .before .before .before .before .before .before .before .before .before .before .before .before .before .before .before .before .before .before .shared-slice-known .given) (e .pre .0) in
+    (g .ensures .placed, told-at (e .args .table .now) (g .result) (g .last .1 .1 .0) (c .word32 .result) h (g .ensures))
 
 same-length : tie.Need-same-length
 same-length c = search needs
@@ -62,8 +62,8 @@ returns-2 c =
     let s = c .before .before .before .before .before .before .before .before .before .before .before .before .before .before .before .before .before .before .before .before .before .before .before .before .before .args .table .now in
     let g = c .before .before .before .before .before .before .before .before .go-on in
     let p = c .before .before .put-messages in
-    filled-put s (g .result) (g .last .1 .1 .0) (p .last .1 .0) (c .before .before .before .wide32 .result)
-    (c .before .before .before .wide32 .ensures .0 ∙ c .before .before .before .before .word-at .ensures ∙ horizon-is s (c .before .before .before .before .before .before .before .before .before .before .before .before .before .before .before .before .before .before .before .before .before .before .before .before .shared-slice-known .given) (c .before .before .before .before .before .before .before .before .before .before .before .before .before .before .before .before .before .before .before .before .before .before .before .before .before .pre .0)) (g .ensures) (p .ensures)
+    filled-put s (g .result) (g .last .1 .1 .0) (p .last .1 .0) (c .before .before .before .word32 .result)
+    (c .before .before .before .word32 .ensures .0 ∙ c .before .before .before .before .word-at .ensures ∙ horizon-is s (c .before .before .before .before .before .before .before .before .before .before .before .before .before .before .before .before .before .before .before .before .before .before .before .before .shared-slice-known .given) (c .before .before .before .before .before .before .before .before .before .before .before .before .before .before .before .before .before .before .before .before .before .before .before .before .before .pre .0)) (g .ensures) (p .ensures)
 
 pub schedule-rows-spec : {M : Type 1} → statement M
 schedule-rows-spec =
@@ -78,7 +78,7 @@ schedule-rows-spec =
     slice-aggregate-go-on
     go-on-requires
     word-at-requires
-    wide32-requires
+    word32-requires
     put-messages-requires
     same-length
     returns

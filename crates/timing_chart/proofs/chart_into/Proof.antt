@@ -36,8 +36,8 @@ word-at-requires c κs =
     let e = c .before .before .before .before .before .before .before .before .before in
     omega (arith, header (e .args .table .now) (c .before .before .before .before .before .before .before .before .shared-slice-known .given) (e .pre .0))
 
-wide32-requires : tie.Need-wide32-requires
-wide32-requires c κs = search needs
+word32-requires : tie.Need-word32-requires
+word32-requires c κs = search needs
 
 mul-if1 : tie.Need-mul-if1
 mul-if1 c = search needs
@@ -66,7 +66,7 @@ put-chart-requires c κs =
     let p = c .before .before .before .before .before .before .before .before .before .before .plan-rows in
     let w = c .before .before .before .before .before .wide in
     let count = w .ensures .0 ∙ counted bs b (e .pre .0) in
-    let h = c .before .before .before .wide32 .ensures ∙ c .before .before .before .before .word-at .ensures ∙ horizon-is bs b (e .pre .0) in (
+    let h = c .before .before .before .word32 .ensures .0 ∙ c .before .before .before .before .word-at .ensures ∙ horizon-is bs b (e .pre .0) in (
       placed bs (e .pre .0) (p .result) _ (p .ensures) (c .before .before .before .before .before .before .before .enum-told .given .1),
       count,
       omega (arith, count, few-components bs b (e .pre .0)),
@@ -96,8 +96,8 @@ returns-3 c =
     let p = c .before .before .before .before .before .before .before .before .before .before .before .before .before .plan-rows in
     let w = c .before .before .before .before .before .before .before .before .wide in
     let count = w .ensures .0 ∙ counted bs b (e .pre .0) in
-    let h = c .before .before .before .before .before .before .wide32 .ensures ∙ c .before .before .before .before .before .before .before .word-at .ensures ∙ horizon-is bs b (e .pre .0) in
-    let k = written bs (e .pre .0) (p .result) _ (p .ensures) (c .before .before .before .before .before .before .before .before .before .before .enum-told .given .1) (e .args .chart .now) (w .result) count (c .before .before .before .before .before .before .wide32 .result) h (omega (arith, c .before .before .before .before .before .if1 .left)) in
+    let h = c .before .before .before .before .before .before .word32 .ensures .0 ∙ c .before .before .before .before .before .before .before .word-at .ensures ∙ horizon-is bs b (e .pre .0) in
+    let k = written bs (e .pre .0) (p .result) _ (p .ensures) (c .before .before .before .before .before .before .before .before .before .before .enum-told .given .1) (e .args .chart .now) (w .result) count (c .before .before .before .before .before .before .word32 .result) h (omega (arith, c .before .before .before .before .before .if1 .left)) in
     (sym (ap (λ (x : Call). x .verdict) k), sym (ap (λ (x : Call). x .size) k), c .before .before .put-chart .ensures ∙ sym (ap (λ (x : Call). x .lent) k), omega (arith, count, few-components bs b (e .pre .0)))
 
 pub chart-into-spec : {M : Type 1} → statement M
@@ -112,7 +112,7 @@ chart-into-spec =
     shared-slice-read-wide
     wide-requires
     word-at-requires
-    wide32-requires
+    word32-requires
     mul-if1
     refused-requires-2
     returns

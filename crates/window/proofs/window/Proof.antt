@@ -26,8 +26,8 @@ abbrev μ-loop : tie.MeasureT-loop
 wide-requires : tie.Need-wide-requires Inv-loop μ-loop
 wide-requires c κs = search needs
 
-wide32-requires : tie.Need-wide32-requires Inv-loop μ-loop
-wide32-requires c κs = search needs
+word32-requires : tie.Need-word32-requires Inv-loop μ-loop
+word32-requires c κs = search needs
 
 add-left-of : tie.Need-add-left-of Inv-loop μ-loop
 add-left-of c = search needs
@@ -123,7 +123,7 @@ window-spec =
     Inv-loop
     μ-loop
     wide-requires
-    wide32-requires
+    word32-requires
     add-left-of
     mul-left-of
     array-read-left-of
