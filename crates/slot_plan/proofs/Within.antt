@@ -76,13 +76,13 @@ module _ (slots : Slots) (f : Fits slots) where
         }) empty);
       }
 
-  hub-locations : length (hub slots .locations) ≡ suc (slots .probes)
+  pub hub-locations : length (hub slots .locations) ≡ suc (slots .probes)
   hub-locations = length-append (map (λ i. until (hearTo slots i)) (below (slots .probes))) (until (slots .period) ∷ []) ∙ (let z = length-map (below (slots .probes)) (λ i. until (hearTo slots i)) ∙ length-from (slots .probes) 0 in omega (arith, z))
 
-  hub-slots : length (map (λ i. until (hearTo slots i)) (below (slots .probes))) ≡ slots .probes
+  pub hub-slots : length (map (λ i. until (hearTo slots i)) (below (slots .probes))) ≡ slots .probes
   hub-slots = length-map (below (slots .probes)) (λ i. until (hearTo slots i)) ∙ length-from (slots .probes) 0
 
-  hub-arcs : length (hub slots .arcs) ≡ suc (slots .probes)
+  pub hub-arcs : length (hub slots .arcs) ≡ suc (slots .probes)
   hub-arcs = length-append (map (hearArc slots) (below (slots .probes))) (restArc slots (length (map (λ i. until (hearTo slots i)) (below (slots .probes)))) ∷ []) ∙ (let z = length-map (below (slots .probes)) (hearArc slots) ∙ length-from (slots .probes) 0 in omega (arith, z))
 
   hub-in-limits : ComponentIn (slots .probes) (hub slots)
@@ -126,7 +126,7 @@ module _ (slots : Slots) (f : Fits slots) where
   unfolding componentBytes bodyBytes each arcBytes itemBytes
   probe-length i = refl
 
-  hub-length : length (componentBytes (hub slots)) ≡ 22 + 17 * slots .probes
+  pub hub-length : length (componentBytes (hub slots)) ≡ 22 + 17 * slots .probes
   unfolding componentBytes bodyBytes
   hub-length =
       let a = each-length locationBytes (λ i. until (hearTo slots i)) (until (slots .period)) 3 (slots .probes) 0 (λ i. refl) in
