@@ -9,7 +9,7 @@ use Rattle.text.specs.Words.{ascii, decimal, field, refusalLine}
 abbrev pub noQuestion : List ℕ
 noQuestion = ascii "Does a question have this number?\n"
 
--- "Checks, in this order": the questions by their numbers
+-- "Checks, in this order": the questions by their numbers; 18 is document 02's, wish 4
 abbrev pub questions : List (List ℕ)
 questions =
     noQuestion ∷ ascii "Is the first byte 1 or 2?\n"
@@ -26,6 +26,10 @@ questions =
     ∷ ascii "Does no receive window share a tick with two sends on its channels?\n"
     ∷ ascii "Does the lent buffer hold the result?\n"
     ∷ ascii "Are there at most 1,000,000 choices?\n"
+    ∷ noQuestion
+    ∷ noQuestion
+    ∷ noQuestion
+    ∷ ascii "Are the numbers in range and probes x (slot + 2 x guard) below the period?\n"
     ∷ []
 
 unfoldable pub question : ℕ → List ℕ

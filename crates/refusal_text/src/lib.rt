@@ -88,6 +88,11 @@ fn put_question_on_call(out: &mut [u8], at: usize, number: u8) -> usize
     match number {
         13 => put(out, at, b"Does the lent buffer hold the result?\n"),
         14 => put(out, at, b"Are there at most 1,000,000 choices?\n"),
+        18 => put(
+            out,
+            at,
+            b"Are the numbers in range and probes x (slot + 2 x guard) below the period?\n",
+        ),
         _ => put(out, at, b"Does a question have this number?\n"),
     }
 }
