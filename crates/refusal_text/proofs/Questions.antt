@@ -19,7 +19,7 @@ unfolding question
 no-question number h n =
     by-cases (ℕ-discrete number 15) (λ e. ap question e)
     (λ a. by-cases (ℕ-discrete number 16) (λ e. ap question e)
-    (λ b. by-cases (ℕ-discrete number 17) (λ e. ap question e) (λ c. List·getD-eq-default questions noQuestion (omega arith))))
+    (λ b. by-cases (ℕ-discrete number 17) (λ e. ap question e) (λ c. (let past : 19 ≤ number = omega arith in List·getD-eq-default questions noQuestion past))))
 
 pub not-asked : (number : ℕ) {before after : List ℕ} {at end : ℕ} → 15 ≤ number → (number ≡ 18 → ⊥) → Added before at noQuestion after end
     → Added before at (question number) after end

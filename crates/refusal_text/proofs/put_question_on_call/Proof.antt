@@ -25,6 +25,12 @@ slice-aggregate-put-3 c = search needs
 put-requires-3 : tie.Need-put-requires-3
 put-requires-3 c κs = search needs
 
+slice-aggregate-put-4 : tie.Need-slice-aggregate-put-4
+slice-aggregate-put-4 c = search needs
+
+put-requires-4 : tie.Need-put-requires-4
+put-requires-4 c κs = search needs
+
 same-length : tie.Need-same-length
 same-length c = search needs
 
@@ -47,10 +53,19 @@ same-length-3 : tie.Need-same-length-3
 same-length-3 c = search needs
 
 returns-3 : tie.Need-returns-3
+unfolding question
 returns-3 c =
     let p = c .before .before .put3 in
+    (asked (c .before .before .before .before .before .before .before .args .number) 18 (c .before .before .before .before .before .match .keys3) (p .ensures .0), omega (arith, p .ensures .1))
+
+same-length-4 : tie.Need-same-length-4
+same-length-4 c = search needs
+
+returns-4 : tie.Need-returns-4
+returns-4 c =
+    let p = c .before .before .put4 in
     let rest = c .before .before .before .before .before .match .rest in
-    (not-asked (c .before .before .before .before .before .before .before .args .number) (omega (arith, c .before .before .before .before .before .before .before .pre, rest .1, rest .0 .1)) (p .ensures .0), omega (arith, p .ensures .1))
+    (not-asked (c .before .before .before .before .before .before .before .args .number) (omega (arith, c .before .before .before .before .before .before .before .pre, rest .1, rest .0 .1, rest .0 .0 .1)) (rest .1) (p .ensures .0), omega (arith, p .ensures .1))
 
 pub put-question-on-call-spec : {M : Type 1} → statement M
 put-question-on-call-spec =
@@ -62,9 +77,13 @@ put-question-on-call-spec =
     put-requires-2
     slice-aggregate-put-3
     put-requires-3
+    slice-aggregate-put-4
+    put-requires-4
     same-length
     returns
     same-length-2
     returns-2
     same-length-3
-    returns-3)
+    returns-3
+    same-length-4
+    returns-4)
