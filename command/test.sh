@@ -231,13 +231,13 @@ check 'no file is named' test -z "$(grep verdict err || true)"
 
 for words in '--probes 8 --slot 1 --guard 1 --period 100' '--probes 1 --slot 1 --guard 1 --period 3' '--probes 1 --slot 1 --guard 0 --period 100' \
     '--probes 4294967297 --slot 1 --guard 1 --period 100' '--probes 18446744073709551617 --slot 1 --guard 1 --period 100'; do
-    printf old >old
+    printf kept >kept
     # shellcheck disable=SC2086 # several words
-    call plan $words -o old
+    call plan $words -o kept
     says 1
     complains 'refused 18 255'
     check 'the question is told' grep -q 'The answer is no: Are the numbers in range and probes x (slot + 2 x guard) below the period?' err
-    check 'the file is as it was' test "$(cat old)" = old
+    check 'the file is as it was' test "$(cat kept)" = kept
 done
 
 ## Ends of runs
