@@ -35,9 +35,6 @@ length-from zero a = refl
 length-from (suc n) a = ap suc (length-from n (suc a))
 
 module _ (slots : Slots) (f : Fits slots) where
-  n : ℕ
-  n = slots .probes
-
   -- the hub's parts
   pub hub-arc : (j : ℕ) → j < slots .probes → arcOf (hub slots) j ≡ hearArc slots j
   hub-arc j h = before-last (hearArc slots) (restArc slots (length (map (λ i. until (hearTo slots i)) (below (slots .probes))))) noArc (slots .probes) 0 j h ∙ (let e : 0 + j ≡ j = omega arith in ap (hearArc slots) e)
