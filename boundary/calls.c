@@ -13,19 +13,21 @@ _Static_assert(sizeof(Passage) == 16 && offsetof(Passage, entry) == 4, "passage"
 _Static_assert(sizeof(MeetingsNumbers) == 8 && offsetof(MeetingsNumbers, size) == 4,
                "meetings");
 
-const char *const call_names[CALLS] = {"check", "schedule", "timing_chart", "translate",
-                                       "part",  "run",      "passages",     "meetings",
-                                       "start", "step",     "take_message"};
+const char *const call_names[CALLS] = {"check",    "schedule", "timing_chart", "plan",
+                                       "translate", "part",     "run",          "passages",
+                                       "meetings", "start",    "step",         "take_message"};
 unsigned long made[CALLS];
 uint32_t list[MAX_LIST];
 uint8_t chart[MAX_CHART];
+uint8_t plan[MAX_PLAN];
 uint8_t program[MAX_PROGRAM];
 uint8_t observations[MAX_OBSERVATIONS];
 Passage passages[MAX_PASSAGES];
 uint32_t met[MAX_MET];
 
 static struct place table_place, choices_place, bytes_place, part_place;
-static struct place list_place, chart_place, program_place, observations_place;
+static struct place list_place, chart_place, plan_place, program_place;
+static struct place observations_place;
 static struct place passages_place, met_place, node_place;
 
 void calls_start(void) {
@@ -35,6 +37,7 @@ void calls_start(void) {
     part_place = place_new(MAX_PART + 1);
     list_place = place_new(sizeof list);
     chart_place = place_new(MAX_LIST);
+    plan_place = place_new(MAX_LIST);
     program_place = place_new(MAX_PROGRAM);
     observations_place = place_new(MAX_OBSERVATIONS);
     passages_place = place_new(sizeof passages);
@@ -103,6 +106,27 @@ CallNumbers guarded_timing_chart(enum where where, struct bytes table, size_t le
     for (size_t i = 0; i < answer.size / CHART_ROW; i++)
         if (!is_chart_row(chart + CHART_ROW * i, i))
             fail("a row of the chart cannot be");
+    return answer;
+}
+
+/* Every plan written is a table that the check accepts. */
+CallNumbers guarded_plan(enum where where, struct slots slots, size_t lent) {
+    uint8_t *out = place_output(&plan_place, where, lent);
+    CallNumbers answer = timed_network_plan(slots.probes, slots.slot, slots.guard,
+                                            slots.period, out, lent);
+    made[PLAN]++;
+    if (answer.number != 0 && answer.number != 13 && answer.number != 18)
+        fail("there is no such refusal of a plan");
+    if (answer.component != 255)
+        fail("a plan concerns no component");
+    if (answer.number == 0 ? answer.size != 29 + 55 * slots.probes : answer.size != 0)
+        fail("the size cannot be");
+    place_output_done(&plan_place, answer.size, plan);
+    if (answer.number == 0) {
+        struct bytes table = {plan, answer.size};
+        if (guarded_check(where, table).number != 0)
+            fail("a plan is not accepted");
+    }
     return answer;
 }
 

@@ -12,6 +12,7 @@ enum {
     MAX_MET = FIELDS * (MAX_PASSAGES + 1),
     CHART_ROW = 69,
     MAX_CHART = 8 * CHART_ROW,
+    MAX_PLAN = 414,
     MAX_TABLE = 12288,
     MAX_PROGRAM = 24576,
     MAX_PART = 65535,
@@ -25,11 +26,17 @@ struct bytes {
     size_t length;
 };
 
+/* What a plan is made from: probes, slot, guard, period. */
+struct slots {
+    uint32_t probes, slot, guard, period;
+};
+
 /* The exported calls. */
 enum call {
     CHECK,
     SCHEDULE,
     TIMING_CHART,
+    PLAN,
     TRANSLATE,
     PART,
     RUN,
@@ -48,6 +55,7 @@ extern unsigned long made[CALLS];
 /* What the last call that writes has written, without what was lent past it. */
 extern uint32_t list[MAX_LIST];
 extern uint8_t chart[MAX_CHART];
+extern uint8_t plan[MAX_PLAN];
 extern uint8_t program[MAX_PROGRAM];
 extern uint8_t observations[MAX_OBSERVATIONS];
 extern Passage passages[MAX_PASSAGES];
@@ -59,6 +67,7 @@ void calls_start(void);
 VerdictNumbers guarded_check(enum where where, struct bytes table);
 CallNumbers guarded_schedule(enum where where, struct bytes table, size_t lent);
 CallNumbers guarded_timing_chart(enum where where, struct bytes table, size_t lent);
+CallNumbers guarded_plan(enum where where, struct slots slots, size_t lent);
 CallNumbers guarded_translate(enum where where, struct bytes table, size_t lent);
 PartNumbers guarded_part(enum where where, struct bytes bytes, uint8_t node);
 RunNumbers guarded_run(enum where where, struct bytes table,

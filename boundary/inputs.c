@@ -20,7 +20,7 @@ void state_length(uint8_t *table, size_t length) {
 
 struct bytes random_table(void) {
     const struct stored *base = &cases[random_below(case_count)];
-    while (base->request == PART || base->table.length > 2000)
+    while (base->request == PART || base->request == PLAN || base->table.length > 2000)
         base = &cases[random_below(case_count)];
     size_t length = base->table.length;
     if (length > 0)

@@ -6,7 +6,7 @@
  *
  * First the cases of vectors/ and corpus/ with their answers, each run also
  * with its nodes driven one at a time; then lent memory of every length about
- * the one needed; then tables cut at every length; then random rounds from the
+ * the one needed, plans of all counts of probes among them; then tables cut at every length; then random rounds from the
  * seed. Ends at the first fault, with status 1.
  */
 #include <stdio.h>
@@ -100,6 +100,38 @@ static void lent_for_meetings(void) {
             for (int where = 0; where < PLACES; where++)
                 lend_for_meetings((enum where)where, cases[i].table, more);
     }
+}
+
+/* Bytes of every length for a plan of these numbers, which need not be in range. */
+static void lend_for_plan(enum where where, struct slots slots, long more) {
+    CallNumbers ample = guarded_plan(where, slots, MAX_LIST);
+    size_t needed = ample.number == 0 ? ample.size : 0;
+    long sum = (long)needed + more;
+    size_t lent = sum < 0 ? 0 : (size_t)sum;
+    same(guarded_plan(where, slots, lent).number ==
+             (ample.number != 0 ? 18 : lent < needed ? 13 : 0),
+         "bytes for a plan are refused or taken wrongly");
+}
+
+static void lent_for_plans(void) {
+    trying("lent lengths for plans", "");
+    for (uint32_t probes = 0; probes <= 8; probes++) {
+        struct slots slots = {probes, 40, 5, 500};
+        for (long more = -420; more <= 2; more += more < -2 ? 19 : 1)
+            for (int where = 0; where < PLACES; where++)
+                lend_for_plan((enum where)where, slots, more);
+    }
+}
+
+/* Any number, most of them in the range that ends here or next to it. */
+static uint32_t near_range(size_t most) {
+    return (uint32_t)(random_below(8) ? random_below(most + 2) : random_number());
+}
+
+static void random_plan(enum where where) {
+    struct slots slots = {near_range(7), near_range(random_below(2) ? 9 : 1000),
+                          near_range(random_below(2) ? 9 : 1000), near_range(30000)};
+    lend_for_plan(where, slots, (long)random_below(5) - 2);
 }
 
 static void all_calls(enum where where, struct bytes table, struct bytes choices,
@@ -205,6 +237,7 @@ static void rounds(unsigned long count) {
             }
         }
         lend_for_meetings(where, table, (long)random_below(5) - 2);
+        random_plan(where);
         struct bytes bytes = random_program(length);
         PartNumbers part = guarded_part(where, bytes, random_node());
         nodes_random(where, of(bytes.at + part.start, part.length));
@@ -227,6 +260,7 @@ int main(int count, char **words) {
     single_nodes();
     lent_lengths();
     lent_for_meetings();
+    lent_for_plans();
     cuts();
     cut_programs();
     many_choices();

@@ -42,6 +42,7 @@ static MeetingsNumbers meetings;
 struct lent {
     struct bytes bytes, choices;
     uint8_t number;
+    struct slots slots;
 };
 
 static void call(int request, const struct lent *lent) {
@@ -56,6 +57,10 @@ static void call(int request, const struct lent *lent) {
         break;
     case TIMING_CHART:
         called = timed_network_timing_chart(bytes, length, chart, MAX_CHART);
+        break;
+    case PLAN:
+        called = timed_network_plan(lent->slots.probes, lent->slots.slot, lent->slots.guard,
+                                    lent->slots.period, plan, MAX_PLAN);
         break;
     case TRANSLATE:
         called = timed_network_translate(bytes, length, program, MAX_PROGRAM);
@@ -134,7 +139,7 @@ static void each_part(int request, measure *measure, const struct stored *stored
                                                   program, MAX_PROGRAM);
     for (uint8_t c = 0; made_of.number == 0 && c < 8; c++) {
         PartNumbers part = timed_network_part(program, made_of.size, c);
-        struct lent lent = {{program + part.start, part.length}, {NULL, 0}, 0};
+        struct lent lent = {{program + part.start, part.length}, {NULL, 0}, 0, {0, 0, 0, 0}};
         if (part.length > 0)
             each_statement(request, measure, &lent);
     }
@@ -143,7 +148,7 @@ static void each_part(int request, measure *measure, const struct stored *stored
 static void each_case(int request, measure *measure) {
     for (size_t i = 0; i < case_count; i++) {
         const struct stored *stored = &cases[i];
-        struct lent lent = {stored->table, stored->choices, stored->node};
+        struct lent lent = {stored->table, stored->choices, stored->node, stored->slots};
         if (request < START)
             note(request, measure(request, &lent));
         else if (stored->request == TRANSLATE)
@@ -152,7 +157,7 @@ static void each_case(int request, measure *measure) {
 }
 
 static void *measured(void *nothing) {
-    struct lent lent = {cases[0].table, cases[0].choices, 0};
+    struct lent lent = {cases[0].table, cases[0].choices, 0, {0, 0, 0, 0}};
     call(RUN, &lent); /* memcpy and memset are found now, not below */
     for (int request = 0; request < CALLS; request++)
         each_case(request, depth);

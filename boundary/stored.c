@@ -67,8 +67,19 @@ static char *cut(char *text, char end) {
     return at + 1;
 }
 
+/* The four numbers of a plan, then, where it is said, how many bytes are lent. */
+static void read_slots(struct stored *stored, const char *words) {
+    unsigned long probes, slot, guard, period, lent = MAX_PLAN;
+    if (sscanf(words, "%lu %lu %lu %lu %lu", &probes, &slot, &guard, &period, &lent) < 4)
+        fail("a plan is not understood");
+    struct slots slots = {(uint32_t)probes, (uint32_t)slot, (uint32_t)guard,
+                          (uint32_t)period};
+    stored->slots = slots;
+    stored->lent = lent;
+}
+
 static void read_vectors(const char *root, const char *path) {
-    static const char *const words[] = {"check",   "schedule", "chart",
+    static const char *const words[] = {"check",   "schedule", "chart", "plan",
                                         "program", "part",     "run"};
     char *line = (char *)read_file(root, path).at;
     while (*line != 0) {
@@ -82,6 +93,11 @@ static void read_vectors(const char *root, const char *path) {
         if (word > RUN)
             fail("a request is not understood");
         struct stored *stored = add(line, (enum call)word, answer);
+        if (word == PLAN) {
+            read_slots(stored, table);
+            line = next;
+            continue;
+        }
         int has_more = word >= PART || (word == TIMING_CHART && strchr(table, ' ') != NULL);
         char *more = has_more ? cut(table, ' ') : NULL;
         stored->table = from_hex(table);
@@ -121,6 +137,7 @@ void stored_read(const char *root) {
     read_vectors(root, "vectors/random.tsv");
     read_vectors(root, "vectors/chart.tsv");
     read_vectors(root, "vectors/bands.tsv");
+    read_vectors(root, "vectors/plan.tsv");
     read_corpus(root);
 }
 
@@ -183,6 +200,12 @@ static void write_chart(const struct stored *stored, enum where where) {
     text[used] = 0;
 }
 
+static void write_plan(const struct stored *stored, enum where where) {
+    CallNumbers answer = guarded_plan(where, stored->slots, stored->lent);
+    if (!write_refusal(answer.number, answer.component))
+        write_hex(plan, answer.size);
+}
+
 static void write_program(const struct stored *stored, enum where where) {
     CallNumbers answer = guarded_translate(where, stored->table, MAX_PROGRAM);
     if (!write_refusal(answer.number, answer.component))
@@ -213,7 +236,7 @@ static void write_run(const struct stored *stored, enum where where) {
 
 void stored_try(const struct stored *stored, enum where where) {
     static void (*const writers[])(const struct stored *, enum where) = {
-        write_check,   write_schedule, write_chart,
+        write_check,   write_schedule, write_chart, write_plan,
         write_program, write_part,     write_run};
     trying("a stored case", stored->name);
     used = 0;

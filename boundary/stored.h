@@ -8,7 +8,8 @@ struct stored {
     char *name;
     enum call request;    /* CHECK to RUN */
     struct bytes table;   /* for PART the program */
-    size_t lent;          /* for TIMING_CHART */
+    size_t lent;          /* for TIMING_CHART and PLAN */
+    struct slots slots;   /* for PLAN, which has no table */
     struct bytes choices; /* for RUN */
     uint8_t node;         /* for PART */
     char *answer;

@@ -19,6 +19,7 @@ NodeRegisters __real_timed_network_start(const uint8_t *, size_t);
 void __real_timed_network_step(NodeRegisters *, const uint8_t *, size_t, uint8_t, uint8_t);
 void __real_timed_network_take_message(NodeRegisters *, const uint8_t *, size_t, uint8_t);
 CallNumbers __real_timed_network_timing_chart(const uint8_t *, size_t, uint8_t *, size_t);
+CallNumbers __real_timed_network_plan(uint32_t, uint32_t, uint32_t, uint32_t, uint8_t *, size_t);
 
 VerdictNumbers __wrap_timed_network_check(const uint8_t *, size_t);
 CallNumbers __wrap_timed_network_schedule(const uint8_t *, size_t, uint32_t *, size_t);
@@ -32,6 +33,7 @@ NodeRegisters __wrap_timed_network_start(const uint8_t *, size_t);
 void __wrap_timed_network_step(NodeRegisters *, const uint8_t *, size_t, uint8_t, uint8_t);
 void __wrap_timed_network_take_message(NodeRegisters *, const uint8_t *, size_t, uint8_t);
 CallNumbers __wrap_timed_network_timing_chart(const uint8_t *, size_t, uint8_t *, size_t);
+CallNumbers __wrap_timed_network_plan(uint32_t, uint32_t, uint32_t, uint32_t, uint8_t *, size_t);
 
 static int wrong(int fault) {
     static int chosen = -1;
@@ -204,5 +206,20 @@ CallNumbers __wrap_timed_network_timing_chart(const uint8_t *table, size_t lengt
         chart[answer.size] = 0; /* writes past the result */
     if (wrong(45) && answer.number == 13 && chart_length > 0)
         chart[0] = 'C'; /* writes where too little is lent */
+    return answer;
+}
+
+CallNumbers __wrap_timed_network_plan(uint32_t probes, uint32_t slot, uint32_t guard,
+                                      uint32_t period, uint8_t *table, size_t length) {
+    CallNumbers answer =
+        __real_timed_network_plan(probes, slot, guard, period, table, length);
+    if (wrong(46) && answer.number == 0 && answer.size < length)
+        table[answer.size] = 0; /* writes past the result */
+    if (wrong(47) && answer.number == 13 && length > 0)
+        table[0] = 1; /* writes where too little is lent */
+    if (wrong(48) && answer.number == 18 && length == 0)
+        answer.number = 13; /* 13 before 18 */
+    if (wrong(49) && answer.number == 0)
+        table[16] -= 1; /* a bound one tick too low */
     return answer;
 }

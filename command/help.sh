@@ -8,6 +8,8 @@ usage: vanillatarn COMMAND ...
   verdict TABLE                             whether the table is accepted; if not, why
   schedule TABLE                            its schedule, a line a passage
   chart TABLE                               its schedule as a chart, a row a component
+  plan --probes N --slot S --guard G --period P [-o FILE]
+                                            a table in which each probe has a slot
   translate TABLE [-o FILE]                 the program of its nodes
   list PROGRAM                              a program, a statement a line
   part PROGRAM NODE [-o FILE]               the part of a program that belongs to one node
@@ -24,8 +26,9 @@ file of -o is left as it was.
 
 Exit status
   0  fine
-  1  the answer is no: a table is refused, a run ends late or with a choice that
-     is not allowed, a program is damaged or has no such part, a text has a fault
+  1  the answer is no: a table or a plan is refused, a run ends late or with a
+     choice that is not allowed, a program is damaged or has no such part, a text
+     has a fault
   2  wrong use; a file that cannot be read or written, is empty or too long
   3  a tool is missing, could not be built or failed; standard output, standard
      error or the scratch folder cannot be written
@@ -65,6 +68,21 @@ tick there, else R for receive, else W for internal, else a dot; a cell without
 ticks is a space.
 
 Exit status: 0 printed, 1 the table is refused.
+TEXT
+        plan) cat <<'TEXT' ;;
+usage: vanillatarn plan --probes N --slot S --guard G --period P [-o FILE]
+
+Writes the table of a cellar with one hub and N probes (1 to 7), in which each
+probe has a slot of its own in every period of P ticks (at most 30,000). In its
+slot a probe sends from one tick to S ticks later (1 to 1,000); the hub listens
+G ticks longer on both sides (1 to 1,000). The slots with their guards have to
+fit: N x (S + 2 x G) must be below P. The probes are components 0 upward, the
+hub is the last one, and the horizon is two periods.
+
+Every table written is accepted: that is proved.
+
+Exit status: 0 written, 1 refused: a number is outside its range, or the slots do
+not fit the period.
 TEXT
         translate) cat <<'TEXT' ;;
 usage: vanillatarn translate TABLE [-o FILE]

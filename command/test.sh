@@ -64,12 +64,13 @@ head -c 65536 /dev/zero >longer
 "$root/vanillatarn" verdict cellar.bin >out
 "$root/vanillatarn" schedule cellar.bin >out
 "$root/vanillatarn" chart cellar.bin >out
+"$root/vanillatarn" plan --probes 1 --slot 1 --guard 1 --period 4 -o plan.bin
 "$root/vanillatarn" translate cellar.bin -o program.bin
 "$root/vanillatarn" list program.bin >out
 "$root/vanillatarn" part program.bin 0 -o part0.bin
 "$root/vanillatarn" choices cellar.bin -o early.bin
 "$root/vanillatarn" run cellar.bin early.bin >out
-rm cellar.bin program.bin part0.bin early.bin
+rm cellar.bin plan.bin program.bin part0.bin early.bin
 
 ## Help
 
@@ -79,7 +80,7 @@ starts 'usage: vanillatarn COMMAND ...'
 cp out help
 call -h
 gives help
-for command in verdict schedule chart translate list part run choices text table; do
+for command in verdict schedule chart plan translate list part run choices text table; do
     call --help
     check "the help names $command" grep -q "^  $command " out
     call "$command" --help
@@ -108,6 +109,16 @@ for name in priority one_tick_cells empty_cells; do
     says 0
     gives "$corpus/accepted_chart_$name.chart"
 done
+call plan --probes 3 --slot 40 --guard 5 --period 500 -o plan.bin
+says 0
+gives empty
+check 'the plan is that of the corpus' cmp -s plan.bin "$corpus/accepted_plan_three_probes.bin"
+call plan --period 0500 --guard 5 --slot 40 --probes 3
+says 0
+gives plan.bin
+call verdict plan.bin
+says 0
+starts accepted
 call translate -o program.bin cellar.bin
 says 0
 check 'the program is the stored one' cmp -s program.bin "$root/crates/translate_table/stdout"
@@ -215,6 +226,19 @@ call translate - <incident.bin
 says 1
 complains 'refused 16 0'
 check 'no file is named' test -z "$(grep verdict err || true)"
+
+## Refused plans
+
+for words in '--probes 8 --slot 1 --guard 1 --period 100' '--probes 1 --slot 1 --guard 1 --period 3' '--probes 1 --slot 1 --guard 0 --period 100' \
+    '--probes 4294967297 --slot 1 --guard 1 --period 100' '--probes 18446744073709551617 --slot 1 --guard 1 --period 100'; do
+    printf kept >kept
+    # shellcheck disable=SC2086 # several words
+    call plan $words -o kept
+    says 1
+    complains 'refused 18 255'
+    check 'the question is told' grep -q 'The answer is no: Are the numbers in range and probes x (slot + 2 x guard) below the period?' err
+    check 'the file is as it was' test "$(cat kept)" = kept
+done
 
 ## Ends of runs
 
@@ -387,6 +411,12 @@ translate cellar.bin -o|-o lacks its file
 schedule cellar.bin -o file|'schedule' has no option -o
 chart cellar.bin -o file|'chart' has no option -o
 translate --late cellar.bin|'translate' has no option --late
+plan --probes 1 --slot 1 --guard 1|--period is missing
+plan --probes|--probes lacks its number
+plan --probes x --slot 1 --guard 1 --period 4|--probes 'x' is not a number
+plan --probes 1 --probes 2|--probes is given twice
+plan 1 1 1 4|one word too many: 1
+verdict --probes 1 cellar.bin|'verdict' has no option --probes
 TEXT
 
 # shellcheck source=command/test_build.sh

@@ -10,7 +10,7 @@ corpus="$root/corpus"
 work="$(mktemp -d)"
 trap 'rm -rf -- "$work"' EXIT
 cd "$root"
-rt check schedule_printer chart_printer verdict_printer translate_table program_listing trial_run >"$work/built" || { cat "$work/built"; exit 1; }
+rt check schedule_printer chart_printer verdict_printer plan_table translate_table program_listing trial_run >"$work/built" || { cat "$work/built"; exit 1; }
 cd "$work"
 
 passed=0 failed=0
@@ -96,6 +96,31 @@ full translate_table 'The program could not be written.'
 full program_listing 'The listing could not be written.'
 "$programs/trial_run" "$corpus/probe_and_hub.bin" /dev/null >/dev/full 2>err || true
 check 'trial_run: an output that cannot be written is told' grep -q -F 'The run could not be written.' err
+"$programs/plan_table" 3 40 5 500 >/dev/full 2>err || true
+check 'plan_table: an output that cannot be written is told' grep -q -F 'The table could not be written.' err
+
+# Plans: each of the vectors that lends enough, as bytes or as a refusal in words.
+while IFS=$'\t' read -r name request answer; do
+    read -r word probes slot guard period lent <<<"$request"
+    [[ $word == plan && -z $lent ]] || continue
+    "$programs/plan_table" "$probes" "$slot" "$guard" "$period" >out 2>err
+    if [[ $answer == refused* ]]; then
+        check "plan_table, $name: refused" test "$(head -n 1 err)" = "$answer"
+        check "plan_table, $name: no bytes" test ! -s out
+    else
+        check "plan_table, $name" test "$(od -An -v -tx1 out | tr -d ' \n')" = "$answer"
+        check "plan_table, $name: nothing is said" test ! -s err
+    fi
+done <"$root/vectors/plan.tsv"
+for words in '' '1 1 1' '1 1 1 4 5'; do
+    # shellcheck disable=SC2086 # several words
+    "$programs/plan_table" $words >out 2>err
+    check "plan_table, '$words': usage" grep -q '^usage: plan_table ' err
+done
+for word in x -1 1x 4294967296 99999999999999999999 ''; do
+    "$programs/plan_table" "$word" 1 1 4 >out 2>err
+    check "plan_table, probes '$word': 18" test "$(head -n 1 err)" = 'refused 18 255'
+done
 
 printf '%d passed, %d failed\n' "$passed" "$failed"
 [[ $failed -eq 0 ]]

@@ -89,8 +89,8 @@ VerdictNumbers timed_network_check(const uint8_t *table, size_t length);
  *
  *  13  the lent memory does not hold the result; component 255
  *
- * size: how many passages, or bytes of a chart or a program, were written; 0
- * after a refusal.
+ * size: how many passages, or bytes of a chart, a table or a program, were
+ * written; 0 after a refusal.
  */
 typedef struct CallNumbers {
     uint8_t number;
@@ -143,6 +143,36 @@ CallNumbers timed_network_schedule(const uint8_t *table, size_t length,
  */
 CallNumbers timed_network_timing_chart(const uint8_t *table, size_t length,
                                        uint8_t *chart, size_t chart_length);
+
+/*
+ * Writes the table of a plan: a cellar with one hub and `probes` probes, in
+ * which each probe has a slot of its own (document 02, wish 4).
+ *
+ * probes: 1 to 7. They are components 0 upward, and the hub is the last one.
+ * slot:   the ticks from the first to the last at which a probe may send, 1 to
+ *         1,000.
+ * guard:  the ticks that the hub listens longer on both sides, 1 to 1,000.
+ * period: the ticks after which all begin anew, at most 30,000. The slots with
+ *         their guards have to fit: probes x (slot + 2 x guard) < period.
+ * table:  the first of `length` bytes that can be written.
+ * length: how many bytes there are. 29 + 55 x 7 = 414 are always enough. It
+ *         may be 0; then the pointer is not used.
+ *
+ * Probe i, from 0, sends on channel i from tick i x (slot + 2 x guard) + guard
+ * of each period to `slot` ticks later. The table is of version 1, and its
+ * horizon is 2 x period. Every table written is accepted by
+ * timed_network_check. The size of the answer is 29 + 55 x probes. The bytes
+ * past it stay as they were; after a refusal all of them do.
+ *
+ * Refused with one number more, component 255:
+ *
+ *  18  a number is outside its range, or probes x (slot + 2 x guard) is not
+ *      below the period
+ *
+ * then with 13 where length is below 29 + 55 x probes, and with nothing else.
+ */
+CallNumbers timed_network_plan(uint32_t probes, uint32_t slot, uint32_t guard,
+                               uint32_t period, uint8_t *table, size_t length);
 
 /*
  * Writes the program bytes of a table: the programs of all its nodes, laid

@@ -9,7 +9,8 @@ use Rattle.text.specs.Words.{ascii, decimal, field, refusalLine}
 abbrev pub noQuestion : List ℕ
 noQuestion = ascii "Does a question have this number?\n"
 
--- "Checks, in this order": the questions by their numbers. 11 and 15 to 17 are its question 11 in parts, as document 02's wish 3 tells them apart.
+-- "Checks, in this order": the questions by their numbers. 11 and 15 to 17 are its question 11 in parts, as document 02's wish 3 tells them apart;
+-- 18 is of its wish 4.
 abbrev pub questions : List (List ℕ)
 questions =
     noQuestion ∷ ascii "Is the first byte 1 or 2?\n"
@@ -29,6 +30,7 @@ questions =
     ∷ ascii "Does only one receive window on its channel share a tick with the send?\n"
     ∷ ascii "Does the one receive window that meets the send start earlier than it?\n"
     ∷ ascii "Does the one receive window that meets the send end later than it?\n"
+    ∷ ascii "Are the numbers in range and probes x (slot + 2 x guard) below the period?\n"
     ∷ []
 
 unfoldable pub question : ℕ → List ℕ

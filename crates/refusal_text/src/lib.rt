@@ -93,7 +93,7 @@ fn put_question_on_call(out: &mut [u8], at: usize, number: u8) -> usize
 
 // The questions about the listener of a send.
 fn put_question_on_listener(out: &mut [u8], at: usize, number: u8) -> usize
-    requires { ⌜ (at + 80 ≤ length (now out)) × (15 ≤ number) ⌝ }
+    requires { ⌜ (at + 80 ≤ length (now out)) × (15 ≤ number) × (number < 18) ⌝ }
     ensures { λ r. ⌜ Added (now (out .entry)) at (question number) (now (out .exit)) r × (r ≤ at + 80) ⌝ }
 {
     match number {
@@ -107,10 +107,24 @@ fn put_question_on_listener(out: &mut [u8], at: usize, number: u8) -> usize
             at,
             b"Does the one receive window that meets the send start earlier than it?\n",
         ),
-        17 => put(
+        _ => put(
             out,
             at,
             b"Does the one receive window that meets the send end later than it?\n",
+        ),
+    }
+}
+
+// The question about a plan's numbers; a number past it has none.
+fn put_question_on_plan(out: &mut [u8], at: usize, number: u8) -> usize
+    requires { ⌜ (at + 80 ≤ length (now out)) × (18 ≤ number) ⌝ }
+    ensures { λ r. ⌜ Added (now (out .entry)) at (question number) (now (out .exit)) r × (r ≤ at + 80) ⌝ }
+{
+    match number {
+        18 => put(
+            out,
+            at,
+            b"Are the numbers in range and probes x (slot + 2 x guard) below the period?\n",
         ),
         _ => put(out, at, b"Does a question have this number?\n"),
     }
@@ -126,8 +140,10 @@ fn put_question(out: &mut [u8], at: usize, number: u8) -> usize
         put_question_on_time(out, at, number)
     } else if number < 15 {
         put_question_on_call(out, at, number)
-    } else {
+    } else if number < 18 {
         put_question_on_listener(out, at, number)
+    } else {
+        put_question_on_plan(out, at, number)
     }
 }
 

@@ -3,6 +3,7 @@
 ghost use mathlib.Core.Path.{_≡_};
 ghost use mathlib.Core.Logic.{_↔_};
 ghost use Prim.Native.Nat.{_≤_};
+ghost use lib.ListN.{take};
 ghost use Rattle.model.specs.Program.{partOf};
 ghost use Rattle.model.specs.Calls.{checkCall, scheduleCall, translateCall, runCall, numberOf, concernedOf, endNumber, endNode, Demand3Of};
 ghost use Rattle.model.specs.declared.Verdict.the-variants.{Accepted};
@@ -10,6 +11,8 @@ ghost use Rattle.model.specs.Acceptance.{Accepts};
 ghost use Rattle.model.specs.Observations.{ObservationsRead};
 ghost use Rattle.model.specs.Meetings.{meetingsCall};
 ghost use Rattle.model.specs.Chart.{chartCall};
+ghost use Rattle.slot_plan.specs.Plan.{slotsOf, planCall};
+ghost use Rattle.slot_plan.specs.PlanSchedule.{PlanAccepted};
 ghost use Rattle.node.specs.After.{startOf};
 ghost use Rattle.lent_node.specs.Step.{heldOf, steppedOf, messageOf};
 ghost use Rattle.passages.specs.Passages.{passagesCall};
@@ -20,6 +23,7 @@ use model::End;
 use model::Verdict;
 use node::Node;
 use passages::Passage;
+use slot_plan::Slots;
 
 // A verdict as two numbers: 0 for accepted, else the number of the refusal; and the component concerned, 255 for none.
 #[repr(C)]
@@ -186,6 +190,29 @@ pub extern "C" fn timed_network_timing_chart(table: &[u8], chart: &mut [u8]) -> 
     ensures { λ r. ⌜ (r .number ≡ numberOf (chartCall (now (table .entry)) (now (chart .entry)) .verdict)) × (r .component ≡ concernedOf (chartCall (now (table .entry)) (now (chart .entry)) .verdict)) × (r .size ≡ chartCall (now (table .entry)) (now (chart .entry)) .size) × (now (chart .exit) ≡ chartCall (now (table .entry)) (now (chart .entry)) .lent) ⌝ }
 {
     let c = timing_chart::timing_chart(table, chart);
+    numbers_of(c)
+}
+
+// The table of a slot plan, laid over the front of the bytes lent. Every plan written is accepted, and its schedule is the closed form.
+#[no_mangle]
+pub extern "C" fn timed_network_plan(
+    probes: u32,
+    slot: u32,
+    guard: u32,
+    period: u32,
+    table: &mut [u8],
+) -> CallNumbers
+    ensures { λ r. ⌜ (r .number ≡ numberOf (planCall (slotsOf probes slot guard period) (now (table .entry)) .verdict)) × (r .component ≡ concernedOf (planCall (slotsOf probes slot guard period) (now (table .entry)) .verdict)) × (r .size ≡ planCall (slotsOf probes slot guard period) (now (table .entry)) .size) × (now (table .exit) ≡ planCall (slotsOf probes slot guard period) (now (table .entry)) .lent) × (r .number ≡ 0 → PlanAccepted (slotsOf probes slot guard period) (take (r .size) (now (table .exit)))) ⌝ }
+{
+    let c = planner::plan(
+        Slots {
+            probes,
+            slot,
+            guard,
+            period,
+        },
+        table,
+    );
     numbers_of(c)
 }
 

@@ -16,7 +16,7 @@ use std::env;
 use std::hint::black_box;
 use std::process::ExitCode;
 use tables::Row;
-use timed_network::{CHART_ROW, FIELDS, MAX_PASSAGES, MAX_PROGRAM};
+use timed_network::{Slots, CHART_ROW, FIELDS, MAX_PASSAGES, MAX_PLAN, MAX_PROGRAM};
 
 fn main() -> ExitCode {
     let words: Vec<String> = env::args().skip(1).collect();
@@ -69,6 +69,7 @@ fn measure(effort: Effort) -> Result<(), String> {
         title(row);
         time_run(effort, row, &choices, "a tick");
     }
+    time_plan(effort)?;
     println!("refused tables");
     for (number, table) in &tables::refused() {
         let call = |reader: Reader| move || (reader.check)(black_box(table));
@@ -156,6 +157,32 @@ fn time_calls(effort: Effort, row: &Row) {
     let node = last_node(program);
     let part = |reader: Reader| move || (reader.part)(black_box(program), node).len();
     line("part of the last node", in_turns(effort, sides().map(part)));
+}
+
+/// Seven probes, with the longest slots and guards.
+const PLAN: Slots = Slots {
+    probes: 7,
+    slot: 1000,
+    guard: 1000,
+    period: 30_000,
+};
+
+/// Times a plan, after all sides have written the same bytes.
+fn time_plan(effort: Effort) -> Result<(), String> {
+    let written = sides().map(|side| {
+        let mut table = [0; MAX_PLAN];
+        ((side.plan)(PLAN, &mut table), table)
+    });
+    if written[0] != written[1] || written[0] != written[2] {
+        return Err("the plans differ".to_string());
+    }
+    println!("a plan of seven probes: {MAX_PLAN} bytes");
+    let plan = |reader: Reader| {
+        let mut table = [0; MAX_PLAN];
+        move || (reader.plan)(black_box(PLAN), black_box(&mut table))
+    };
+    line("plan", in_turns(effort, sides().map(plan)));
+    Ok(())
 }
 
 /// Times the start of a run, a run to the horizon, and each of its choices.

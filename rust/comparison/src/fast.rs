@@ -4,7 +4,7 @@
 
 use crate::readers::{refused, Reader};
 use std::cell::RefCell;
-use timed_network::{Call, RunNumbers, Verdict, NO_NODE};
+use timed_network::{Call, RunNumbers, Slots, Verdict, NO_NODE};
 use yardstick::{Refusal, Run, Yardstick};
 
 thread_local! {
@@ -22,6 +22,7 @@ pub(crate) const READER: Reader = Reader {
     schedule,
     translate,
     timing_chart,
+    plan,
     part,
     run,
 };
@@ -43,6 +44,11 @@ fn translate(table: &[u8], program: &mut [u8]) -> Call {
 
 fn timing_chart(table: &[u8], chart: &mut [u8]) -> Call {
     answer(with(|yardstick| yardstick.timing_chart(table, chart)))
+}
+
+fn plan(slots: Slots, table: &mut [u8]) -> Call {
+    let numbers = [slots.probes, slots.slot, slots.guard, slots.period];
+    answer(yardstick::plan(numbers, table))
 }
 
 fn part(program: &[u8], node: u8) -> &[u8] {

@@ -2,7 +2,7 @@
 //! the yardstick of speed.
 //!
 //! Both sides get the same tables, class after class, and are lent lists and bytes
-//! of the same lengths for schedules, charts, programs and observations; the first
+//! of the same lengths for schedules, charts, programs, plans and observations; the first
 //! difference ends the comparison. Each run is also held to demand 3.
 //! [`tables`] makes well-formed tables, [`layout`] and [`bytes`] serve to
 //! damage them, [`runs`] draws choices, [`classes`] lists what is tried,
@@ -135,6 +135,9 @@ fn list_gaps(sum: &Tally) -> impl Iterator<Item = String> {
         (sum.charts.written, "no chart was written"),
         (sum.charts.short, "no chart was too long"),
         (sum.charts.kept, "no refused table was drawn"),
+        (sum.plans.written, "no plan was written"),
+        (sum.plans.short, "no plan was too long"),
+        (sum.plans.kept, "no plan was refused with 18"),
         (sum.parts[0], "no part was found"),
         (sum.parts[1], "no part was empty"),
     ];

@@ -1,11 +1,11 @@
-//! Programs, their parts, and charts: what both write into lent bytes, and what
-//! both find for a node's number.
+//! Programs, their parts, charts and plans: what both write into lent bytes, and
+//! what both find for a node's number.
 
 use crate::buffers::{first_difference, Buffer};
 use crate::bytes::hex;
 use crate::lists::Unlike;
-use crate::readers::{Readers, Writes};
-use timed_network::{Call, Verdict};
+use crate::readers::Readers;
+use timed_network::{Call, Slots, Verdict};
 
 /// The numbers for which a part is asked: those of nodes, and a few more.
 pub const NODES: [u8; 11] = [0, 1, 2, 3, 4, 5, 6, 7, 8, 9, 255];
@@ -17,9 +17,9 @@ struct Lent {
 }
 
 impl Lent {
-    fn to(writes: Writes, table: &[u8], length: usize) -> Lent {
+    fn to(writes: impl Fn(&mut [u8]) -> Call, length: usize) -> Lent {
         let mut buffer = Buffer::new(length);
-        let call = writes(table, buffer.lent());
+        let call = writes(buffer.lent());
         Lent { call, buffer }
     }
 
@@ -50,7 +50,10 @@ pub fn compare(
     length: usize,
 ) -> Result<(Verdict, Vec<u8>), Unlike> {
     let calls = [readers.library.translate, readers.second.translate];
-    compare_written(calls, table, length)
+    compare_written(
+        calls.map(|call| move |out: &mut [u8]| call(table, out)),
+        length,
+    )
 }
 
 /// The same for the chart.
@@ -60,16 +63,31 @@ pub fn compare_chart(
     length: usize,
 ) -> Result<(Verdict, Vec<u8>), Unlike> {
     let calls = [readers.library.timing_chart, readers.second.timing_chart];
-    compare_written(calls, table, length)
+    compare_written(
+        calls.map(|call| move |out: &mut [u8]| call(table, out)),
+        length,
+    )
+}
+
+/// The same for the table of a plan.
+pub fn compare_plan(
+    readers: &Readers,
+    slots: Slots,
+    length: usize,
+) -> Result<(Verdict, Vec<u8>), Unlike> {
+    let calls = [readers.library.plan, readers.second.plan];
+    compare_written(
+        calls.map(|call| move |out: &mut [u8]| call(slots, out)),
+        length,
+    )
 }
 
 /// The same for any two calls that write bytes.
 fn compare_written(
-    calls: [Writes; 2],
-    table: &[u8],
+    calls: [impl Fn(&mut [u8]) -> Call; 2],
     length: usize,
 ) -> Result<(Verdict, Vec<u8>), Unlike> {
-    let [library, second] = calls.map(|writes| Lent::to(writes, table, length));
+    let [library, second] = calls.map(|writes| Lent::to(writes, length));
     let place = first_difference(library.written(), second.written());
     let sides = [&library, &second];
     let kept = |side: &&Lent| side.buffer.written_past(side.call.size).is_none();

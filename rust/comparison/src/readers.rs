@@ -1,9 +1,9 @@
 //! The implementations that are compared, two at a time.
 
 use crate::fast;
-use reference::calls;
 use reference::table::Refusal;
-use timed_network::{Call, RunNumbers, Verdict, FIELDS, NO_MESSAGE, NO_NODE};
+use reference::{calls, plan};
+use timed_network::{Call, RunNumbers, Slots, Verdict, FIELDS, NO_MESSAGE, NO_NODE};
 
 /// The numbers that `check` answers: 0 where it accepts, then those of the
 /// refusals. 15 to 17 stand in the place of 11 (document 02, wish 3).
@@ -20,6 +20,8 @@ pub const TOO_MANY: u8 = 14;
 pub type Part = for<'a> fn(&'a [u8], u8) -> &'a [u8];
 /// A call that writes bytes of a table.
 pub type Writes = fn(&[u8], &mut [u8]) -> Call;
+/// A call that writes the table of a plan.
+pub type Plans = fn(Slots, &mut [u8]) -> Call;
 /// A call that runs a table under choices and writes observations.
 pub type Run = fn(&[u8], &[u8], &mut [u8]) -> RunNumbers;
 
@@ -34,6 +36,8 @@ pub struct Reader {
     pub translate: Writes,
     /// What it writes as a table's chart.
     pub timing_chart: Writes,
+    /// What it writes as the table of a plan.
+    pub plan: Plans,
     /// What it finds as one node's part of a program.
     pub part: Part,
     /// What it says of a table's run under choices, and writes.
@@ -57,6 +61,7 @@ impl Readers {
             schedule: timed_network::schedule,
             translate: timed_network::translate,
             timing_chart: timed_network::timing_chart,
+            plan: timed_network::plan,
             part: timed_network::part,
             run: timed_network::run_numbers,
         };
@@ -81,6 +86,7 @@ impl Reader {
             schedule: second_schedule,
             translate: second_translate,
             timing_chart: second_chart,
+            plan: second_plan,
             part: second_part,
             run: second_run,
         }
@@ -129,6 +135,17 @@ pub fn second_translate(table: &[u8], program: &mut [u8]) -> Call {
 /// The second implementation's chart.
 pub fn second_chart(table: &[u8], chart: &mut [u8]) -> Call {
     written(calls::timing_chart(table, chart))
+}
+
+/// The second implementation's plan.
+pub fn second_plan(slots: Slots, table: &mut [u8]) -> Call {
+    let slots = plan::Slots {
+        probes: slots.probes,
+        slot: slots.slot,
+        guard: slots.guard,
+        period: slots.period,
+    };
+    written(calls::plan(&slots, table))
 }
 
 fn written(size: Result<usize, Refusal>) -> Call {

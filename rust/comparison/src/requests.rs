@@ -1,9 +1,9 @@
-//! The programs, parts, charts and runs that the vectors keep, with their
-//! answers.
+//! The programs, parts, charts, plans and runs that the vectors keep, with
+//! their answers.
 
 use crate::bytes::unhex;
 use crate::stored::{read_answer, vector_lines};
-use timed_network::Verdict;
+use timed_network::{Slots, Verdict, MAX_PLAN};
 
 /// A request and what has to be answered.
 #[derive(Clone, Debug, PartialEq, Eq)]
@@ -32,6 +32,15 @@ pub enum Request {
         lent: usize,
         /// The rows, or why there are none.
         answer: Result<Vec<u8>, Verdict>,
+    },
+    /// The table of a plan.
+    Plan {
+        /// What it is made from.
+        slots: Slots,
+        /// How many bytes are lent.
+        lent: usize,
+        /// The bytes in hexadecimal, or why there are none.
+        answer: String,
     },
     /// A run of a table.
     Run {
@@ -92,6 +101,7 @@ fn request(line: &str) -> Option<Option<Request>> {
         },
         (["chart", table], _) => chart(table, "552", answer)?,
         (["chart", table, lent], _) => chart(table, lent, answer)?,
+        (["plan", numbers @ ..], _) => plan(numbers, answer)?,
         (["run", table, choices], None) => run(unhex(table)?, unhex(choices)?, answer)?,
         _ => return Some(None),
     }))
@@ -107,6 +117,29 @@ fn chart(table: &str, lent: &str, answer: &str) -> Option<Request> {
     Some(Request::Chart {
         table: unhex(table)?,
         lent: lent.parse().ok()?,
+        answer,
+    })
+}
+
+/// The four numbers of a plan, then, where it is said, how many bytes are lent.
+fn plan(words: &[&str], answer: &str) -> Option<Request> {
+    let numbers: Option<Vec<u32>> = words.iter().map(|word| word.parse().ok()).collect();
+    let (slots, lent) = match numbers?[..] {
+        [probes, slot, guard, period, ref lent @ ..] if lent.len() <= 1 => {
+            let slots = Slots {
+                probes,
+                slot,
+                guard,
+                period,
+            };
+            (slots, lent.first().map_or(MAX_PLAN, |&lent| lent as usize))
+        }
+        _ => return None,
+    };
+    let answer = answer.to_string();
+    Some(Request::Plan {
+        slots,
+        lent,
         answer,
     })
 }
@@ -180,6 +213,30 @@ mod tests {
         let read = request("a\tchart 0102 137\trefused 13 255");
         assert_eq!(read, chart(137, Err(refused(13, 255))));
         assert_eq!(request("a\tchart 0102\taccepted"), None);
+    }
+
+    #[test]
+    fn plans_are_read() {
+        let plan = |lent, answer: &str| {
+            let slots = Slots {
+                probes: 2,
+                slot: 1,
+                guard: 3,
+                period: 70,
+            };
+            let answer = answer.to_string();
+            Some(Some(Request::Plan {
+                slots,
+                lent,
+                answer,
+            }))
+        };
+        let read = request("a\tplan 2 1 3 70\t0102");
+        assert_eq!(read, plan(MAX_PLAN, "0102"));
+        let read = request("a\tplan 2 1 3 70 13\trefused 13 255");
+        assert_eq!(read, plan(13, "refused 13 255"));
+        assert_eq!(request("a\tplan 2 1 3\t0102"), None);
+        assert_eq!(request("a\tplan 2 1 3 70 13 9\t0102"), None);
     }
 
     #[test]

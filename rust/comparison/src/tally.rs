@@ -21,6 +21,8 @@ pub struct Tally {
     pub programs: Lists,
     /// The bytes that were lent for charts and compared.
     pub charts: Lists,
+    /// The bytes that were lent for plans and compared.
+    pub plans: Lists,
     /// The parts that were found in programs, and those that were not.
     pub parts: [u64; 2],
     /// The runs.
@@ -30,11 +32,11 @@ pub struct Tally {
 /// How lent lists came back, or lent bytes.
 #[derive(Clone, Copy, Debug, Default, PartialEq, Eq)]
 pub struct Lists {
-    /// With a schedule, a program or a chart.
+    /// With a schedule, a program, a chart or a plan.
     pub written: u64,
     /// As they were, too short for it.
     pub short: u64,
-    /// As they were, the table being refused.
+    /// As they were, the table, or the numbers of a plan, being refused.
     pub kept: u64,
 }
 
@@ -69,7 +71,7 @@ impl fmt::Display for Lists {
         } = self;
         write!(
             out,
-            "written {written}, too short {short}, table refused {kept}"
+            "written {written}, too short {short}, refused before {kept}"
         )
     }
 }
@@ -83,6 +85,7 @@ impl Tally {
             lists: Lists::default(),
             programs: Lists::default(),
             charts: Lists::default(),
+            plans: Lists::default(),
             parts: [0; 2],
             runs: Runs::default(),
         }
@@ -95,7 +98,8 @@ impl Tally {
 
     /// Whether nothing was tried.
     pub fn is_empty(&self) -> bool {
-        self.cases() + self.charts.all() + self.parts.iter().sum::<u64>() + self.runs.all() == 0
+        let lent = self.charts.all() + self.plans.all();
+        self.cases() + lent + self.parts.iter().sum::<u64>() + self.runs.all() == 0
     }
 
     /// Counts an answer, which must be one that there is.
@@ -125,6 +129,7 @@ impl Tally {
             sum.lists.add(&tally.lists);
             sum.programs.add(&tally.programs);
             sum.charts.add(&tally.charts);
+            sum.plans.add(&tally.plans);
             for (all, own) in sum.parts.iter_mut().zip(tally.parts) {
                 *all += own;
             }
@@ -135,7 +140,7 @@ impl Tally {
 }
 
 /// What was tried: the answers that were given, each with how often, then
-/// lists, programs, charts, parts and runs, if there are any.
+/// lists, programs, charts, plans, parts and runs, if there are any.
 impl fmt::Display for Tally {
     fn fmt(&self, out: &mut fmt::Formatter<'_>) -> fmt::Result {
         let [accepted, refusals @ ..] = &self.answers;
@@ -152,6 +157,7 @@ impl fmt::Display for Tally {
             (&self.lists, "lists"),
             (&self.programs, "programs"),
             (&self.charts, "charts"),
+            (&self.plans, "plans"),
         ] {
             if lists.all() > 0 {
                 write!(out, "; {} {name}: {lists}", lists.all())?;

@@ -7,7 +7,7 @@ use comparison::readers::{refused, second_reader, second_schedule, Reader, Reade
 use comparison::runs::Runs;
 use comparison::tally::{Lists, Tally};
 use comparison::{cases, compare, compare_class, gaps, Least};
-use timed_network::{Call, Verdict};
+use timed_network::{Call, Slots, Verdict};
 
 /// What a short comparison has to try.
 const LEAST: Least = Least {
@@ -175,6 +175,63 @@ fn wrong_charts_are_found_out() {
     }
 }
 
+/// A plan that is written where n x (s + 2 x g) is the period.
+fn plans_up_to_the_period(slots: Slots, table: &mut [u8]) -> Call {
+    let wide = slots.slot.saturating_add(slots.guard.saturating_mul(2));
+    let period = match slots.probes.saturating_mul(wide) == slots.period {
+        true => slots.period + 1,
+        false => slots.period,
+    };
+    (Reader::second().plan)(Slots { period, ..slots }, table)
+}
+
+/// A plan whose numbers are taken as 16 bits.
+fn plans_16_bits(slots: Slots, table: &mut [u8]) -> Call {
+    let slots = Slots {
+        probes: slots.probes & 65_535,
+        slot: slots.slot & 65_535,
+        guard: slots.guard & 65_535,
+        period: slots.period & 65_535,
+    };
+    (Reader::second().plan)(slots, table)
+}
+
+/// A plan whose hub listens as long as a probe sends: its bound is one guard
+/// too low.
+fn plans_a_short_listener(slots: Slots, table: &mut [u8]) -> Call {
+    let call = (Reader::second().plan)(slots, table);
+    if call.size > 0 {
+        let bound = 7 + 38 * slots.probes as usize + 9;
+        table[bound] = table[bound].wrapping_sub(slots.guard as u8);
+    }
+    call
+}
+
+/// A plan that refuses too few bytes before the numbers.
+fn plans_13_first(slots: Slots, table: &mut [u8]) -> Call {
+    let call = (Reader::second().plan)(slots, table);
+    match call.verdict {
+        Verdict::Refused { number: 18, .. } if table.is_empty() => Call {
+            verdict: refused(13, 255),
+            size: 0,
+        },
+        _ => call,
+    }
+}
+
+#[test]
+fn wrong_plans_are_found_out() {
+    for plan in [
+        plans_up_to_the_period,
+        plans_16_bits,
+        plans_a_short_listener,
+        plans_13_first,
+    ] {
+        let second = Reader::second();
+        assert!(is_found_out(Reader { plan, ..second }));
+    }
+}
+
 #[test]
 fn two_readers_that_are_wrong_in_the_same_way_are_found_out_by_the_vectors() {
     let readers = Readers {
@@ -237,8 +294,8 @@ fn what_is_known_before_is_demanded() {
     assert!(!Expected::Anything.allows(refused(0, 255)));
 }
 
-/// A class with these answers, and lists, programs, charts, parts and runs of
-/// all kinds.
+/// A class with these answers, and lists, programs, charts, plans, parts and
+/// runs of all kinds.
 fn tally(class: &'static str, answers: [u64; 16]) -> Tally {
     let lists = Lists {
         written: 3,
@@ -251,6 +308,7 @@ fn tally(class: &'static str, answers: [u64; 16]) -> Tally {
         lists,
         programs: lists,
         charts: lists,
+        plans: lists,
         parts: [5, 4],
         runs: all_kinds(),
     }
@@ -321,6 +379,9 @@ fn what_was_not_tried_is_told() {
         "no chart was written",
         "no chart was too long",
         "no refused table was drawn",
+        "no plan was written",
+        "no plan was too long",
+        "no plan was refused with 18",
         "no part was found",
         "no part was empty",
     ];
@@ -337,9 +398,10 @@ fn a_line_tells_all_answers_that_were_given() {
     let some = tally("name", [1, 2, 0, 0, 0, 0, 0, 0, 3, 0, 0, 0, 4, 0, 5, 0]);
     let line = "name: 15 cases: accepted 1, refused 1: 2, refused 8: 3, refused 12: 4, \
                 refused 16: 5; \
-                6 lists: written 3, too short 2, table refused 1; \
-                6 programs: written 3, too short 2, table refused 1; \
-                6 charts: written 3, too short 2, table refused 1; \
+                6 lists: written 3, too short 2, refused before 1; \
+                6 programs: written 3, too short 2, refused before 1; \
+                6 charts: written 3, too short 2, refused before 1; \
+                6 plans: written 3, too short 2, refused before 1; \
                 9 parts: found 5, empty 4; 38 runs: 7 horizon, 7 used up, 7 late \
                 (5 at work, 4 for a sleep, 2 several nodes), 7 not allowed \
                 (1 no such node, 1 nothing kept, 1 early sleep, 2 early listen, \

@@ -1,12 +1,13 @@
-//! The exported calls over lent buffers, with checks 13 and 14.
+//! The exported calls over lent buffers, with checks 13, 14 and 18.
 //!
 //! "Lent buffers keep their bytes; on success so do those past the result."
 
 use crate::chart;
 use crate::checks::verdict;
+use crate::plan::{self, Slots};
 use crate::program::{self, program_length, write_program};
 use crate::run::{run_into, Outcome, OBSERVATION};
-use crate::table::Refusal;
+use crate::table::{write_table, Refusal};
 
 /// "14. Are there at most 1,000,000 choices? Else 14."
 pub const MAX_CHOICES: usize = 1_000_000;
@@ -49,6 +50,15 @@ pub fn timing_chart(table: &[u8], bytes: &mut [u8]) -> Result<usize, Refusal> {
     let rows = chart::chart(&table, &passages);
     bytes[..rows.len()].copy_from_slice(&rows);
     Ok(rows.len())
+}
+
+/// Writes the table of a plan and gives the count of its bytes. "Refusal 18 is
+/// given [...] before 13".
+pub fn plan(slots: &Slots, bytes: &mut [u8]) -> Result<usize, Refusal> {
+    let table = write_table(&plan::plan(slots)?);
+    demand_room(bytes.len(), table.len())?;
+    bytes[..table.len()].copy_from_slice(&table);
+    Ok(table.len())
 }
 
 /// "The part of the program bytes that belongs to one node can be had by its

@@ -6,11 +6,15 @@ mod common;
 use common::*;
 use reference::calls;
 use reference::checks::verdict;
+use reference::plan::Slots;
 use reference::run::OBSERVATION;
 use reference::schedule;
 use reference::table::Refusal;
 
 fn answer(request: &[String]) -> Result<String, Refusal> {
+    if request[0] == "plan" {
+        return plan_answer(&request[1..]);
+    }
     let bytes = unhex(&request[1]);
     match (request[0].as_str(), &request[2..]) {
         ("check", []) => calls::check(&bytes).map(|()| "accepted".to_string()),
@@ -63,6 +67,24 @@ fn chart_answer(bytes: &[u8], lent: usize) -> Result<String, Refusal> {
     Ok(text.lines().collect::<Vec<_>>().join("|"))
 }
 
+/// The four numbers of a plan, then how many bytes are lent, as many as any
+/// plan takes where nothing is said.
+fn plan_answer(words: &[String]) -> Result<String, Refusal> {
+    let number = |place: usize| words[place].parse().unwrap();
+    let [probes, slot, guard, period] = [0, 1, 2, 3].map(number);
+    let slots = Slots {
+        probes,
+        slot,
+        guard,
+        period,
+    };
+    let lent = words.get(4).map_or(414, |word| word.parse().unwrap());
+    let mut table = vec![0; lent];
+    let size = calls::plan(&slots, &mut table)?;
+    assert!(table[size..].iter().all(|&byte| byte == 0));
+    Ok(hex(&table[..size]))
+}
+
 #[test]
 fn all_vectors() {
     let mut counts = std::collections::BTreeMap::new();
@@ -84,5 +106,5 @@ fn all_vectors() {
     }
     println!("{counts:?}");
     assert!(wrong.is_empty(), "{}", wrong.join("\n"));
-    assert!(counts.len() == 6);
+    assert!(counts.len() == 7);
 }

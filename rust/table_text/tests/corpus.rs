@@ -124,5 +124,5 @@ fn charts_are_those_of_document_02() {
             count += 1;
         }
     }
-    assert_eq!(count, 4);
+    assert_eq!(count, 5);
 }

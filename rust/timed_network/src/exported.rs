@@ -102,6 +102,14 @@ extern "C" {
         chart: *mut u8,
         chart_length: usize,
     ) -> CallNumbers;
+    fn timed_network_plan(
+        probes: u32,
+        slot: u32,
+        guard: u32,
+        period: u32,
+        table: *mut u8,
+        length: usize,
+    ) -> CallNumbers;
     fn timed_network_part(program: *const u8, program_length: usize, node: u8) -> PartNumbers;
     fn timed_network_run(
         table: *const u8,
@@ -169,6 +177,14 @@ pub(crate) fn translate(table: &[u8], program: &mut [u8]) -> CallNumbers {
             program.len(),
         )
     }
+}
+
+/// Writes the table of a plan: probes, slot, guard, period.
+pub(crate) fn plan([probes, slot, guard, period]: [u32; 4], table: &mut [u8]) -> CallNumbers {
+    // Pointer and length are those of one slice, which stays borrowed until
+    // the call returns. The call writes inside it and keeps no pointer; with
+    // length 0 it does not use the pointer.
+    unsafe { timed_network_plan(probes, slot, guard, period, table.as_mut_ptr(), table.len()) }
 }
 
 /// Finds the part of one node.

@@ -4,7 +4,8 @@
 //! schedule of an accepted table into a lent list of numbers,
 //! [`schedule_into`] into a lent list of passages, [`passages`] gives it as a
 //! list of its own, and [`timing_chart`] draws it. [`meetings`] tells which
-//! windows met where checks 10 to 12 refuse a table. [`translate`] writes the
+//! windows met where checks 10 to 12 refuse a table. [`plan`] writes the table of
+//! a cellar in which each probe has a slot of its own. [`translate`] writes the
 //! program of an accepted table, [`program`] gives it as bytes of its own,
 //! [`part`] finds one node's part in it, [`run`] carries out choices. [`node`]
 //! has one node whose registers the caller lends. The declarations of the
@@ -42,6 +43,9 @@ pub const NO_MESSAGE: u32 = 255;
 /// cells and a line feed.
 pub const CHART_ROW: usize = 69;
 
+/// The most bytes that the table of a plan has.
+pub const MAX_PLAN: usize = 414;
+
 /// What the library says of a table or of a call.
 #[derive(Clone, Copy, Debug, PartialEq, Eq)]
 pub enum Verdict {
@@ -76,13 +80,13 @@ impl fmt::Display for Verdict {
     }
 }
 
-/// The answer of a call that writes a schedule, a chart or a program.
+/// The answer of a call that writes a schedule, a chart, a program or a plan.
 #[derive(Clone, Copy, Debug, PartialEq, Eq)]
 pub struct Call {
-    /// Checks 1 to 12, then 13 where too little is lent.
+    /// Checks 1 to 12, or 18 for a plan, then 13 where too little is lent.
     pub verdict: Verdict,
-    /// How many passages, or bytes of a chart or a program, were written; 0
-    /// after a refusal.
+    /// How many passages, or bytes of a chart, a program or a table, were
+    /// written; 0 after a refusal.
     pub size: usize,
 }
 
@@ -192,6 +196,51 @@ pub fn schedule_into(table: &[u8], list: &mut [Passage]) -> Call {
 /// ```
 pub fn timing_chart(table: &[u8], chart: &mut [u8]) -> Call {
     let answer = exported::timing_chart(table, chart);
+    Call {
+        verdict: Verdict::of(answer.number, answer.component),
+        size: answer.size as usize,
+    }
+}
+
+/// What a plan is made from: a cellar with one hub and so many probes.
+#[derive(Clone, Copy, Debug, PartialEq, Eq)]
+pub struct Slots {
+    /// The probes, 1 to 7.
+    pub probes: u32,
+    /// The ticks from the first to the last at which a probe may send, 1 to
+    /// 1,000.
+    pub slot: u32,
+    /// The ticks that the hub listens longer on both sides, 1 to 1,000.
+    pub guard: u32,
+    /// The ticks after which all begin anew, at most 30,000.
+    pub period: u32,
+}
+
+/// Writes the table of a plan to the front of the bytes lent, 29 + 55 x probes
+/// of them: the probes are components 0 upward, the hub is the last one, and
+/// the horizon is two periods. Every table written is accepted. What stands past
+/// it stays; after a refusal all bytes do. Refused with 18 where a number is
+/// outside its range, or where probes x (slot + 2 x guard) is not below the
+/// period; then with 13 where too little is lent. [`MAX_PLAN`] bytes always
+/// suffice.
+///
+/// ```
+/// use timed_network::{check, plan, Call, Slots, Verdict, MAX_PLAN};
+///
+/// let slots = Slots {
+///     probes: 6,
+///     slot: 40,
+///     guard: 5,
+///     period: 500,
+/// };
+/// let mut table = [0; MAX_PLAN];
+/// let Call { verdict, size } = plan(slots, &mut table);
+/// assert_eq!((verdict, size), (Verdict::Accepted, 29 + 55 * 6));
+/// assert_eq!(check(&table[..size]), Verdict::Accepted);
+/// ```
+pub fn plan(slots: Slots, table: &mut [u8]) -> Call {
+    let numbers = [slots.probes, slots.slot, slots.guard, slots.period];
+    let answer = exported::plan(numbers, table);
     Call {
         verdict: Verdict::of(answer.number, answer.component),
         size: answer.size as usize,

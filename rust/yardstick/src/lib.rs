@@ -10,7 +10,7 @@
 //! 1 to 6. `opening` finds the edge taken, `schedule` opens and closes passages
 //! in one sweep, `meetings` notes on the way which windows meet. `translate`
 //! writes programs, `part` finds one node's part, `run` carries out choices,
-//! `chart` draws the schedule.
+//! `chart` draws the schedule, `plan` writes the table of a plan.
 #![forbid(unsafe_code)]
 #![warn(missing_docs)]
 
@@ -18,6 +18,7 @@ mod chart;
 mod meetings;
 mod opening;
 mod part;
+mod plan;
 mod read;
 mod run;
 mod schedule;
@@ -25,6 +26,7 @@ mod table;
 mod translate;
 
 pub use part::part;
+pub use plan::plan;
 
 use run::Machine;
 use schedule::Schedule;
@@ -46,7 +48,7 @@ pub const MAX_CHOICES: usize = 1_000_000;
 /// Why a table or a call is refused.
 #[derive(Clone, Copy, Debug, PartialEq, Eq)]
 pub struct Refusal {
-    /// The number of the check that is not passed, 1 to 14.
+    /// The number of the check that is not passed: 1 to 14, or 18.
     pub number: u8,
     /// The component concerned, or [`NONE`].
     pub component: u8,

@@ -5,7 +5,7 @@
 mod common;
 
 use common::*;
-use yardstick::{part, Refusal, Yardstick};
+use yardstick::{part, plan, Refusal, Yardstick};
 
 fn program(yardstick: &mut Yardstick, table: &[u8]) -> Result<String, Refusal> {
     let mut program = vec![0; 65_535];
@@ -22,7 +22,23 @@ fn chart(yardstick: &mut Yardstick, table: &[u8], lent: usize) -> Result<String,
     Ok(text.lines().collect::<Vec<_>>().join("|"))
 }
 
+/// The table of a plan, from its four numbers and how many bytes are lent.
+fn planned(numbers: &[&str], lent: usize) -> Result<String, Refusal> {
+    let number = |place: usize| numbers[place].parse().unwrap();
+    let mut table = vec![0; lent];
+    let size = plan([0, 1, 2, 3].map(number), &mut table)?;
+    assert!(table[size..].iter().all(|&byte| byte == 0));
+    Ok(hex(&table[..size]))
+}
+
 fn answer(yardstick: &mut Yardstick, request: &[&str]) -> String {
+    match request {
+        ["plan", numbers @ .., lent] if numbers.len() == 4 => {
+            return told(planned(numbers, lent.parse().unwrap()))
+        }
+        ["plan", numbers @ ..] => return told(planned(numbers, 414)),
+        _ => {}
+    }
     let bytes = unhex(request[1]);
     match (request[0], &request[2..]) {
         ("check", []) => check(yardstick, &bytes),
@@ -45,6 +61,7 @@ fn all_vectors() {
         "vectors/random.tsv",
         "vectors/chart.tsv",
         "vectors/bands.tsv",
+        "vectors/plan.tsv",
     ] {
         for line in text(file).lines() {
             let fields: Vec<&str> = line.split('\t').collect();
@@ -54,7 +71,7 @@ fn all_vectors() {
             *counts.entry(request[0].to_string()).or_insert(0) += 1;
         }
     }
-    assert_eq!(counts.len(), 6, "{counts:?}");
+    assert_eq!(counts.len(), 7, "{counts:?}");
 }
 
 #[test]

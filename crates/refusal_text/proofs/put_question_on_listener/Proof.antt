@@ -2,7 +2,7 @@
 use mathlib.Core.Path.{_≡_}
 use native.Mathlib.Omega.{arith}
 use Rattle.refusal_text.specs.RefusalText.{question}
-use Rattle.refusal_text.proofs.Questions.{asked, not-asked}
+use Rattle.refusal_text.proofs.Questions.{asked}
 use borrow.Author.Needs.{needs}
 use Rattle.refusal_text.proofs.put_question_on_listener.Statement.{statement}
 use Rattle.refusal_text.proofs.put_question_on_listener.Tie as tie
@@ -24,12 +24,6 @@ slice-aggregate-put-3 c = search needs
 
 put-requires-3 : tie.Need-put-requires-3
 put-requires-3 c κs = search needs
-
-slice-aggregate-put-4 : tie.Need-slice-aggregate-put-4
-slice-aggregate-put-4 c = search needs
-
-put-requires-4 : tie.Need-put-requires-4
-put-requires-4 c κs = search needs
 
 same-length : tie.Need-same-length
 same-length c = search needs
@@ -56,16 +50,9 @@ returns-3 : tie.Need-returns-3
 unfolding question
 returns-3 c =
     let p = c .before .before .put3 in
-    (asked (c .before .before .before .before .before .before .before .args .number) 17 (c .before .before .before .before .before .match .keys3) (p .ensures .0), omega (arith, p .ensures .1))
-
-same-length-4 : tie.Need-same-length-4
-same-length-4 c = search needs
-
-returns-4 : tie.Need-returns-4
-returns-4 c =
-    let p = c .before .before .put4 in
     let rest = c .before .before .before .before .before .match .rest in
-    (not-asked (c .before .before .before .before .before .before .before .args .number) (omega (arith, c .before .before .before .before .before .before .before .pre, rest .1, rest .0 .1, rest .0 .0 .1)) (p .ensures .0), omega (arith, p .ensures .1))
+    let known : c .before .before .before .before .before .before .before .args .number ≡ 17 = omega (arith, c .before .before .before .before .before .before .before .pre, rest .0, rest .1) in
+    (asked (c .before .before .before .before .before .before .before .args .number) 17 known (p .ensures .0), omega (arith, p .ensures .1))
 
 pub put-question-on-listener-spec : {M : Type 1} → statement M
 put-question-on-listener-spec =
@@ -77,13 +64,9 @@ put-question-on-listener-spec =
     put-requires-2
     slice-aggregate-put-3
     put-requires-3
-    slice-aggregate-put-4
-    put-requires-4
     same-length
     returns
     same-length-2
     returns-2
     same-length-3
-    returns-3
-    same-length-4
-    returns-4)
+    returns-3)

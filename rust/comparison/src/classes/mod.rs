@@ -14,6 +14,7 @@ mod programs;
 mod random_bytes;
 mod running;
 mod shifted;
+mod slots;
 mod stored;
 mod ties;
 
@@ -65,7 +66,7 @@ const fn class(name: &'static str, run: fn(&mut Trial, &mut Random, &Extent) -> 
 }
 
 /// All classes, in the order in which they are tried.
-pub const CLASSES: [Class; 56] = [
+pub const CLASSES: [Class; 59] = [
     class("vectors", stored::vectors),
     class("corpus", stored::corpus),
     class("random bytes", random_bytes::anything),
@@ -112,6 +113,9 @@ pub const CLASSES: [Class; 56] = [
     class("parts of random bytes", programs::anything),
     class("charts with cells of few ticks", charts::horizons),
     class("charts with windows at cell ends", charts::windows),
+    class("slot plans", slots::planned),
+    class("slot plans of numbers out of range", slots::out_of_range),
+    class("runs of slot plans", slots::run),
     class("runs of the vectors' tables", running::vectors),
     class("runs of the corpus", running::corpus),
     class("runs of a hub and its probes", running::regular),

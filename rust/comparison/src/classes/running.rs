@@ -19,7 +19,13 @@ use reference::table::*;
 use timed_network::{Verdict, MAX_CHOICES};
 
 /// Runs a table under so many lists, spoilt ones among them.
-fn run(trial: &mut Trial, random: &mut Random, table: &[u8], lists: usize, most: usize) -> Outcome {
+pub(super) fn run(
+    trial: &mut Trial,
+    random: &mut Random,
+    table: &[u8],
+    lists: usize,
+    most: usize,
+) -> Outcome {
     let Some(subject) = Subject::new(table) else {
         return Ok(());
     };

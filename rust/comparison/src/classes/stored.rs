@@ -1,4 +1,4 @@
-//! The tables, programs and runs that the repository keeps, with their
+//! The tables, programs, plans and runs that the repository keeps, with their
 //! answers.
 
 use super::Extent;
@@ -29,7 +29,7 @@ fn expect_all(trial: &mut Trial, tables: Result<Vec<Stored>, String>) -> Outcome
     Ok(())
 }
 
-/// The programs, parts, charts and runs of the vectors.
+/// The programs, parts, charts, plans and runs of the vectors.
 pub(super) fn requests(trial: &mut Trial, _: &mut Random, _: &Extent) -> Outcome {
     for request in requests::requests().map_err(Stop::Unreadable)? {
         match &request {
@@ -50,6 +50,11 @@ pub(super) fn requests(trial: &mut Trial, _: &mut Random, _: &Extent) -> Outcome
                 };
                 trial.expect_chart(table, *lent, &answer)?;
             }
+            Request::Plan {
+                slots,
+                lent,
+                answer,
+            } => trial.expect_plan(*slots, *lent, answer)?,
             Request::Run {
                 table,
                 choices,

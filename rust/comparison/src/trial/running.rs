@@ -1,4 +1,4 @@
-//! Programs, parts, charts and runs of a class.
+//! Programs, parts, charts, plans and runs of a class.
 
 use super::Trial;
 use crate::bytes::hex;
@@ -10,7 +10,7 @@ use crate::runs::{self, Subject};
 use demand::{Demand, TICK};
 use reference::program::program_length;
 use reference::table::read_table;
-use timed_network::{Verdict, CHART_ROW};
+use timed_network::{Slots, Verdict, CHART_ROW};
 
 /// The choices under which refused tables are run.
 const CHOICES: [u8; 4] = [0, TICK, 8, 1];
@@ -80,6 +80,38 @@ impl Trial<'_> {
             self.demand(input, &call, said(&reader), answer.to_string())?;
         }
         self.chart(input, length).map(|_| ())
+    }
+
+    /// Lends both bytes of this length and gives the table of the plan, if there
+    /// is one.
+    pub fn plan(&mut self, slots: Slots, length: usize) -> Result<Option<Vec<u8>>, Stop> {
+        match programs::compare_plan(self.readers, slots, length) {
+            Ok((verdict, table)) => {
+                self.tally.plans.count(verdict);
+                Ok((verdict == Verdict::Accepted).then_some(table))
+            }
+            Err(unlike) => {
+                let call = format!("plan of {slots:?}, with {length} bytes");
+                Err(self.differs(&[], call, unlike, None))
+            }
+        }
+    }
+
+    /// Both have to give this answer for the plan: its bytes, or a refusal.
+    pub fn expect_plan(&mut self, slots: Slots, length: usize, answer: &str) -> Outcome {
+        let said = |reader: &Reader| {
+            let mut table = vec![0; length];
+            let call = (reader.plan)(slots, &mut table);
+            match call.verdict {
+                Verdict::Accepted => hex(&table[..call.size]),
+                refused => refused.to_string(),
+            }
+        };
+        let call = format!("plan of {slots:?}, with {length} bytes");
+        for reader in [self.readers.library, self.readers.second] {
+            self.demand(&[], &call, said(&reader), answer.to_string())?;
+        }
+        self.plan(slots, length).map(|_| ())
     }
 
     /// Asks both for the part of each number.

@@ -1,0 +1,4 @@
+pub mod Runs
+pub mod Ranges
+pub mod Pieces
+pub mod Answers

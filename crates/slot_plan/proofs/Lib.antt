@@ -1,0 +1,10 @@
+pub mod Ring
+pub mod Apart
+pub mod Rounds
+pub mod Parts
+pub mod Shapes
+pub mod Alone
+pub mod Order
+pub mod Accepted
+pub mod Within
+pub mod Planned
