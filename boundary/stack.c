@@ -37,6 +37,7 @@ static CallNumbers called;
 static PartNumbers placed;
 static RunNumbers ran;
 static MeetingsNumbers meetings;
+static EdgeChoiceNumbers edge_choice;
 
 /* What is lent to a call. For a node's calls `bytes` is its part. */
 struct lent {
@@ -47,6 +48,7 @@ struct lent {
 static void call(int request, const struct lent *lent) {
     const uint8_t *bytes = lent->bytes.at;
     size_t length = lent->bytes.length;
+    EntryNumbers entry = {0, 0, {0, 0, 0, 0}, {0, 0, 0, 0}};
     switch (request) {
     case CHECK:
         verdict = timed_network_check(bytes, length);
@@ -56,6 +58,9 @@ static void call(int request, const struct lent *lent) {
         break;
     case TIMING_CHART:
         called = timed_network_timing_chart(bytes, length, chart, MAX_CHART);
+        break;
+    case EDGE_CHOICE:
+        edge_choice = timed_network_edge_choice(bytes, length, entry);
         break;
     case TRANSLATE:
         called = timed_network_translate(bytes, length, program, MAX_PROGRAM);

@@ -68,7 +68,7 @@ static char *cut(char *text, char end) {
 }
 
 static void read_vectors(const char *root, const char *path) {
-    static const char *const words[] = {"check",   "schedule", "chart",
+    static const char *const words[] = {"check",   "schedule", "chart", "looked",
                                         "program", "part",     "run"};
     char *line = (char *)read_file(root, path).at;
     while (*line != 0) {
@@ -121,6 +121,7 @@ void stored_read(const char *root) {
     read_vectors(root, "vectors/random.tsv");
     read_vectors(root, "vectors/chart.tsv");
     read_vectors(root, "vectors/bands.tsv");
+    read_vectors(root, "vectors/edge_choice.tsv");
     read_corpus(root);
 }
 
@@ -183,6 +184,28 @@ static void write_chart(const struct stored *stored, enum where where) {
     text[used] = 0;
 }
 
+/*
+ * How many edges are looked at for the passages that open at tick 0, each with
+ * the edge of the schedule: the front of the answer. The rest, at entries with
+ * other clocks and variables, is not asked here.
+ */
+static void write_looked(const struct stored *stored, enum where where) {
+    CallNumbers planned = guarded_schedule(where, stored->table, MAX_LIST);
+    if (write_refusal(planned.number, planned.component))
+        return;
+    for (uint8_t c = 0; c < stored->table.at[3]; c++) {
+        const uint32_t *row = &list[(size_t)FIELDS * c];
+        EntryNumbers entry = {c, (uint8_t)row[2], {0, 0, 0, 0}, {0, 0, 0, 0}};
+        EdgeChoiceNumbers answer = guarded_edge_choice(where, stored->table, entry);
+        if (!answer.taken || answer.edge != row[1] || answer.ready != row[4] ||
+            answer.end != row[5])
+            fail("another edge than that of the schedule");
+        write_number(c == 0 ? "" : " ", answer.looked);
+    }
+    if (used < strlen(stored->answer) && stored->answer[used] == ' ')
+        write_text(stored->answer + used);
+}
+
 static void write_program(const struct stored *stored, enum where where) {
     CallNumbers answer = guarded_translate(where, stored->table, MAX_PROGRAM);
     if (!write_refusal(answer.number, answer.component))
@@ -213,7 +236,7 @@ static void write_run(const struct stored *stored, enum where where) {
 
 void stored_try(const struct stored *stored, enum where where) {
     static void (*const writers[])(const struct stored *, enum where) = {
-        write_check,   write_schedule, write_chart,
+        write_check,   write_schedule, write_chart, write_looked,
         write_program, write_part,     write_run};
     trying("a stored case", stored->name);
     used = 0;

@@ -19,6 +19,7 @@ NodeRegisters __real_timed_network_start(const uint8_t *, size_t);
 void __real_timed_network_step(NodeRegisters *, const uint8_t *, size_t, uint8_t, uint8_t);
 void __real_timed_network_take_message(NodeRegisters *, const uint8_t *, size_t, uint8_t);
 CallNumbers __real_timed_network_timing_chart(const uint8_t *, size_t, uint8_t *, size_t);
+EdgeChoiceNumbers __real_timed_network_edge_choice(const uint8_t *, size_t, EntryNumbers);
 
 VerdictNumbers __wrap_timed_network_check(const uint8_t *, size_t);
 CallNumbers __wrap_timed_network_schedule(const uint8_t *, size_t, uint32_t *, size_t);
@@ -32,6 +33,7 @@ NodeRegisters __wrap_timed_network_start(const uint8_t *, size_t);
 void __wrap_timed_network_step(NodeRegisters *, const uint8_t *, size_t, uint8_t, uint8_t);
 void __wrap_timed_network_take_message(NodeRegisters *, const uint8_t *, size_t, uint8_t);
 CallNumbers __wrap_timed_network_timing_chart(const uint8_t *, size_t, uint8_t *, size_t);
+EdgeChoiceNumbers __wrap_timed_network_edge_choice(const uint8_t *, size_t, EntryNumbers);
 
 static int wrong(int fault) {
     static int chosen = -1;
@@ -204,5 +206,19 @@ CallNumbers __wrap_timed_network_timing_chart(const uint8_t *table, size_t lengt
         chart[answer.size] = 0; /* writes past the result */
     if (wrong(45) && answer.number == 13 && chart_length > 0)
         chart[0] = 'C'; /* writes where too little is lent */
+    return answer;
+}
+
+EdgeChoiceNumbers __wrap_timed_network_edge_choice(const uint8_t *table, size_t length,
+                                                   EntryNumbers entry) {
+    if (wrong(46))
+        entry.component = 0; /* asks for component 0 whatever is asked */
+    EdgeChoiceNumbers answer = __real_timed_network_edge_choice(table, length, entry);
+    if (wrong(47) && length > 0)
+        touch(table - 1); /* reads the byte before the table */
+    if (wrong(48) && answer.taken && answer.ready > 0)
+        answer.looked -= 1; /* counts one too few where none is ready at once */
+    if (wrong(49) && answer.taken && answer.ready == 0 && answer.looked < 32)
+        answer.looked += 1; /* looks at one more */
     return answer;
 }

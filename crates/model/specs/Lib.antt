@@ -21,6 +21,7 @@ pub mod Meetings
 pub mod Chart
 pub mod Versions
 pub mod Build
+pub mod EdgeChoice
 pub mod Cases
 pub mod DemandCases
 pub mod DemandWrongs

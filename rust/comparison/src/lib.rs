@@ -2,8 +2,9 @@
 //! the yardstick of speed.
 //!
 //! Both sides get the same tables, class after class, and are lent lists and bytes
-//! of the same lengths for schedules, charts, programs and observations; the first
-//! difference ends the comparison. Each run is also held to demand 3.
+//! of the same lengths for schedules, charts, programs and observations; at the
+//! entries of schedules and at others both are asked for the edge that is taken.
+//! The first difference ends the comparison. Each run is also held to demand 3.
 //! [`tables`] makes well-formed tables, [`layout`] and [`bytes`] serve to
 //! damage them, [`runs`] draws choices, [`classes`] lists what is tried,
 //! [`trial`] tries it.
@@ -14,6 +15,7 @@ pub mod buffers;
 pub mod bytes;
 pub mod classes;
 pub mod difference;
+pub mod edge_choices;
 mod fast;
 pub mod layout;
 pub mod lists;
@@ -81,8 +83,9 @@ pub struct Least {
 
 /// What the comparison should have tried and did not: a class without cases,
 /// an answer that never came, lists or bytes that never came back in one of
-/// the ways, parts never found or never missed, a kind of run that is too
-/// rare, fewer cases or runs in all than demanded.
+/// the ways, a kind of edge choice that never came, parts never found or never
+/// missed, a kind of run that is too rare, fewer cases or runs in all than
+/// demanded.
 pub fn gaps(tallies: &[Tally], least: &Least) -> Vec<String> {
     let empty = tallies.iter().filter(|tally| tally.is_empty());
     let mut gaps: Vec<String> = empty
@@ -105,7 +108,7 @@ pub fn gaps(tallies: &[Tally], least: &Least) -> Vec<String> {
     gaps
 }
 
-/// The ways in which no list, no bytes or no part came back.
+/// The ways in which no list, no bytes, no edge or no part came back.
 fn list_gaps(sum: &Tally) -> impl Iterator<Item = String> {
     let ways = [
         (sum.lists.written, "no list was written"),
@@ -117,6 +120,13 @@ fn list_gaps(sum: &Tally) -> impl Iterator<Item = String> {
         (sum.charts.written, "no chart was written"),
         (sum.charts.short, "no chart was too long"),
         (sum.charts.kept, "no refused table was drawn"),
+        (sum.edge_choices.at_once, "no edge was taken at once"),
+        (sum.edge_choices.later, "no edge was taken with a delay"),
+        (sum.edge_choices.none, "nowhere was there no candidate"),
+        (
+            sum.edge_choices.refused,
+            "no refused table was asked for an edge",
+        ),
         (sum.parts[0], "no part was found"),
         (sum.parts[1], "no part was empty"),
     ];

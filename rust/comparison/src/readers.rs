@@ -2,8 +2,11 @@
 
 use crate::fast;
 use reference::calls;
+use reference::edge_choice;
 use reference::table::Refusal;
-use timed_network::{Call, RunNumbers, Verdict, FIELDS, NO_MESSAGE, NO_NODE};
+use timed_network::{
+    Call, EdgeChoice, Entry, RunNumbers, TakenEdge, Verdict, FIELDS, NO_MESSAGE, NO_NODE,
+};
 
 /// The last check that `check` answers.
 pub const LAST_CHECK: u8 = 12;
@@ -19,6 +22,9 @@ pub type Writes = fn(&[u8], &mut [u8]) -> Call;
 /// A call that runs a table under choices and writes observations.
 pub type Run = fn(&[u8], &[u8], &mut [u8]) -> RunNumbers;
 
+/// A call that chooses an edge at an entry.
+pub type Chooses = fn(&[u8], &Entry) -> Result<EdgeChoice, Verdict>;
+
 /// The calls of an implementation.
 #[derive(Clone, Copy)]
 pub struct Reader {
@@ -30,6 +36,8 @@ pub struct Reader {
     pub translate: Writes,
     /// What it writes as a table's chart.
     pub timing_chart: Writes,
+    /// Which edge it takes at an entry, and how many it looks at.
+    pub edge_choice: Chooses,
     /// What it finds as one node's part of a program.
     pub part: Part,
     /// What it says of a table's run under choices, and writes.
@@ -53,6 +61,7 @@ impl Readers {
             schedule: timed_network::schedule,
             translate: timed_network::translate,
             timing_chart: timed_network::timing_chart,
+            edge_choice: timed_network::edge_choice,
             part: timed_network::part,
             run: timed_network::run_numbers,
         };
@@ -77,6 +86,7 @@ impl Reader {
             schedule: second_schedule,
             translate: second_translate,
             timing_chart: second_chart,
+            edge_choice: second_edge_choice,
             part: second_part,
             run: second_run,
         }
@@ -125,6 +135,25 @@ pub fn second_translate(table: &[u8], program: &mut [u8]) -> Call {
 /// The second implementation's chart.
 pub fn second_chart(table: &[u8], chart: &mut [u8]) -> Call {
     written(calls::timing_chart(table, chart))
+}
+
+/// The second implementation's edge choice.
+pub fn second_edge_choice(table: &[u8], entry: &Entry) -> Result<EdgeChoice, Verdict> {
+    let own = edge_choice::Entry {
+        location: entry.location,
+        clocks: entry.clocks,
+        variables: entry.values,
+    };
+    let chosen = calls::edge_choice(table, entry.component, &own).map_err(verdict)?;
+    let taken = chosen.taken.map(|(number, window)| TakenEdge {
+        edge: number as u8,
+        ready: window.ready,
+        end: window.end,
+    });
+    Ok(EdgeChoice {
+        taken,
+        looked: chosen.looked as u32,
+    })
 }
 
 fn written(size: Result<usize, Refusal>) -> Call {

@@ -1,5 +1,5 @@
-//! The programs, parts, charts and runs that the vectors keep, with their
-//! answers.
+//! The programs, parts, charts, edge choices and runs that the vectors keep,
+//! with their answers.
 
 use crate::bytes::unhex;
 use crate::stored::{read_answer, vector_lines};
@@ -32,6 +32,13 @@ pub enum Request {
         lent: usize,
         /// The rows, or why there are none.
         answer: Result<Vec<u8>, Verdict>,
+    },
+    /// How many edges are looked at, passage by passage.
+    Looked {
+        /// The table.
+        table: Vec<u8>,
+        /// The numbers in the order of the schedule, or why there are none.
+        answer: Result<Vec<u32>, Verdict>,
     },
     /// A run of a table.
     Run {
@@ -92,6 +99,7 @@ fn request(line: &str) -> Option<Option<Request>> {
         },
         (["chart", table], _) => chart(table, "552", answer)?,
         (["chart", table, lent], _) => chart(table, lent, answer)?,
+        (["looked", table], _) => looked(table, answer)?,
         (["run", table, choices], None) => run(unhex(table)?, unhex(choices)?, answer)?,
         _ => return Some(None),
     }))
@@ -107,6 +115,22 @@ fn chart(table: &str, lent: &str, answer: &str) -> Option<Request> {
     Some(Request::Chart {
         table: unhex(table)?,
         lent: lent.parse().ok()?,
+        answer,
+    })
+}
+
+/// A number a passage, or a refusal.
+fn looked(table: &str, answer: &str) -> Option<Request> {
+    let answer = match read_answer(answer) {
+        Some(Verdict::Accepted) => return None,
+        Some(refused) => Err(refused),
+        None => {
+            let numbers = answer.split(' ').map(|word| word.parse().ok());
+            Ok(numbers.collect::<Option<Vec<u32>>>()?)
+        }
+    };
+    Some(Request::Looked {
+        table: unhex(table)?,
         answer,
     })
 }
@@ -180,6 +204,19 @@ mod tests {
         let read = request("a\tchart 0102 137\trefused 13 255");
         assert_eq!(read, chart(137, Err(refused(13, 255))));
         assert_eq!(request("a\tchart 0102\taccepted"), None);
+    }
+
+    #[test]
+    fn edge_choices_are_read() {
+        let looked = |answer| {
+            let table = vec![1, 2];
+            Some(Some(Request::Looked { table, answer }))
+        };
+        let read = request("a\tlooked 0102\t3 1 32");
+        assert_eq!(read, looked(Ok(vec![3, 1, 32])));
+        let read = request("a\tlooked 0102\trefused 8 0");
+        assert_eq!(read, looked(Err(refused(8, 0))));
+        assert_eq!(request("a\tlooked 0102\t3 x"), None);
     }
 
     #[test]

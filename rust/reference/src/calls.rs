@@ -4,9 +4,10 @@
 
 use crate::chart;
 use crate::checks::verdict;
+use crate::edge_choice::{self, EdgeChoice, Entry};
 use crate::program::{self, program_length, write_program};
 use crate::run::{run_into, Outcome, OBSERVATION};
-use crate::table::Refusal;
+use crate::table::{read_table, Refusal};
 
 /// "14. Are there at most 1,000,000 choices? Else 14."
 pub const MAX_CHOICES: usize = 1_000_000;
@@ -49,6 +50,13 @@ pub fn timing_chart(table: &[u8], bytes: &mut [u8]) -> Result<usize, Refusal> {
     let rows = chart::chart(&table, &passages);
     bytes[..rows.len()].copy_from_slice(&rows);
     Ok(rows.len())
+}
+
+/// The edge that a component takes at an entry, and how many edges were looked
+/// at, for a table that passes checks 1 to 6.
+pub fn edge_choice(table: &[u8], component: u8, entry: &Entry) -> Result<EdgeChoice, Refusal> {
+    let table = read_table(table)?;
+    Ok(edge_choice::edge_choice(&table, component, entry))
 }
 
 /// "The part of the program bytes that belongs to one node can be had by its

@@ -127,7 +127,13 @@ pub struct Vector {
 /// All cases of the files, in their order. A missing file fails the test.
 pub fn vectors() -> Vec<Vector> {
     let mut all = Vec::new();
-    for file in ["named.tsv", "random.tsv", "chart.tsv", "bands.tsv"] {
+    for file in [
+        "named.tsv",
+        "random.tsv",
+        "chart.tsv",
+        "bands.tsv",
+        "edge_choice.tsv",
+    ] {
         let path = vector_folder().join(file);
         let text = std::fs::read_to_string(&path)
             .unwrap_or_else(|error| panic!("{}: {error}", path.display()));
