@@ -63,12 +63,12 @@ module _ (C : Component) (at : Entry) (l : Location) where
 
       -- it may not be taken at once: on to the next one that leaves the location
       pub searching-next : {f : ℕ} → readyNow k′ ≡ false → NextFrom C (sourceOf C e) (suc e) f → Searching f k′
-      searching-next {f} no n =
+      searching-next {f} wait n =
           let none-between : (j : ℕ) → e + 1 ≤ j → j < f → j < length (C .arcs) → sourceOf C j ≡ at .location → ⊥ = λ j a b c z. n .none j (omega arith) b c (z ∙ sym source) in
           record {
             rest = chosen-skip l (at .location) (at .clocks) (at .values) (C .arcs) (e + 1) f k′ _ (omega (arith, n .from)) none-between turned;
-            later = no;
-            before = λ j b i. by-cases (ℕ-discrete j e) (λ z. rw z (sym now ∙ no)) (λ z. go j b i z (ltb j e) refl);
+            later = wait;
+            before = λ j b i. by-cases (ℕ-discrete j e) (λ z. rw z (sym now ∙ wait)) (λ z. go j b i z (ltb j e) refl);
           }
         where
           go : (j : ℕ) → j < f → j < length (C .arcs) → (j ≡ e → ⊥) → (t : Bool) → ltb j e ≡ t → mayTakeAtOnce C at j ≡ false
@@ -80,9 +80,9 @@ module _ (C : Component) (at : Entry) (l : Location) where
 
       -- it may: the choice, and the number of edges looked at
       pub searching-stop : readyNow k′ ≡ true → (k′ ≡ choice C at) × (e + 1 ≡ looked C at)
-      searching-stop yes = (
-        sym (stops l (at .location) (at .clocks) (at .values) (e + 1) (drop (e + 1) (C .arcs)) k′ yes) ∙ turned,
-        looked-same C at (upToEdge e h (sym now ∙ yes) (λ j b. s .before j b (omega arith)) (omega arith)),
+      searching-stop at-once = (
+        sym (stops l (at .location) (at .clocks) (at .values) (e + 1) (drop (e + 1) (C .arcs)) k′ at-once) ∙ turned,
+        looked-same C at (upToEdge e h (sym now ∙ at-once) (λ j b. s .before j b (omega arith)) (omega arith)),
       )
 
   -- no edge is left
