@@ -1,8 +1,8 @@
 //! Edge choices of a class.
 
 use super::Trial;
-use crate::difference::Outcome;
-use crate::edge_choices::{self, made_up, scheduled, scheduled_once};
+use crate::difference::{Outcome, Stop};
+use crate::edge_choices::{self, made_up, scheduled, scheduled_once, Chosen};
 use crate::lists::Unlike;
 use crate::random::Random;
 use timed_network::{Entry, Verdict};
@@ -39,17 +39,13 @@ impl Trial<'_> {
     /// Asks at the starts and at so many other entries.
     pub fn choose_made_up(&mut self, random: &mut Random, input: &[u8], count: usize) -> Outcome {
         for entry in made_up(random, input, count) {
-            self.choose(input, &entry)?;
+            let _ = self.choose(input, &entry)?;
         }
         Ok(())
     }
 
     /// Asks both for the edge at an entry.
-    fn choose(
-        &mut self,
-        input: &[u8],
-        entry: &Entry,
-    ) -> Result<edge_choices::Chosen, crate::difference::Stop> {
+    fn choose(&mut self, input: &[u8], entry: &Entry) -> Result<Chosen, Stop> {
         match edge_choices::compare(self.readers, input, entry) {
             Ok(chosen) => {
                 self.tally.edge_choices.count(&chosen);
