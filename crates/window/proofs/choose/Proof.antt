@@ -217,7 +217,7 @@ loop-again c =
     let q : c .before .before .before .before .before .before .before .before .before .before .wide3 .result * 80 + 16 + l .e ≡ a .c * 80 + 16 + l .e = rw (c .before .before .before .before .before .before .before .before .before .before .wide3 .ensures .0) in
     let source = l .inv .1 (inside t) in
     let f = s .pre .4 .next (l .e) (inside t) in
-    let later = ready-now best ∙ ne-eqb (best .ready) 0 (c .before .if2 .left) in (
+    let later = ready-now best ∙ ne-eqb (best .ready) 0 (λ z. absurd (omega (arith, z, c .before .if2 .left))) in (
       best-kept d,
       λ z. ap (sourceOf C) (ap (λ j. getD i j 0) q) ∙ (f .leaves (omega (arith, z, ap (λ j. getD i j 0) q)) ∙ source),
       subst (λ j. Searching C (entryOf (a .at)) p (getD i j 0) (pickOf best)) (sym q)
@@ -242,7 +242,7 @@ returns-2 c =
     let l = d .before .before .before .before .loop in
     let t = d .before .before .before in
     let best = d .considered-edge .result in
-    let at-once = ready-now best ∙ eq-eqb (best .ready) 0 (c .if2 .taken) in
+    let at-once = ready-now best ∙ eq-eqb (best .ready) 0 (omega (arith, c .if2 .taken)) in
     let done = searching-stop (componentIn (a .table .now) (a .c)) (entryOf (a .at)) (d .before .before .before .before .before .before .before .before .location-at .result) (location-is (d .before .before .before .before .before .before .before .before)) (l .e) (pickOf (l .best)) _ (l .inv .2) (inside t) (l .inv .1 (inside t)) (best-is d) at-once in
     (done .0, (done .1, best-kept d))
 
