@@ -8,7 +8,7 @@ use lib.ListN.{length, getD, List·getD-eq-default}
 use mir.Val.{Fits}
 use mir.Syntax.{w8}
 use Rattle.model.specs.Lists.{Answer, accepted, refused}
-use Rattle.model.specs.Table.{Component, Read, noArc, noComponent, size, componentOf}
+use Rattle.model.specs.Table.{Component, Read, noArc, noComponent, size, arcOf}
 use Rattle.model.specs.Limits.{ComponentIn}
 use Rattle.model.specs.Reader.{readTable}
 use Rattle.model.specs.Places.{Valid, readOf, componentIn}
@@ -45,5 +45,5 @@ module _ (bs : List ℕ) (c : ℕ) (at : Entry) where
         → {n : ℕ} → n ≡ length (componentIn bs c .arcs) → chosenOf none n ≡ edgeChoiceCall bs c at
     call-nowhere b k h q =
         let i = limits-of bs b v c k in
-        let elsewhere : (e : ℕ) → e < length (componentIn bs c .arcs) → _ ≡ at .location → ⊥ = λ e l z. omega (arith, all-at noArc (i .arcs) e l .source, z) in
+        let elsewhere : (e : ℕ) → e < length (componentIn bs c .arcs) → arcOf (componentIn bs c) e .edge .source ≡ at .location → ⊥ = λ e l z. omega (arith, all-at noArc (i .arcs) e l .source, z) in
         call-read (sym (none-from-there (componentIn bs c) at elsewhere)) (q ∙ sym (all-from-there (componentIn bs c) at elsewhere))
