@@ -93,3 +93,61 @@ fn told(entry: &Entry, choice: &EdgeChoice) -> String {
     let edges = if choice.looked == 1 { "edge" } else { "edges" };
     format!("{taken}\nlooked at {} {edges}\n", choice.looked)
 }
+
+#[cfg(test)]
+mod tests {
+    use super::*;
+
+    fn read(words: &str) -> Option<Entry> {
+        let words: Vec<String> = words.split(' ').map(String::from).collect();
+        entry(&words)
+    }
+
+    #[test]
+    fn entries_are_read() {
+        let read_as = |clocks, values| {
+            Some(Entry {
+                component: 1,
+                location: 255,
+                clocks,
+                values,
+            })
+        };
+        assert_eq!(read("1 255 - -"), read_as([0; 4], [0; 4]));
+        let (clocks, values) = ([4_294_967_295, 0, 0, 0], [-32_768, 32_767, 0, 0]);
+        assert_eq!(
+            read("1 255 4294967295 -32768,32767"),
+            read_as(clocks, values)
+        );
+        assert_eq!(read("1 255 1,2,3,4 -"), read_as([1, 2, 3, 4], [0; 4]));
+        for wrong in [
+            "1 255 -",
+            "1 255 - - -",
+            "256 0 - -",
+            "0 -1 - -",
+            "0 0 4294967296 -",
+            "0 0 -1 -",
+            "0 0 1,2,3,4,5 -",
+            "0 0 1, -",
+            "0 0 - 32768",
+            "0 0 - x",
+        ] {
+            assert_eq!(read(wrong), None, "{wrong}");
+        }
+    }
+
+    #[test]
+    fn answers_are_told() {
+        let entry = Entry::default();
+        let (edge, ready, end) = (3, 0, 5);
+        let taken = Some(TakenEdge { edge, ready, end });
+        let told = |taken, looked| told(&entry, &EdgeChoice { taken, looked });
+        let words = "edge 3, from 0 to 5 ticks after the entry\nlooked at 4 edges\n";
+        assert_eq!(told(taken, 4), words);
+        assert_eq!(told(None, 1), "no edge is a candidate\nlooked at 1 edge\n");
+        assert_eq!(
+            told(None, 0),
+            "there is no component 0\nlooked at 0 edges\n"
+        );
+    }
+}
