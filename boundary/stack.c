@@ -45,10 +45,15 @@ struct lent {
     uint8_t number;
 };
 
+/* Apart from the others, whose frame would else hold the entry that is passed. */
+__attribute__((noinline)) static void call_edge_choice(const uint8_t *bytes, size_t length) {
+    EntryNumbers entry = {0, 0, {0, 0, 0, 0}, {0, 0, 0, 0}};
+    edge_choice = timed_network_edge_choice(bytes, length, entry);
+}
+
 static void call(int request, const struct lent *lent) {
     const uint8_t *bytes = lent->bytes.at;
     size_t length = lent->bytes.length;
-    EntryNumbers entry = {0, 0, {0, 0, 0, 0}, {0, 0, 0, 0}};
     switch (request) {
     case CHECK:
         verdict = timed_network_check(bytes, length);
@@ -60,7 +65,7 @@ static void call(int request, const struct lent *lent) {
         called = timed_network_timing_chart(bytes, length, chart, MAX_CHART);
         break;
     case EDGE_CHOICE:
-        edge_choice = timed_network_edge_choice(bytes, length, entry);
+        call_edge_choice(bytes, length);
         break;
     case TRANSLATE:
         called = timed_network_translate(bytes, length, program, MAX_PROGRAM);
