@@ -132,9 +132,14 @@ struct network {
     NodeRegisters node[NODES];
 };
 
+/* Where the components of an accepted table begin: behind its header and its bands. */
+static size_t components_of(struct bytes table) {
+    return 7u + (table.at[0] > 1 ? table.at[4] : 0u);
+}
+
 static struct network network_of(enum where where, struct bytes table) {
     struct network network;
-    size_t at = 7, length = guarded_translate(where, table, MAX_PROGRAM).size;
+    size_t at = components_of(table), length = guarded_translate(where, table, MAX_PROGRAM).size;
     memcpy(program_bytes, program, length);
     network.count = table.at[3];
     for (unsigned c = 0; c < network.count; c++) {
