@@ -10,12 +10,19 @@ _Static_assert(sizeof(RunNumbers) == 16 && offsetof(RunNumbers, tick) == 4 &&
                    offsetof(RunNumbers, size) == 12,
                "run");
 _Static_assert(sizeof(Passage) == 16 && offsetof(Passage, entry) == 4, "passage");
+_Static_assert(sizeof(EntryNumbers) == 28 && offsetof(EntryNumbers, clocks) == 4 &&
+                   offsetof(EntryNumbers, values) == 20,
+               "entry");
+_Static_assert(sizeof(EdgeChoiceNumbers) == 16 && offsetof(EdgeChoiceNumbers, edge) == 3 &&
+                   offsetof(EdgeChoiceNumbers, looked) == 12,
+               "edge choice");
 _Static_assert(sizeof(MeetingsNumbers) == 8 && offsetof(MeetingsNumbers, size) == 4,
                "meetings");
 
-const char *const call_names[CALLS] = {"check",    "schedule", "timing_chart", "plan",
-                                       "translate", "part",     "run",          "passages",
-                                       "meetings", "start",    "step",         "take_message"};
+const char *const call_names[CALLS] = {"check",        "schedule",  "timing_chart", "plan",
+                                       "edge_choice",  "translate", "part",         "run",
+                                       "passages",     "meetings",  "start",        "step",
+                                       "take_message"};
 unsigned long made[CALLS];
 uint32_t list[MAX_LIST];
 uint8_t chart[MAX_CHART];
@@ -127,6 +134,28 @@ CallNumbers guarded_plan(enum where where, struct slots slots, size_t lent) {
         if (guarded_check(where, table).number != 0)
             fail("a plan is not accepted");
     }
+    return answer;
+}
+
+/*
+ * What holds for every edge choice: the edge taken is one of those looked at,
+ * and the last of them where it is ready with no delay.
+ */
+EdgeChoiceNumbers guarded_edge_choice(enum where where, struct bytes table,
+                                      EntryNumbers entry) {
+    const uint8_t *in = place_input(&table_place, where, table.at, table.length);
+    EdgeChoiceNumbers answer = timed_network_edge_choice(in, table.length, entry);
+    made[EDGE_CHOICE]++;
+    place_input_done(&table_place, table.at);
+    try_verdict(answer.number, answer.component, 6);
+    if (!answer.taken && (answer.edge | answer.ready | answer.end))
+        fail("no edge is taken, and it has numbers");
+    if (answer.taken && (answer.ready >= answer.end || answer.edge >= answer.looked))
+        fail("an edge is taken that cannot be");
+    if (answer.taken && answer.ready == 0 && answer.looked != answer.edge + 1u)
+        fail("edges were looked at behind one that is ready at once");
+    if (answer.looked > MAX_EDGES || (answer.number != 0 && (answer.taken || answer.looked)))
+        fail("so many edges cannot have been looked at");
     return answer;
 }
 

@@ -7,6 +7,7 @@
 
 enum {
     FIELDS = 7,
+    MAX_EDGES = 32,
     MAX_PASSAGES = 1024,
     MAX_LIST = FIELDS * MAX_PASSAGES,
     MAX_MET = FIELDS * (MAX_PASSAGES + 1),
@@ -37,6 +38,7 @@ enum call {
     SCHEDULE,
     TIMING_CHART,
     PLAN,
+    EDGE_CHOICE,
     TRANSLATE,
     PART,
     RUN,
@@ -68,6 +70,8 @@ VerdictNumbers guarded_check(enum where where, struct bytes table);
 CallNumbers guarded_schedule(enum where where, struct bytes table, size_t lent);
 CallNumbers guarded_timing_chart(enum where where, struct bytes table, size_t lent);
 CallNumbers guarded_plan(enum where where, struct slots slots, size_t lent);
+EdgeChoiceNumbers guarded_edge_choice(enum where where, struct bytes table,
+                                      EntryNumbers entry);
 CallNumbers guarded_translate(enum where where, struct bytes table, size_t lent);
 PartNumbers guarded_part(enum where where, struct bytes bytes, uint8_t node);
 RunNumbers guarded_run(enum where where, struct bytes table,

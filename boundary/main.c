@@ -134,6 +134,21 @@ static void random_plan(enum where where) {
     lend_for_plan(where, slots, (long)random_below(5) - 2);
 }
 
+/* The edge choice at any entry, most with small numbers. */
+static void any_entry(enum where where, struct bytes table, uint8_t refusal) {
+    EntryNumbers entry;
+    memset(&entry, 0, sizeof entry);
+    size_t most = random_below(4) == 0 ? 256 : 3;
+    entry.component = (uint8_t)random_below(most);
+    entry.location = (uint8_t)random_below(most);
+    for (int i = 0; i < 4; i++) {
+        entry.clocks[i] = (uint32_t)(random_below(8) == 0 ? UINT32_MAX : random_below(12));
+        entry.values[i] = (int16_t)(random_below(8) == 0 ? INT16_MIN : random_below(5));
+    }
+    EdgeChoiceNumbers answer = guarded_edge_choice(where, table, entry);
+    same(answer.number == (refusal <= 6 ? refusal : 0), "another refusal than that of the check");
+}
+
 static void all_calls(enum where where, struct bytes table, struct bytes choices,
                       size_t lent) {
     VerdictNumbers verdict = guarded_check(where, table);
@@ -143,6 +158,7 @@ static void all_calls(enum where where, struct bytes table, struct bytes choices
     guarded_passages(where, table, lent / FIELDS);
     CallNumbers charted = guarded_timing_chart(where, table, lent);
     guarded_meetings(where, table, lent);
+    any_entry(where, table, verdict.number);
     if (verdict.number != 0) {
         same(planned.number == verdict.number && translated.number == verdict.number &&
                  ran.number == verdict.number && charted.number == verdict.number,

@@ -37,6 +37,7 @@ static CallNumbers called;
 static PartNumbers placed;
 static RunNumbers ran;
 static MeetingsNumbers meetings;
+static EdgeChoiceNumbers edge_choice;
 
 /* What is lent to a call. For a node's calls `bytes` is its part. */
 struct lent {
@@ -44,6 +45,12 @@ struct lent {
     uint8_t number;
     struct slots slots;
 };
+
+/* Apart from the others, whose frame would else hold the entry that is passed. */
+__attribute__((noinline)) static void call_edge_choice(const uint8_t *bytes, size_t length) {
+    EntryNumbers entry = {0, 0, {0, 0, 0, 0}, {0, 0, 0, 0}};
+    edge_choice = timed_network_edge_choice(bytes, length, entry);
+}
 
 static void call(int request, const struct lent *lent) {
     const uint8_t *bytes = lent->bytes.at;
@@ -61,6 +68,9 @@ static void call(int request, const struct lent *lent) {
     case PLAN:
         called = timed_network_plan(lent->slots.probes, lent->slots.slot, lent->slots.guard,
                                     lent->slots.period, plan, MAX_PLAN);
+        break;
+    case EDGE_CHOICE:
+        call_edge_choice(bytes, length);
         break;
     case TRANSLATE:
         called = timed_network_translate(bytes, length, program, MAX_PROGRAM);

@@ -79,8 +79,8 @@ static void read_slots(struct stored *stored, const char *words) {
 }
 
 static void read_vectors(const char *root, const char *path) {
-    static const char *const words[] = {"check",   "schedule", "chart", "plan",
-                                        "program", "part",     "run"};
+    static const char *const words[] = {"check",  "schedule", "chart", "plan",
+                                        "looked", "program",  "part",  "run"};
     char *line = (char *)read_file(root, path).at;
     while (*line != 0) {
         char *next = cut(line, '\n');
@@ -137,7 +137,9 @@ void stored_read(const char *root) {
     read_vectors(root, "vectors/random.tsv");
     read_vectors(root, "vectors/chart.tsv");
     read_vectors(root, "vectors/bands.tsv");
+    read_vectors(root, "vectors/hearings.tsv");
     read_vectors(root, "vectors/plan.tsv");
+    read_vectors(root, "vectors/edge_choice.tsv");
     read_corpus(root);
 }
 
@@ -206,6 +208,28 @@ static void write_plan(const struct stored *stored, enum where where) {
         write_hex(plan, answer.size);
 }
 
+/*
+ * How many edges are looked at for the passages that open at tick 0, each with
+ * the edge of the schedule: the front of the answer. The rest, at entries with
+ * other clocks and variables, is not asked here.
+ */
+static void write_looked(const struct stored *stored, enum where where) {
+    CallNumbers planned = guarded_schedule(where, stored->table, MAX_LIST);
+    if (write_refusal(planned.number, planned.component))
+        return;
+    for (uint8_t c = 0; c < stored->table.at[3]; c++) {
+        const uint32_t *row = &list[(size_t)FIELDS * c];
+        EntryNumbers entry = {c, (uint8_t)row[2], {0, 0, 0, 0}, {0, 0, 0, 0}};
+        EdgeChoiceNumbers answer = guarded_edge_choice(where, stored->table, entry);
+        if (!answer.taken || answer.edge != row[1] || answer.ready != row[4] ||
+            answer.end != row[5])
+            fail("another edge than that of the schedule");
+        write_number(c == 0 ? "" : " ", answer.looked);
+    }
+    if (used < strlen(stored->answer) && stored->answer[used] == ' ')
+        write_text(stored->answer + used);
+}
+
 static void write_program(const struct stored *stored, enum where where) {
     CallNumbers answer = guarded_translate(where, stored->table, MAX_PROGRAM);
     if (!write_refusal(answer.number, answer.component))
@@ -236,8 +260,8 @@ static void write_run(const struct stored *stored, enum where where) {
 
 void stored_try(const struct stored *stored, enum where where) {
     static void (*const writers[])(const struct stored *, enum where) = {
-        write_check,   write_schedule, write_chart, write_plan,
-        write_program, write_part,     write_run};
+        write_check,  write_schedule, write_chart, write_plan,
+        write_looked, write_program,  write_part,  write_run};
     trying("a stored case", stored->name);
     used = 0;
     text[0] = 0;

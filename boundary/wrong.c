@@ -20,6 +20,7 @@ void __real_timed_network_step(NodeRegisters *, const uint8_t *, size_t, uint8_t
 void __real_timed_network_take_message(NodeRegisters *, const uint8_t *, size_t, uint8_t);
 CallNumbers __real_timed_network_timing_chart(const uint8_t *, size_t, uint8_t *, size_t);
 CallNumbers __real_timed_network_plan(uint32_t, uint32_t, uint32_t, uint32_t, uint8_t *, size_t);
+EdgeChoiceNumbers __real_timed_network_edge_choice(const uint8_t *, size_t, EntryNumbers);
 
 VerdictNumbers __wrap_timed_network_check(const uint8_t *, size_t);
 CallNumbers __wrap_timed_network_schedule(const uint8_t *, size_t, uint32_t *, size_t);
@@ -34,6 +35,7 @@ void __wrap_timed_network_step(NodeRegisters *, const uint8_t *, size_t, uint8_t
 void __wrap_timed_network_take_message(NodeRegisters *, const uint8_t *, size_t, uint8_t);
 CallNumbers __wrap_timed_network_timing_chart(const uint8_t *, size_t, uint8_t *, size_t);
 CallNumbers __wrap_timed_network_plan(uint32_t, uint32_t, uint32_t, uint32_t, uint8_t *, size_t);
+EdgeChoiceNumbers __wrap_timed_network_edge_choice(const uint8_t *, size_t, EntryNumbers);
 
 static int wrong(int fault) {
     static int chosen = -1;
@@ -221,5 +223,19 @@ CallNumbers __wrap_timed_network_plan(uint32_t probes, uint32_t slot, uint32_t g
         answer.number = 13; /* 13 before 18 */
     if (wrong(49) && answer.number == 0)
         table[16] -= 1; /* a bound one tick too low */
+    return answer;
+}
+
+EdgeChoiceNumbers __wrap_timed_network_edge_choice(const uint8_t *table, size_t length,
+                                                   EntryNumbers entry) {
+    if (wrong(50))
+        entry.component = 0; /* asks for component 0 whatever is asked */
+    EdgeChoiceNumbers answer = __real_timed_network_edge_choice(table, length, entry);
+    if (wrong(51) && length > 0)
+        touch(table - 1); /* reads the byte before the table */
+    if (wrong(52) && answer.taken && answer.ready > 0)
+        answer.looked -= 1; /* counts one too few where none is ready at once */
+    if (wrong(53) && answer.taken && answer.ready == 0 && answer.looked < 32)
+        answer.looked += 1; /* looks at one more */
     return answer;
 }

@@ -72,9 +72,9 @@ need_library() {
     is_current "$library" "${verified[@]}" || make_current "$library" '^rt: ' rt staticlib timed_network
 }
 
-# The Rust tool that has the library in it.
-need_part() {
-    tool="$root/rust/target/release/program_part"
+# A Rust tool that has the library in it.
+need_library_tool() {
+    tool="$root/rust/target/release/$1"
     if ! is_current "$tool" "${verified[@]}" "${plain[@]}"; then
         need_library
         make_rust timed_network

@@ -10,6 +10,7 @@ usage: vanillatarn COMMAND ...
   chart TABLE                               its schedule as a chart, a row a component
   plan --probes N --slot S --guard G --period P [-o FILE]
                                             a table in which each probe has a slot
+  edge TABLE --component C --location L ... the edge that is taken at an entry
   translate TABLE [-o FILE]                 the program of its nodes
   list PROGRAM                              a program, a statement a line
   part PROGRAM NODE [-o FILE]               the part of a program that belongs to one node
@@ -26,9 +27,9 @@ file of -o is left as it was.
 
 Exit status
   0  fine
-  1  the answer is no: a table or a plan is refused, a run ends late or with a
-     choice that is not allowed, a program is damaged or has no such part, a text
-     has a fault
+  1  the answer is no: a table or a plan is refused, no edge is taken, a run ends
+     late or with a choice that is not allowed, a program is damaged or has no such
+     part, a text has a fault
   2  wrong use; a file that cannot be read or written, is empty or too long
   3  a tool is missing, could not be built or failed; standard output, standard
      error or the scratch folder cannot be written
@@ -83,6 +84,21 @@ Every table written is accepted: that is proved.
 
 Exit status: 0 written, 1 refused: a number is outside its range, or the slots do
 not fit the period.
+TEXT
+        edge) cat <<'TEXT' ;;
+usage: vanillatarn edge TABLE --component C --location L
+                        [--clocks X,X,X,X] [--variables V,V,V,V]
+
+Tells which edge component C takes as it enters location L with these clocks and
+variables (up to four each, with commas between them; those left out are 0), when
+its window starts and ends, and how many edges were looked at. The search stops
+at the first edge that is a candidate with no delay: k + 1 edges are looked at,
+if that is edge k; if there is none, all of the component's.
+
+The table has to pass checks 1 to 6 alone: for a table that 8 refuses this shows
+where no edge is a candidate. No edge leaves a location that is not there.
+
+Exit status: 0 an edge is taken; 1 none is, or the table is refused.
 TEXT
         translate) cat <<'TEXT' ;;
 usage: vanillatarn translate TABLE [-o FILE]

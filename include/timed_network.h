@@ -175,6 +175,59 @@ CallNumbers timed_network_plan(uint32_t probes, uint32_t slot, uint32_t guard,
                                uint32_t period, uint8_t *table, size_t length);
 
 /*
+ * A component as it enters a location. 28 bytes.
+ *
+ * component, location: their numbers, counted from 0.
+ * clocks, values:      its clocks and its variables at the entry. Those that
+ *                      the component does not have are not read.
+ */
+typedef struct EntryNumbers {
+    uint8_t component;
+    uint8_t location;
+    uint32_t clocks[4];
+    int16_t values[4];
+} EntryNumbers;
+
+/*
+ * The answer of timed_network_edge_choice.
+ *
+ * number, component: 0 and 255, or a refusal with 1 to 6 as in a verdict.
+ * taken:             whether an edge is taken: whether one is a candidate.
+ * edge:              its number, counted from 0; 0 if none is taken.
+ * ready, end:        the first and the last tick of its window, counted from
+ *                    the entry; 0 if none is taken.
+ * looked:            how many edges were looked at: k + 1 where k is the lowest
+ *                    edge that is a candidate and ready with no delay, all of
+ *                    the component's edges where there is none. 0 after a
+ *                    refusal.
+ */
+typedef struct EdgeChoiceNumbers {
+    uint8_t number;
+    uint8_t component;
+    bool taken;
+    uint8_t edge;
+    uint32_t ready;
+    uint32_t end;
+    uint32_t looked;
+} EdgeChoiceNumbers;
+
+/*
+ * Chooses the edge that a component takes as it enters a location: the
+ * candidate with the least ready, on a tie the lowest number, as the schedule
+ * does. No edge is tried after one that is a candidate and ready with no delay.
+ *
+ * table, length: as for timed_network_check. The table has to pass checks 1 to
+ *                6 alone, so that the reason of a later refusal can be sought.
+ * entry:         the component and what it enters with, by value.
+ *
+ * A component that the table does not have takes none, and 0 edges are looked
+ * at. No edge leaves a location that the component does not have: none is
+ * taken, and all are looked at. Nothing is written.
+ */
+EdgeChoiceNumbers timed_network_edge_choice(const uint8_t *table, size_t length,
+                                            EntryNumbers entry);
+
+/*
  * Writes the program bytes of a table: the programs of all its nodes, laid
  * out as document 01 says under "The program".
  *

@@ -22,6 +22,7 @@ pub mod Chart
 pub mod Hearings
 pub mod Versions
 pub mod Build
+pub mod EdgeChoice
 pub mod Cases
 pub mod DemandCases
 pub mod DemandWrongs

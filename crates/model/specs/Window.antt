@@ -7,7 +7,7 @@ use Prim.Native.Nat.{ℕ, suc, pred, _+_, _-_, min, max, _^_, _/_, _%_, _≤_, _
 use lib.Dec.{leb, ltb, eqb}
 use lib.IntN.{ℤ, pos, negsuc, _+ℤ_}
 use lib.Signed.{leZ}
-use lib.ListN.{getD, set}
+use lib.ListN.{length, getD, set}
 use Rattle.model.specs.declared.Action.{Action}
 use Rattle.model.specs.declared.Action.the-variants.{Internal, Send, Receive}
 use Rattle.model.specs.declared.Location.{Location}
@@ -101,6 +101,19 @@ unfoldable pub choice : Component → Entry → Option Pick
 unfolding chosen
 choice C at = chosen (locationOf C (at .location)) (at .location) (at .clocks) (at .values) 0 (C .arcs) none
 
+-- Document 02, wish 5: "as soon as an edge is ready with no delay and is a candidate", of an edge from location `here`.
+abbrev pub atOnce : Location → ℕ → List ℕ → List ℤ → Arc → Bool
+atOnce l here xs vs a = eligible l here xs vs a && eqb (readyOf (a .clockGuards) xs) 0
+
+-- "how many edges it looked at: k + 1 for the lowest such edge k, all of the component's edges if there is none"; the edges from number e on
+unfoldable pub lookedFrom : Location → ℕ → List ℕ → List ℤ → ℕ → List Arc → ℕ
+lookedFrom l here xs vs e [] = e
+lookedFrom l here xs vs e (a ∷ as′) = let further = lookedFrom l here xs vs (suc e) as′ in cond (atOnce l here xs vs a) (suc e) further
+
+unfoldable pub looked : Component → Entry → ℕ
+unfolding lookedFrom
+looked C at = lookedFrom (locationOf C (at .location)) (at .location) (at .clocks) (at .values) 0 (C .arcs)
+
 -- The same without the search: edge e of the component is an edge from the location entered that is a candidate; and its window.
 abbrev pub mayTake : Component → Entry → ℕ → Bool
 mayTake C at e = eligible (locationOf C (at .location)) (at .location) (at .clocks) (at .values) (arcOf C e)
@@ -117,6 +130,16 @@ pub record TakenEdge (n : ℕ) (C : Component) (at : Entry) (p : Pick) : Type 0 
   pub window : p ≡ windowAt C at (p .edge)
   pub least : (e : ℕ) → e < n → mayTake C at e ≡ true → p .ready ≤ windowAt C at e .ready
   pub lowest : (e : ℕ) → e < n → mayTake C at e ≡ true → windowAt C at e .ready ≡ p .ready → p .edge ≤ e
+
+-- edge e of the component is an edge from the location entered that is a candidate and ready with no delay
+abbrev pub mayTakeAtOnce : Component → Entry → ℕ → Bool
+mayTakeAtOnce C at e = mayTake C at e && eqb (windowAt C at e .ready) 0
+
+-- n is as many edges as are looked at: "k + 1 for the lowest such edge k" (`upToEdge`), "all of the component's edges if there is none" (`allEdges`).
+-- The law `looked-is` in proofs/Window/Looked.antt: `looked` is this number, and no other is.
+pub data LookedAt (C : Component) (at : Entry) (n : ℕ) : Type 0 where
+  upToEdge : (k : ℕ) → k < length (C .arcs) → mayTakeAtOnce C at k ≡ true → ((j : ℕ) → j < k → mayTakeAtOnce C at j ≡ false) → n ≡ suc k → LookedAt C at n
+  allEdges : ((j : ℕ) → j < length (C .arcs) → mayTakeAtOnce C at j ≡ false) → n ≡ length (C .arcs) → LookedAt C at n
 
 -- ## What the passage leads to
 

@@ -13,10 +13,11 @@ ghost use Rattle.model.specs.Meetings.{meetingsCall};
 ghost use Rattle.model.specs.Chart.{chartCall};
 ghost use Rattle.slot_plan.specs.Plan.{slotsOf, planCall};
 ghost use Rattle.slot_plan.specs.PlanSchedule.{PlanAccepted};
+ghost use Rattle.model.specs.EdgeChoice.{edgeChoiceCall};
 ghost use Rattle.node.specs.After.{startOf};
 ghost use Rattle.lent_node.specs.Step.{heldOf, steppedOf, messageOf};
 ghost use Rattle.passages.specs.Passages.{passagesCall};
-ghost use Rattle.timed_network.specs.Numbers.{NumbersOf};
+ghost use Rattle.timed_network.specs.Numbers.{NumbersOf, EdgeNumbersOf, entryOf};
 use calls::Called;
 use meetings::Listed;
 use model::End;
@@ -24,6 +25,7 @@ use model::Verdict;
 use node::Node;
 use passages::Passage;
 use slot_plan::Slots;
+use window::Entry;
 
 // A verdict as two numbers: 0 for accepted, else the number of the refusal; and the component concerned, 255 for none.
 #[repr(C)]
@@ -94,6 +96,27 @@ pub struct MeetingsNumbers {
     pub refusal: u8,
     pub concerned: u8,
     pub size: u32,
+}
+
+// A component as it enters a location, as numbers.
+#[repr(C)]
+pub struct EntryNumbers {
+    pub component: u8,
+    pub location: u8,
+    pub clocks: [u32; 4],
+    pub values: [i16; 4],
+}
+
+// The answer of the edge choice as numbers: the edge taken, if any, its window counted from the entry, and how many edges were looked at.
+#[repr(C)]
+pub struct EdgeChoiceNumbers {
+    pub number: u8,
+    pub component: u8,
+    pub taken: bool,
+    pub edge: u8,
+    pub ready: u32,
+    pub end: u32,
+    pub looked: u32,
 }
 
 // A verdict as two numbers.
@@ -214,6 +237,33 @@ pub extern "C" fn timed_network_plan(
         table,
     );
     numbers_of(c)
+}
+
+// The edge that a component takes as it enters a location, and how many edges were looked at.
+#[no_mangle]
+pub extern "C" fn timed_network_edge_choice(table: &[u8], asked: EntryNumbers) -> EdgeChoiceNumbers
+    ensures { λ r. ⌜ EdgeNumbersOf (edgeChoiceCall (now (table .entry)) (asked .component) (entryOf asked)) r ⌝ }
+{
+    let clocks = asked.clocks;
+    let values = asked.values;
+    let at = Entry {
+        location: asked.location,
+        tick: 0,
+        clocks,
+        values,
+    };
+    let chosen = edge_choice::edge_choice(table, asked.component, at);
+    let verdict = chosen.verdict;
+    let answer = verdict_numbers(verdict);
+    EdgeChoiceNumbers {
+        number: answer.number,
+        component: answer.component,
+        taken: chosen.taken,
+        edge: chosen.edge,
+        ready: chosen.ready,
+        end: chosen.end,
+        looked: chosen.looked,
+    }
 }
 
 // The programs of the nodes: bytes laid over the front of those lent.

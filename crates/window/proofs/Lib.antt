@@ -8,3 +8,4 @@ pub mod Leaving
 pub mod Ready
 pub mod Choosing
 pub mod Indexing
+pub mod Looking

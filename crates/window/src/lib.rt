@@ -9,7 +9,7 @@ ghost use Rattle.model.specs.Lists.{All};
 ghost use Rattle.model.specs.Table.{size};
 ghost use Rattle.model.specs.Reader.{clockGuardAt, dataGuardAt, pairAt};
 ghost use Rattle.model.specs.Places.{listAt, arcAt, arcPlace, startOf, Valid, readOf, componentIn};
-ghost use Rattle.model.specs.Window.{readyOf, pastOf, dataWithin, dataHolds, considered, choice, aged, paired, leadsTo, leaves};
+ghost use Rattle.model.specs.Window.{readyOf, pastOf, dataWithin, dataHolds, considered, choice, looked, aged, paired, leadsTo, leaves};
 ghost use Rattle.model.specs.Schedule.{opening};
 ghost use Rattle.window.specs.Indexed.{Indexed};
 ghost use Rattle.window.specs.Views.{entryOf, pickOf, Kept, messageOf, openingOf, ArcReady, Placed, betterOf};
@@ -51,6 +51,12 @@ pub struct Choice {
     pub place: usize,
     pub ready: u32,
     pub end: u32,
+}
+
+// What the search found: the edge taken, and how many edges were looked at.
+pub struct Search {
+    pub choice: Choice,
+    pub looked: usize,
 }
 
 pub struct Updated {
@@ -212,11 +218,13 @@ fn considered_edge(
     better(best, candidate)
 }
 
-// The edge that component c, which starts there in the table, takes as it enters: of those that leave its location, found by the index.
-pub fn choose(table: &[u8], start: usize, c: u8, at: Entry, index: &[u16]) -> Choice
+// The edge that component c, which starts there in the table, takes as it enters: of those that leave its location, found by the index. The search
+// is left as soon as one is a candidate with no delay; edges that leave other locations count as looked at on the way.
+pub fn choose(table: &[u8], start: usize, c: u8, at: Entry, index: &[u16]) -> Search
     requires { ⌜ Valid (now table) × (c < size (readOf (now table) .table)) × (start ≡ startOf (now table) c) × (at .location < length (componentIn (now table) c .locations)) × Indexed (now table) (now index) c start ⌝ }
-    ensures picks { λ r. ⌜ pickOf r ≡ choice (componentIn (now (table .entry)) c) (entryOf at) ⌝ }
-    ensures keeps { λ r. ⌜ Kept (arcPlace (now (table .entry)) start) r ⌝ }
+    ensures picks { λ r. ⌜ pickOf (r .choice) ≡ choice (componentIn (now (table .entry)) c) (entryOf at) ⌝ }
+    ensures counts { λ r. ⌜ r .looked ≡ looked (componentIn (now (table .entry)) c) (entryOf at) ⌝ }
+    ensures keeps { λ r. ⌜ Kept (arcPlace (now (table .entry)) start) (r .choice) ⌝ }
 {
     let count = parts::wide(table[start + layout::COMPONENT_EDGES]);
     let there = start
@@ -231,12 +239,23 @@ pub fn choose(table: &[u8], start: usize, c: u8, at: Entry, index: &[u16]) -> Ch
         end: 0,
     };
     let mut e = index[from + parts::wide(at.location)] as usize;
-    while e < count {
+    loop {
+        if count <= e {
+            break Search {
+                choice: best,
+                looked: count,
+            };
+        }
         let place = index[from + index::PLACE + e] as usize;
         best = considered_edge(&table[place..], e as u8, place, location, at, best);
+        if best.ready == 0 {
+            break Search {
+                choice: best,
+                looked: e + 1,
+            };
+        }
         e = index[from + index::NEXT + e] as usize;
     }
-    best
 }
 
 fn aged_clock(bit: u8, grown: u32, clock: u32) -> u32
@@ -334,7 +353,8 @@ pub fn open(table: &[u8], start: usize, c: u8, at: Entry, index: &[u16]) -> Open
     ensures opens { λ r. ⌜ openingOf c (componentIn (now (table .entry)) c) (entryOf at) r ≡ opening c (componentIn (now (table .entry)) c) (entryOf at) ⌝ }
     ensures placed { λ r. ⌜ Placed (now (table .entry)) start c r ⌝ }
 {
-    let chosen = choose(table, start, c, at, index);
+    let found = choose(table, start, c, at, index);
+    let chosen = found.choice;
     if 65535 < chosen.ready {
         return Opening::Fails(8);
     }

@@ -58,6 +58,16 @@ pub fn rows() -> Vec<Row> {
         )
         .of_length(8192),
         Row::new("a hub and 7 probes", &with_passages(hub(1), 1024), 1024),
+        Row::new(
+            "32 edges from each location, the first taken at once",
+            &with_passages(crowds(0), 1024),
+            1024,
+        ),
+        Row::new(
+            "32 edges from each location, none ready at once",
+            &with_passages(crowds(1), 1024),
+            1024,
+        ),
     ];
     for passages in [128, 256, 512, 1024] {
         let table = with_passages(listeners(), passages);
@@ -217,6 +227,38 @@ fn longest() -> Table {
     table
 }
 
+/// Eight nodes with one location and 32 edges from there, which are ready so
+/// many ticks after the entry, one more and so on. The first is always taken.
+fn crowds(first: u16) -> Table {
+    let edge = |number: u16| {
+        let bound = ClockBound {
+            clock: 0,
+            low: first + number,
+            high: None,
+        };
+        Edge {
+            mask: 1,
+            clock_bounds: [bound].into_iter().collect(),
+            ..Edge::default()
+        }
+    };
+    let bound = first + 2 * u16::from(MAX_EDGES);
+    let component = Component {
+        initial: 0,
+        clocks: 1,
+        variables: 0,
+        locations: vec![Location { clock: 0, bound }],
+        edges: (0..MAX_EDGES.into()).map(edge).collect(),
+    };
+    Table {
+        version: 1,
+        bands: Vec::new(),
+        channels: 0,
+        horizon: 1,
+        components: vec![component; MAX_COMPONENTS],
+    }
+}
+
 /// Puts an edge into a component, from one of its locations by turns.
 fn push(component: &mut Component, mut edge: Edge) {
     edge.source = (component.edges.len() % component.locations.len()) as u8;
@@ -299,7 +341,7 @@ mod tests {
     /// Each one is asserted to be what it is said to be.
     #[test]
     fn all_tables_can_be_made() {
-        assert_eq!(rows().len(), 10);
+        assert_eq!(rows().len(), 12);
         assert_eq!(slow_rows().len(), 2);
         assert_eq!(refused().len(), 6);
     }

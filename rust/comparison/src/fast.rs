@@ -2,7 +2,7 @@
 //! a thread answers all calls, so that what a call leaves in its buffers is
 //! there when the next one is made.
 
-use crate::readers::{refused, Reader};
+use crate::readers::{refused, second_edge_choice, Reader};
 use std::cell::RefCell;
 use timed_network::{Call, RunNumbers, Slots, Verdict, NO_NODE};
 use yardstick::{Refusal, Run, Yardstick};
@@ -16,13 +16,15 @@ fn with<T>(call: impl FnOnce(&mut Yardstick) -> T) -> T {
     YARDSTICK.with(|yardstick| call(&mut yardstick.borrow_mut()))
 }
 
-/// The yardstick's calls.
+/// The yardstick's calls. It has none for an edge choice: the second
+/// implementation's stands in its place.
 pub(crate) const READER: Reader = Reader {
     check,
     schedule,
     translate,
     timing_chart,
     plan,
+    edge_choice: second_edge_choice,
     part,
     run,
 };

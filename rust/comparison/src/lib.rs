@@ -2,8 +2,10 @@
 //! the yardstick of speed.
 //!
 //! Both sides get the same tables, class after class, and are lent lists and bytes
-//! of the same lengths for schedules, charts, programs, plans and observations; the first
-//! difference ends the comparison. Each run is also held to demand 3.
+//! of the same lengths for schedules, charts, programs, plans and observations; at
+//! the entries of schedules and at others both are asked for the edge that is
+//! taken. The first difference ends the comparison. Each run is also held to
+//! demand 3.
 //! [`tables`] makes well-formed tables, [`layout`] and [`bytes`] serve to
 //! damage them, [`runs`] draws choices, [`classes`] lists what is tried,
 //! [`trial`] tries it.
@@ -14,6 +16,7 @@ pub mod buffers;
 pub mod bytes;
 pub mod classes;
 pub mod difference;
+pub mod edge_choices;
 mod fast;
 pub mod layout;
 pub mod lists;
@@ -83,8 +86,9 @@ pub struct Least {
 
 /// What the comparison should have tried and did not: a class without cases,
 /// an answer that never came, one of the faults of a send's hearing that came
-/// too rarely, lists or bytes that never came back in one of the ways, parts never found or never missed, a kind of run that is too
-/// rare, fewer cases or runs in all than demanded.
+/// too rarely, lists or bytes that never came back in one of the ways, a kind of
+/// edge choice that never came, parts never found or never missed, a kind of run
+/// that is too rare, fewer cases or runs in all than demanded.
 pub fn gaps(tallies: &[Tally], least: &Least) -> Vec<String> {
     let empty = tallies.iter().filter(|tally| tally.is_empty());
     let mut gaps: Vec<String> = empty
@@ -123,7 +127,7 @@ fn hearing_gaps(sum: &Tally, least: u64) -> impl Iterator<Item = String> + '_ {
     counts.into_iter().filter(rare).map(gap)
 }
 
-/// The ways in which no list, no bytes or no part came back.
+/// The ways in which no list, no bytes, no edge or no part came back.
 fn list_gaps(sum: &Tally) -> impl Iterator<Item = String> {
     let ways = [
         (sum.lists.written, "no list was written"),
@@ -138,6 +142,13 @@ fn list_gaps(sum: &Tally) -> impl Iterator<Item = String> {
         (sum.plans.written, "no plan was written"),
         (sum.plans.short, "no plan was too long"),
         (sum.plans.kept, "no plan was refused with 18"),
+        (sum.edge_choices.at_once, "no edge was taken at once"),
+        (sum.edge_choices.later, "no edge was taken with a delay"),
+        (sum.edge_choices.none, "nowhere was there no candidate"),
+        (
+            sum.edge_choices.refused,
+            "no refused table was asked for an edge",
+        ),
         (sum.parts[0], "no part was found"),
         (sum.parts[1], "no part was empty"),
     ];

@@ -2,8 +2,10 @@
 
 use crate::fast;
 use reference::table::Refusal;
-use reference::{calls, plan};
-use timed_network::{Call, RunNumbers, Slots, Verdict, FIELDS, NO_MESSAGE, NO_NODE};
+use reference::{calls, edge_choice, plan};
+use timed_network::{
+    Call, EdgeChoice, Entry, RunNumbers, Slots, TakenEdge, Verdict, FIELDS, NO_MESSAGE, NO_NODE,
+};
 
 /// The numbers that `check` answers: 0 where it accepts, then those of the
 /// refusals. 15 to 17 stand in the place of 11 (document 02, wish 3).
@@ -25,6 +27,9 @@ pub type Plans = fn(Slots, &mut [u8]) -> Call;
 /// A call that runs a table under choices and writes observations.
 pub type Run = fn(&[u8], &[u8], &mut [u8]) -> RunNumbers;
 
+/// A call that chooses an edge at an entry.
+pub type Chooses = fn(&[u8], &Entry) -> Result<EdgeChoice, Verdict>;
+
 /// The calls of an implementation.
 #[derive(Clone, Copy)]
 pub struct Reader {
@@ -38,6 +43,8 @@ pub struct Reader {
     pub timing_chart: Writes,
     /// What it writes as the table of a plan.
     pub plan: Plans,
+    /// Which edge it takes at an entry, and how many it looks at.
+    pub edge_choice: Chooses,
     /// What it finds as one node's part of a program.
     pub part: Part,
     /// What it says of a table's run under choices, and writes.
@@ -62,6 +69,7 @@ impl Readers {
             translate: timed_network::translate,
             timing_chart: timed_network::timing_chart,
             plan: timed_network::plan,
+            edge_choice: timed_network::edge_choice,
             part: timed_network::part,
             run: timed_network::run_numbers,
         };
@@ -87,6 +95,7 @@ impl Reader {
             translate: second_translate,
             timing_chart: second_chart,
             plan: second_plan,
+            edge_choice: second_edge_choice,
             part: second_part,
             run: second_run,
         }
@@ -146,6 +155,25 @@ pub fn second_plan(slots: Slots, table: &mut [u8]) -> Call {
         period: slots.period,
     };
     written(calls::plan(&slots, table))
+}
+
+/// The second implementation's edge choice.
+pub fn second_edge_choice(table: &[u8], entry: &Entry) -> Result<EdgeChoice, Verdict> {
+    let own = edge_choice::Entry {
+        location: entry.location,
+        clocks: entry.clocks,
+        variables: entry.values,
+    };
+    let chosen = calls::edge_choice(table, entry.component, &own).map_err(verdict)?;
+    let taken = chosen.taken.map(|(number, window)| TakenEdge {
+        edge: number as u8,
+        ready: window.ready,
+        end: window.end,
+    });
+    Ok(EdgeChoice {
+        taken,
+        looked: chosen.looked as u32,
+    })
 }
 
 fn written(size: Result<usize, Refusal>) -> Call {

@@ -1,5 +1,5 @@
-//! The programs, parts, charts, plans and runs that the vectors keep, with
-//! their answers.
+//! The programs, parts, charts, plans, edge choices and runs that the vectors
+//! keep, with their answers.
 
 use crate::bytes::unhex;
 use crate::stored::{read_answer, vector_lines};
@@ -41,6 +41,13 @@ pub enum Request {
         lent: usize,
         /// The bytes in hexadecimal, or why there are none.
         answer: String,
+    },
+    /// How many edges are looked at, passage by passage.
+    Looked {
+        /// The table.
+        table: Vec<u8>,
+        /// The numbers in the order of the schedule, or why there are none.
+        answer: Result<Vec<u32>, Verdict>,
     },
     /// A run of a table.
     Run {
@@ -102,6 +109,7 @@ fn request(line: &str) -> Option<Option<Request>> {
         (["chart", table], _) => chart(table, "552", answer)?,
         (["chart", table, lent], _) => chart(table, lent, answer)?,
         (["plan", numbers @ ..], _) => plan(numbers, answer)?,
+        (["looked", table], _) => looked(table, answer)?,
         (["run", table, choices], None) => run(unhex(table)?, unhex(choices)?, answer)?,
         _ => return Some(None),
     }))
@@ -140,6 +148,22 @@ fn plan(words: &[&str], answer: &str) -> Option<Request> {
     Some(Request::Plan {
         slots,
         lent,
+        answer,
+    })
+}
+
+/// A number a passage, or a refusal.
+fn looked(table: &str, answer: &str) -> Option<Request> {
+    let answer = match read_answer(answer) {
+        Some(Verdict::Accepted) => return None,
+        Some(refused) => Err(refused),
+        None => {
+            let numbers = answer.split(' ').map(|word| word.parse().ok());
+            Ok(numbers.collect::<Option<Vec<u32>>>()?)
+        }
+    };
+    Some(Request::Looked {
+        table: unhex(table)?,
         answer,
     })
 }
@@ -237,6 +261,19 @@ mod tests {
         assert_eq!(read, plan(13, "refused 13 255"));
         assert_eq!(request("a\tplan 2 1 3\t0102"), None);
         assert_eq!(request("a\tplan 2 1 3 70 13 9\t0102"), None);
+    }
+
+    #[test]
+    fn edge_choices_are_read() {
+        let looked = |answer| {
+            let table = vec![1, 2];
+            Some(Some(Request::Looked { table, answer }))
+        };
+        let read = request("a\tlooked 0102\t3 1 32");
+        assert_eq!(read, looked(Ok(vec![3, 1, 32])));
+        let read = request("a\tlooked 0102\trefused 8 0");
+        assert_eq!(read, looked(Err(refused(8, 0))));
+        assert_eq!(request("a\tlooked 0102\t3 x"), None);
     }
 
     #[test]

@@ -1,5 +1,6 @@
 //! What was counted.
 
+use crate::edge_choices::Chosen;
 use crate::readers::{NUMBERS, TOO_SHORT};
 use crate::runs::Runs;
 use std::fmt;
@@ -23,6 +24,8 @@ pub struct Tally {
     pub charts: Lists,
     /// The bytes that were lent for plans and compared.
     pub plans: Lists,
+    /// The edges that were asked for and compared.
+    pub edge_choices: EdgeChoices,
     /// The parts that were found in programs, and those that were not.
     pub parts: [u64; 2],
     /// The runs.
@@ -76,6 +79,61 @@ impl fmt::Display for Lists {
     }
 }
 
+/// What came of edge choices.
+#[derive(Clone, Copy, Debug, Default, PartialEq, Eq)]
+pub struct EdgeChoices {
+    /// An edge that is ready with no delay.
+    pub at_once: u64,
+    /// An edge that is ready later.
+    pub later: u64,
+    /// No edge.
+    pub none: u64,
+    /// The table is refused.
+    pub refused: u64,
+}
+
+impl EdgeChoices {
+    /// All edge choices.
+    pub fn all(&self) -> u64 {
+        self.at_once + self.later + self.none + self.refused
+    }
+
+    /// Counts an answer.
+    pub fn count(&mut self, chosen: &Chosen) {
+        let place = match chosen {
+            Ok(choice) => match choice.taken {
+                Some(taken) if taken.ready == 0 => &mut self.at_once,
+                Some(_) => &mut self.later,
+                None => &mut self.none,
+            },
+            Err(_) => &mut self.refused,
+        };
+        *place += 1;
+    }
+
+    fn add(&mut self, other: &EdgeChoices) {
+        self.at_once += other.at_once;
+        self.later += other.later;
+        self.none += other.none;
+        self.refused += other.refused;
+    }
+}
+
+impl fmt::Display for EdgeChoices {
+    fn fmt(&self, out: &mut fmt::Formatter<'_>) -> fmt::Result {
+        let EdgeChoices {
+            at_once,
+            later,
+            none,
+            refused,
+        } = self;
+        write!(
+            out,
+            "at once {at_once}, later {later}, no candidate {none}, table refused {refused}"
+        )
+    }
+}
+
 impl Tally {
     /// A class of which nothing was counted yet.
     pub fn new(class: &'static str) -> Tally {
@@ -86,6 +144,7 @@ impl Tally {
             programs: Lists::default(),
             charts: Lists::default(),
             plans: Lists::default(),
+            edge_choices: EdgeChoices::default(),
             parts: [0; 2],
             runs: Runs::default(),
         }
@@ -130,6 +189,7 @@ impl Tally {
             sum.programs.add(&tally.programs);
             sum.charts.add(&tally.charts);
             sum.plans.add(&tally.plans);
+            sum.edge_choices.add(&tally.edge_choices);
             for (all, own) in sum.parts.iter_mut().zip(tally.parts) {
                 *all += own;
             }
@@ -140,7 +200,7 @@ impl Tally {
 }
 
 /// What was tried: the answers that were given, each with how often, then
-/// lists, programs, charts, plans, parts and runs, if there are any.
+/// lists, programs, charts, plans, edge choices, parts and runs, if there are any.
 impl fmt::Display for Tally {
     fn fmt(&self, out: &mut fmt::Formatter<'_>) -> fmt::Result {
         let [accepted, refusals @ ..] = &self.answers;
@@ -162,6 +222,10 @@ impl fmt::Display for Tally {
             if lists.all() > 0 {
                 write!(out, "; {} {name}: {lists}", lists.all())?;
             }
+        }
+        if self.edge_choices.all() > 0 {
+            let choices = &self.edge_choices;
+            write!(out, "; {} edge choices: {choices}", choices.all())?;
         }
         let [found, empty] = self.parts;
         let parts = found + empty;

@@ -5,7 +5,7 @@ use comparison::difference::{Expected, Stop};
 use comparison::random::Random;
 use comparison::readers::{refused, second_reader, second_schedule, Reader, Readers};
 use comparison::runs::Runs;
-use comparison::tally::{Lists, Tally};
+use comparison::tally::{EdgeChoices, Lists, Tally};
 use comparison::{cases, compare, compare_class, gaps, Least};
 use timed_network::{Call, Slots, Verdict};
 
@@ -294,8 +294,8 @@ fn what_is_known_before_is_demanded() {
     assert!(!Expected::Anything.allows(refused(0, 255)));
 }
 
-/// A class with these answers, and lists, programs, charts, plans, parts and
-/// runs of all kinds.
+/// A class with these answers, and lists, programs, charts, plans, edge choices,
+/// parts and runs of all kinds.
 fn tally(class: &'static str, answers: [u64; 16]) -> Tally {
     let lists = Lists {
         written: 3,
@@ -309,6 +309,12 @@ fn tally(class: &'static str, answers: [u64; 16]) -> Tally {
         programs: lists,
         charts: lists,
         plans: lists,
+        edge_choices: EdgeChoices {
+            at_once: 4,
+            later: 3,
+            none: 2,
+            refused: 1,
+        },
         parts: [5, 4],
         runs: all_kinds(),
     }
@@ -382,6 +388,10 @@ fn what_was_not_tried_is_told() {
         "no plan was written",
         "no plan was too long",
         "no plan was refused with 18",
+        "no edge was taken at once",
+        "no edge was taken with a delay",
+        "nowhere was there no candidate",
+        "no refused table was asked for an edge",
         "no part was found",
         "no part was empty",
     ];
@@ -402,6 +412,7 @@ fn a_line_tells_all_answers_that_were_given() {
                 6 programs: written 3, too short 2, refused before 1; \
                 6 charts: written 3, too short 2, refused before 1; \
                 6 plans: written 3, too short 2, refused before 1; \
+                10 edge choices: at once 4, later 3, no candidate 2, table refused 1; \
                 9 parts: found 5, empty 4; 38 runs: 7 horizon, 7 used up, 7 late \
                 (5 at work, 4 for a sleep, 2 several nodes), 7 not allowed \
                 (1 no such node, 1 nothing kept, 1 early sleep, 2 early listen, \
@@ -413,6 +424,7 @@ fn a_line_tells_all_answers_that_were_given() {
         .to_string()
         .starts_with("all classes: 30 cases: accepted 2, "));
     assert_eq!(sum.lists.all(), 12);
+    assert_eq!(sum.edge_choices.all(), 20);
     assert_eq!(sum.runs.all(), 76);
     assert_eq!(Tally::new("none").to_string(), "none: 0 cases");
 }

@@ -4,10 +4,11 @@
 
 use crate::chart;
 use crate::checks::verdict;
+use crate::edge_choice::{self, EdgeChoice, Entry};
 use crate::plan::{self, Slots};
 use crate::program::{self, program_length, write_program};
 use crate::run::{run_into, Outcome, OBSERVATION};
-use crate::table::{write_table, Refusal};
+use crate::table::{read_table, write_table, Refusal};
 
 /// "14. Are there at most 1,000,000 choices? Else 14."
 pub const MAX_CHOICES: usize = 1_000_000;
@@ -59,6 +60,13 @@ pub fn plan(slots: &Slots, bytes: &mut [u8]) -> Result<usize, Refusal> {
     demand_room(bytes.len(), table.len())?;
     bytes[..table.len()].copy_from_slice(&table);
     Ok(table.len())
+}
+
+/// The edge that a component takes at an entry, and how many edges were looked
+/// at, for a table that passes checks 1 to 6.
+pub fn edge_choice(table: &[u8], component: u8, entry: &Entry) -> Result<EdgeChoice, Refusal> {
+    let table = read_table(table)?;
+    Ok(edge_choice::edge_choice(&table, component, entry))
 }
 
 /// "The part of the program bytes that belongs to one node can be had by its

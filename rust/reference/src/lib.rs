@@ -1,9 +1,9 @@
 //! A second, independent implementation of document 01, "Timed cellar
-//! networks and their node programs", and of document 02's wishes 1, 2
-//! and 4, written from their text alone.
+//! networks and their node programs", and of document 02's wishes 1 to 5,
+//! written from their text alone.
 //!
-//! One module stands for each heading of document 01, `chart` for wish 1 and
-//! `plan` for wish 4.
+//! One module stands for each heading of document 01, `chart` for wish 1, `plan`
+//! for wish 4 and `edge_choice` for wish 5.
 //! Sentences in quotation marks in the comments are the documents' own.
 #![forbid(unsafe_code)]
 #![warn(missing_docs)]
@@ -11,6 +11,7 @@
 pub mod calls;
 pub mod chart;
 pub mod checks;
+pub mod edge_choice;
 pub mod network;
 pub mod plan;
 pub mod program;

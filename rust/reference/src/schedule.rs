@@ -1,6 +1,7 @@
 //! Passage and schedule: windows, candidates, and the list of passages with
 //! checks 7 to 9 "at each opening".
 
+use crate::edge_choice::Entry;
 use crate::table::*;
 use std::fmt;
 
@@ -189,7 +190,12 @@ fn opened(table: &Table, arrival: &Arrival, count: usize) -> Result<Passage, Ref
         return refused(7);
     }
     let component = &table.components[arrival.component as usize];
-    let Some((number, window)) = taken(component, arrival) else {
+    let entry = Entry {
+        location: arrival.location,
+        clocks: arrival.clocks,
+        variables: arrival.variables,
+    };
+    let Some((number, window)) = taken(component, &entry) else {
         return refused(8);
     };
     let edge = &component.edges[number];
@@ -212,20 +218,25 @@ fn opened(table: &Table, arrival: &Arrival, count: usize) -> Result<Passage, Ref
     })
 }
 
-/// "The edge is a candidate if they hold and ready < end. The candidate with
-/// the least ready is taken, on a tie the lowest number."
-fn taken(component: &Component, arrival: &Arrival) -> Option<(usize, Window)> {
-    let location = &component.locations[arrival.location as usize];
+/// "The edge is a candidate if they hold and ready < end": the window of an
+/// edge from the location entered, if it is one.
+pub(crate) fn candidate(component: &Component, edge: &Edge, entry: &Entry) -> Option<Window> {
+    let location = component.locations.get(usize::from(entry.location))?;
+    if edge.source != entry.location || !edge.data_bounds_hold(&entry.variables) {
+        return None;
+    }
+    let window = window(location, edge, &entry.clocks)?;
+    (window.ready < window.end).then_some(window)
+}
+
+/// "The candidate with the least ready is taken, on a tie the lowest number."
+pub(crate) fn taken(component: &Component, entry: &Entry) -> Option<(usize, Window)> {
     let mut best: Option<(usize, Window)> = None;
     for (number, edge) in component.edges.iter().enumerate() {
-        if edge.source != arrival.location || !edge.data_bounds_hold(&arrival.variables) {
-            continue;
-        }
-        let Some(window) = window(location, edge, &arrival.clocks) else {
+        let Some(window) = candidate(component, edge, entry) else {
             continue;
         };
-        let better = best.is_none_or(|(_, kept)| window.ready < kept.ready);
-        if window.ready < window.end && better {
+        if best.is_none_or(|(_, kept)| window.ready < kept.ready) {
             best = Some((number, window));
         }
     }

@@ -6,6 +6,7 @@ mod common;
 use common::*;
 use reference::calls;
 use reference::checks::verdict;
+use reference::edge_choice::Entry;
 use reference::plan::Slots;
 use reference::run::OBSERVATION;
 use reference::schedule;
@@ -22,6 +23,7 @@ fn answer(request: &[String]) -> Result<String, Refusal> {
         ("program", []) => program_answer(&bytes),
         ("part", [node]) => Ok(hex(calls::part(&bytes, node.parse().unwrap()))),
         ("run", [choices]) => run_answer(&bytes, &unhex(choices)),
+        ("looked", []) => looked_answer(&bytes),
         ("chart", []) => chart_answer(&bytes, 552),
         ("chart", [lent]) => chart_answer(&bytes, lent.parse().unwrap()),
         _ => panic!("no such request: {request:?}"),
@@ -56,6 +58,30 @@ fn run_answer(bytes: &[u8], choices: &[u8]) -> Result<String, Refusal> {
     let written = observations.chunks(OBSERVATION).take(count).map(hex);
     let parts: Vec<String> = std::iter::once(first).chain(written).collect();
     Ok(parts.join("|"))
+}
+
+/// How many edges are looked at for each passage; the edge has to be its own.
+fn looked_answer(bytes: &[u8]) -> Result<String, Refusal> {
+    let (_, passages) = verdict(bytes)?;
+    let mut numbers = Vec::new();
+    for passage in &passages {
+        let entry = Entry {
+            location: passage.location,
+            clocks: passage.clocks,
+            variables: passage.variables,
+        };
+        let choice = calls::edge_choice(bytes, passage.component, &entry)?;
+        let (edge, window) = choice.taken.unwrap();
+        let found = (
+            edge,
+            passage.entry + window.ready,
+            passage.entry + window.end,
+        );
+        let expected = (passage.edge.into(), passage.ready, passage.end);
+        assert_eq!(found, expected);
+        numbers.push(choice.looked.to_string());
+    }
+    Ok(numbers.join(" "))
 }
 
 /// The rows without their line feeds, `|` between them.

@@ -62,6 +62,35 @@ pub struct RunNumbers {
     pub size: u32,
 }
 
+/// A component as it enters a location: what the edge choice is asked about.
+/// Clocks and variables that the component does not have are not read.
+#[repr(C)]
+#[derive(Clone, Copy, Debug, Default, PartialEq, Eq)]
+pub struct Entry {
+    /// The number of the component.
+    pub component: u8,
+    /// The number of the location entered.
+    pub location: u8,
+    /// The clocks at the entry.
+    pub clocks: [u32; 4],
+    /// The variables at the entry.
+    pub values: [i16; 4],
+}
+
+/// The answer for the edge choice: a verdict's two numbers, the edge taken and
+/// its window, and how many edges were looked at.
+#[repr(C)]
+#[derive(Clone, Copy, Debug, PartialEq, Eq)]
+pub(crate) struct EdgeChoiceNumbers {
+    pub(crate) number: u8,
+    pub(crate) component: u8,
+    pub(crate) taken: bool,
+    pub(crate) edge: u8,
+    pub(crate) ready: u32,
+    pub(crate) end: u32,
+    pub(crate) looked: u32,
+}
+
 /// A passage of a schedule, as the library writes it.
 #[repr(C)]
 #[derive(Clone, Copy, Debug, Default, PartialEq, Eq)]
@@ -110,6 +139,11 @@ extern "C" {
         table: *mut u8,
         length: usize,
     ) -> CallNumbers;
+    fn timed_network_edge_choice(
+        table: *const u8,
+        length: usize,
+        entry: Entry,
+    ) -> EdgeChoiceNumbers;
     fn timed_network_part(program: *const u8, program_length: usize, node: u8) -> PartNumbers;
     fn timed_network_run(
         table: *const u8,
@@ -187,6 +221,13 @@ pub(crate) fn plan([probes, slot, guard, period]: [u32; 4], table: &mut [u8]) ->
     unsafe { timed_network_plan(probes, slot, guard, period, table.as_mut_ptr(), table.len()) }
 }
 
+/// Asks for the edge that a component takes at an entry.
+pub(crate) fn edge_choice(table: &[u8], entry: Entry) -> EdgeChoiceNumbers {
+    // As for the check. The entry is passed by value, in the header's layout;
+    // the answer's `taken` is always a bool.
+    unsafe { timed_network_edge_choice(table.as_ptr(), table.len(), entry) }
+}
+
 /// Finds the part of one node.
 pub(crate) fn part(program: &[u8], node: u8) -> PartNumbers {
     // As for the check: the call reads inside the slice, writes nothing and
@@ -238,6 +279,12 @@ mod tests {
         assert_eq!(size_of::<CallNumbers>(), 8);
         assert_eq!(size_of::<PartNumbers>(), 16);
         assert_eq!(size_of::<RunNumbers>(), 16);
+        assert_eq!(size_of::<Entry>(), 28);
+        assert_eq!(size_of::<EdgeChoiceNumbers>(), 16);
+        assert_eq!(offset_of!(Entry, clocks), 4);
+        assert_eq!(offset_of!(Entry, values), 20);
+        assert_eq!(offset_of!(EdgeChoiceNumbers, edge), 3);
+        assert_eq!(offset_of!(EdgeChoiceNumbers, looked), 12);
         assert_eq!(offset_of!(CallNumbers, size), 4);
         assert_eq!(offset_of!(PartNumbers, length), 8);
         assert_eq!(offset_of!(RunNumbers, tick), 4);

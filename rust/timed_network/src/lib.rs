@@ -4,8 +4,9 @@
 //! schedule of an accepted table into a lent list of numbers,
 //! [`schedule_into`] into a lent list of passages, [`passages`] gives it as a
 //! list of its own, and [`timing_chart`] draws it. [`meetings`] tells which
-//! windows met where checks 10 to 12 refuse a table. [`plan`] writes the table of
-//! a cellar in which each probe has a slot of its own. [`translate`] writes the
+//! windows met where checks 10 to 12 refuse a table, [`edge_choice`] which edge a
+//! component takes at an entry. [`plan`] writes the table of a cellar in which
+//! each probe has a slot of its own. [`translate`] writes the
 //! program of an accepted table, [`program`] gives it as bytes of its own,
 //! [`part`] finds one node's part in it, [`run`] carries out choices. [`node`]
 //! has one node whose registers the caller lends. The declarations of the
@@ -29,7 +30,7 @@ pub use running::{
     OBSERVATION, TICK,
 };
 
-pub use exported::Passage;
+pub use exported::{Entry, Passage};
 use std::fmt;
 
 /// The numbers that a passage takes in a list: component, edge, location,
@@ -244,6 +245,57 @@ pub fn plan(slots: Slots, table: &mut [u8]) -> Call {
     Call {
         verdict: Verdict::of(answer.number, answer.component),
         size: answer.size as usize,
+    }
+}
+
+/// An edge that is taken, with its window: its first and its last tick, counted
+/// from the entry.
+#[derive(Clone, Copy, Debug, PartialEq, Eq)]
+pub struct TakenEdge {
+    /// The number of the edge.
+    pub edge: u8,
+    /// The ticks from the entry to ready.
+    pub ready: u32,
+    /// The ticks from the entry to end.
+    pub end: u32,
+}
+
+/// The answer of [`edge_choice`].
+#[derive(Clone, Copy, Debug, PartialEq, Eq)]
+pub struct EdgeChoice {
+    /// The edge taken, or nothing where no edge is a candidate.
+    pub taken: Option<TakenEdge>,
+    /// How many edges were looked at: k + 1 where k is the lowest edge that is
+    /// a candidate and ready with no delay, all of the component's edges where
+    /// there is none.
+    pub looked: u32,
+}
+
+/// The edge that a component takes as it enters a location, and how many edges
+/// were looked at for it. The table has to pass checks 1 to 6 alone. A
+/// component that the table does not have has no edges; no edge leaves a
+/// location that the component does not have.
+///
+/// ```
+/// use timed_network::{edge_choice, Entry, Verdict};
+///
+/// let (number, component) = (1, 255);
+/// let refused = Verdict::Refused { number, component };
+/// assert_eq!(edge_choice(&[], &Entry::default()), Err(refused));
+/// ```
+pub fn edge_choice(table: &[u8], entry: &Entry) -> Result<EdgeChoice, Verdict> {
+    let answer = exported::edge_choice(table, *entry);
+    let taken = TakenEdge {
+        edge: answer.edge,
+        ready: answer.ready,
+        end: answer.end,
+    };
+    match Verdict::of(answer.number, answer.component) {
+        Verdict::Accepted => Ok(EdgeChoice {
+            taken: answer.taken.then_some(taken),
+            looked: answer.looked,
+        }),
+        refused => Err(refused),
     }
 }
 

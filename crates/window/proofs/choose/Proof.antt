@@ -1,18 +1,19 @@
 -- `window::choose` meets its contract. Assumes nothing.
 use mathlib.Core.Path.{_≡_, sym, ap, subst, _∙_}
 use mathlib.Core.Option.{none}
-use Prim.Native.Nat.{suc, _+_, _-_, _*_, _≤_, _<_}
+use Prim.Native.Nat.{_+_, _-_, _*_, _≤_, _<_}
 use native.Mathlib.Omega.{arith}
-use lib.ListN.{length, drop, getD}
+use borrow.Author.Tests.{eq-eqb, ne-eqb}
+use lib.ListN.{length, getD}
 use Rattle.model.specs.Reader.{locationAt}
 use Rattle.model.specs.Table.{arcOf, locationOf}
 use Rattle.model.specs.Places.{arcPlace, componentIn, locationPlace}
-use Rattle.model.specs.Window.{considered, chosen, choice}
+use Rattle.model.specs.Window.{considered}
 use Rattle.decoder.proofs.Found.{found}
 use Rattle.window.specs.Views.{entryOf, pickOf, Kept}
-use Rattle.window.specs.Indexed.{firstFrom, nextOf, sourceOf}
+use Rattle.window.specs.Indexed.{sourceOf}
 use Rattle.window.proofs.Rests.{tail-long}
-use Rattle.window.proofs.Choosing.{chosen-turn, chosen-done, chosen-skip, choice-from}
+use Rattle.window.proofs.Looking.{Searching, ready-now, searching-first, searching-next, searching-stop, searching-end}
 use Rattle.window.proofs.Ready.{Entered, entered, edge-in, arc-head, arc-asked, arc-is}
 use borrow.Author.Needs.{needs}
 use Rattle.window.proofs.choose.Statement.{statement}
@@ -21,7 +22,7 @@ use Rattle.window.proofs.choose.Tie as tie
 abbrev Inv-loop : tie.InvT-loop
 Inv-loop table start c at index count there location from best₀ e₀ best e =
     Kept (arcPlace table start) best × (e < length (componentIn table c .arcs) → sourceOf (componentIn table c) e ≡ at .location)
-    × (chosen location (at .location) (at .clocks) (at .values) e (drop e (componentIn table c .arcs)) (pickOf best) ≡ choice (componentIn table c) (entryOf at))
+    × Searching (componentIn table c) (entryOf at) location e (pickOf best)
 
 abbrev μ-loop : tie.MeasureT-loop
 μ-loop table start c at index count there location from best₀ e₀ best e = count - e
@@ -102,23 +103,20 @@ loop-holds c =
     let i = a .index .now in
     let l = c .before .before .before .location-at .result in
     let q : c .before .before .wide3 .result * 80 + c .before .wide4 .result ≡ a .c * 80 + a .at .location = rw (c .before .before .wide3 .ensures .0, c .before .wide4 .ensures .0) in
-    let f = c .before .before .before .before .before .before .before .before .before .before .pre .4 .first (a .at .location) (omega (arith, c .before .before .before .before .before .before .before .before .before .before .pre .3, known (c .before .before .before .before .before .before .before .before .before) .mostLocations)) in
-    let whole = choice-from C (entryOf (a .at)) l (location-is (c .before .before .before)) in (
+    let f = c .before .before .before .before .before .before .before .before .before .before .pre .4 .first (a .at .location) (omega (arith, c .before .before .before .before .before .before .before .before .before .before .pre .3, known (c .before .before .before .before .before .before .before .before .before) .mostLocations)) in (
       λ z. absurd (omega (arith, z)),
       λ z. ap (sourceOf C) (ap (λ j. getD i j 0) q) ∙ f .leaves (omega (arith, z, ap (λ j. getD i j 0) q)),
-      subst (λ j. chosen l (a .at .location) (a .at .clocks) (a .at .values) (getD i j 0) (drop (getD i j 0) (C .arcs)) none ≡ choice C (entryOf (a .at))) (sym q)
-          (chosen-skip l (a .at .location) (a .at .clocks) (a .at .values) (C .arcs) 0 (firstFrom i (a .c) (a .at .location)) _ _ (omega arith)
-          (f .none) whole),
+      subst (λ j. Searching C (entryOf (a .at)) l (getD i j 0) none) (sym q) (searching-first C (entryOf (a .at)) l (location-is (c .before .before .before)) f),
     )
 
 -- in the loop: the edge is one of the component's, and its place is noted
-inside : (c : tie.In-loop Inv-loop μ-loop) → c .before .loop .e < length (componentIn (c .before .before .before .before .before .before .before .before .before .before .before .before .args .table .now) (c .before .before .before .before .before .before .before .before .before .before .before .before .args .c) .arcs)
+inside : (c : tie.Else1 Inv-loop μ-loop) → c .before .loop .e < length (componentIn (c .before .before .before .before .before .before .before .before .before .before .before .before .args .table .now) (c .before .before .before .before .before .before .before .before .before .before .before .before .args .c) .arcs)
 inside c =
     let a = c .before .before .before .before .before .before .before .before .before .before .before .before .args in
     edge-in (a .table .now) (a .c) (a .start) (known (c .before .before .before .before .before .before .before .before .before .before .before)) (c .before .loop .e)
-    (omega (arith, c .loop-test .taken, c .before .before .before .before .before .before .before .before .wide .ensures .0))
+    (omega (arith, c .if1 .left, c .before .before .before .before .before .before .before .before .wide .ensures .0))
 
-place-is : (c : tie.In-loop Inv-loop μ-loop)
+place-is : (c : tie.Else1 Inv-loop μ-loop)
     → getD (c .before .before .before .before .before .before .before .before .before .before .before .before .args .index .now) (c .before .before .before .before .wide3 .result * 80 + 48 + c .before .loop .e) 0
     ≡ arcPlace (c .before .before .before .before .before .before .before .before .before .before .before .before .args .table .now) (c .before .before .before .before .before .before .before .before .before .before .before .before .args .start) (c .before .loop .e)
 place-is c =
@@ -129,10 +127,10 @@ add-place : tie.Need-add-place Inv-loop μ-loop
 add-place c = omega (arith, c .before .before .before .before .wide3 .ensures .1)
 
 add-place-2 : tie.Need-add-place-2 Inv-loop μ-loop
-add-place-2 c = omega (arith, c .before .before .before .before .wide3 .ensures .1, c .before .before .before .before .before .before .before .before .wide .ensures .1, c .loop-test .taken)
+add-place-2 c = omega (arith, c .before .before .before .before .wide3 .ensures .1, c .before .before .before .before .before .before .before .before .wide .ensures .1, c .if1 .left)
 
 mul-place : tie.Need-mul-place Inv-loop μ-loop
-mul-place c = omega (arith, c .before .before .before .before .wide3 .ensures .1, c .before .before .before .before .before .before .before .before .wide .ensures .1, c .loop-test .taken)
+mul-place c = omega (arith, c .before .before .before .before .wide3 .ensures .1, c .before .before .before .before .before .before .before .before .wide .ensures .1, c .if1 .left)
 
 shared-slice-read-place : tie.Need-shared-slice-read-place Inv-loop μ-loop
 shared-slice-read-place c = omega (arith, c .before .before .before .before .before .wide3 .ensures .0, inside (c .before), known (c .before .before .before .before .before .before .before .before .before .before .before .before) .mostArcs, c .before .before .before .before .before .before .before .before .before .before .before .before .before .pre .4 .fits)
@@ -163,57 +161,90 @@ considered-edge-requires c κs =
       rw (location-is (c .before .before .before .before .before .before .before)) (known (c .before .before .before .before .before .before .before .before .before .before .before .before .before) .clock (a .at .location) (c .before .before .before .before .before .before .before .before .before .before .before .before .before .before .pre .3)),
     )
 
+-- one more than the number of an edge
+add-t34 : tie.Need-add-t34 Inv-loop μ-loop
+add-t34 c = omega (arith, c .before .before .before .before .before .if1 .left, c .before .before .before .before .before .before .before .before .before .before .before .before .before .wide .ensures .1)
+
 add-e-2 : tie.Need-add-e-2 Inv-loop μ-loop
-add-e-2 c = omega (arith, c .before .before .before .before .before .before .before .wide3 .ensures .1)
+add-e-2 c = omega (arith, c .before .before .before .before .before .before .before .before .before .wide3 .ensures .1)
 
 add-e-3 : tie.Need-add-e-3 Inv-loop μ-loop
-add-e-3 c = omega (arith, c .before .before .before .before .before .before .before .wide3 .ensures .1, c .before .before .before .before .before .before .before .before .before .before .before .wide .ensures .1, c .before .before .before .loop-test .taken)
+add-e-3 c = omega (arith, c .before .before .before .before .before .before .before .before .before .wide3 .ensures .1, c .before .before .before .before .before .before .before .before .before .before .before .before .before .wide .ensures .1, c .before .before .before .before .before .if1 .left)
 
 mul-e-2 : tie.Need-mul-e-2 Inv-loop μ-loop
-mul-e-2 c = omega (arith, c .before .before .before .before .before .before .before .wide3 .ensures .1, c .before .before .before .before .before .before .before .before .before .before .before .wide .ensures .1, c .before .before .before .loop-test .taken)
+mul-e-2 c = omega (arith, c .before .before .before .before .before .before .before .before .before .wide3 .ensures .1, c .before .before .before .before .before .before .before .before .before .before .before .before .before .wide .ensures .1, c .before .before .before .before .before .if1 .left)
 
 shared-slice-read-e-2 : tie.Need-shared-slice-read-e-2 Inv-loop μ-loop
-shared-slice-read-e-2 c = omega (arith, c .before .before .before .before .before .before .before .before .wide3 .ensures .0, inside (c .before .before .before .before), known (c .before .before .before .before .before .before .before .before .before .before .before .before .before .before .before) .mostArcs, c .before .before .before .before .before .before .before .before .before .before .before .before .before .before .before .before .pre .4 .fits)
+shared-slice-read-e-2 c = omega (arith, c .before .before .before .before .before .before .before .before .before .before .wide3 .ensures .0, inside (c .before .before .before .before .before .before), known (c .before .before .before .before .before .before .before .before .before .before .before .before .before .before .before .before .before) .mostArcs, c .before .before .before .before .before .before .before .before .before .before .before .before .before .before .before .before .before .before .pre .4 .fits)
 
 cast-e-2 : tie.Need-cast-e-2 Inv-loop μ-loop
-cast-e-2 c = omega (arith, c .shared-slice-known6 .given (c .before .before .before .before .before .before .before .before .wide3 .result * 80 + 16 + c .before .before .before .before .before .loop .e))
+cast-e-2 c = omega (arith, c .shared-slice-known6 .given (c .before .before .before .before .before .before .before .before .before .before .wide3 .result * 80 + 16 + c .before .before .before .before .before .before .before .loop .e))
 
 loop-less : tie.Need-loop-less Inv-loop μ-loop
 loop-less c =
-    let a = c .before .before .before .before .before .before .before .before .before .before .before .before .before .before .before .before .args in
-    let q : c .before .before .before .before .before .before .before .before .wide3 .result * 80 + 16 + c .before .before .before .before .before .loop .e ≡ a .c * 80 + 16 + c .before .before .before .before .before .loop .e = rw (c .before .before .before .before .before .before .before .before .wide3 .ensures .0) in
-    omega (arith, c .before .before .before .before .before .before .before .before .before .before .before .before .before .before .before .before .pre .4 .next (c .before .before .before .before .before .loop .e) (inside (c .before .before .before .before)) .from, ap (λ j. getD (a .index .now) j 0) q, c .before .before .before .before .loop-test .taken)
+    let a = c .before .before .before .before .before .before .before .before .before .before .before .before .before .before .before .before .before .before .args in
+    let e = c .before .before .before .before .before .before .before .loop .e in
+    let q : c .before .before .before .before .before .before .before .before .before .before .wide3 .result * 80 + 16 + e ≡ a .c * 80 + 16 + e = rw (c .before .before .before .before .before .before .before .before .before .before .wide3 .ensures .0) in
+    omega (arith, c .before .before .before .before .before .before .before .before .before .before .before .before .before .before .before .before .before .before .pre .4 .next e (inside (c .before .before .before .before .before .before)) .from, ap (λ j. getD (a .index .now) j 0) q, c .before .before .before .before .before .before .if1 .left)
+
+-- the edge that was looked at is considered, and its place goes with it
+best-is : (d : tie.After-considered-edge Inv-loop μ-loop)
+    → pickOf (d .considered-edge .result)
+    ≡ considered (d .before .before .before .before .before .before .before .before .location-at .result) (d .before .before .before .before .before .before .before .before .before .before .before .before .before .before .before .args .at .location) (d .before .before .before .before .before .before .before .before .before .before .before .before .before .before .before .args .at .clocks) (d .before .before .before .before .before .before .before .before .before .before .before .before .before .before .before .args .at .values) (d .before .before .before .before .loop .e) (arcOf (componentIn (d .before .before .before .before .before .before .before .before .before .before .before .before .before .before .before .args .table .now) (d .before .before .before .before .before .before .before .before .before .before .before .before .before .before .before .args .c)) (d .before .before .before .before .loop .e)) (pickOf (d .before .before .before .before .loop .best))
+best-is d =
+    let a = d .before .before .before .before .before .before .before .before .before .before .before .before .before .before .before .args in
+    let l = d .before .before .before .before .loop in
+    let t = d .before .before .before in
+    d .considered-edge .ensures .0
+    ∙ ap (λ x. considered (d .before .before .before .before .before .before .before .before .location-at .result) (a .at .location) (a .at .clocks) (a .at .values) (l .e) x (pickOf (l .best))) (arc-is (a .table .now) (a .c) (a .start) (known (d .before .before .before .before .before .before .before .before .before .before .before .before .before .before)) _ (l .e) (place-is t) (inside t))
+
+best-kept : (d : tie.After-considered-edge Inv-loop μ-loop) → Kept (arcPlace (d .before .before .before .before .before .before .before .before .before .before .before .before .before .before .before .args .table .now) (d .before .before .before .before .before .before .before .before .before .before .before .before .before .before .before .args .start)) (d .considered-edge .result)
+best-kept d =
+    let a = d .before .before .before .before .before .before .before .before .before .before .before .before .before .before .before .args in
+    d .considered-edge .ensures .1 (arcPlace (a .table .now) (a .start)) (sym (place-is (d .before .before .before))) (d .before .before .before .before .loop .inv .0)
 
 loop-again : tie.Need-loop-again Inv-loop μ-loop
 loop-again c =
-    let a = c .before .before .before .before .before .before .before .before .before .before .before .before .before .before .before .before .args in
+    let d = c .before .before .before in
+    let s = c .before .before .before .before .before .before .before .before .before .before .before .before .before .before .before .before .before .before in
+    let a = s .args in
     let C = componentIn (a .table .now) (a .c) in
     let i = a .index .now in
-    let l = c .before .before .before .before .before .loop in
-    let t = (c .before .before .before .before) in
-    let p = c .before .before .before .before .before .before .before .before .before .location-at .result in
-    let arc = arcOf C (l .e) in
-    let q : c .before .before .before .before .before .before .before .before .wide3 .result * 80 + 16 + l .e ≡ a .c * 80 + 16 + l .e = rw (c .before .before .before .before .before .before .before .before .wide3 .ensures .0) in
-    let k = known (c .before .before .before .before .before .before .before .before .before .before .before .before .before .before .before) in
+    let l = d .before .before .before .before .loop in
+    let t = d .before .before .before in
+    let p = d .before .before .before .before .before .before .before .before .location-at .result in
+    let best = d .considered-edge .result in
+    let q : c .before .before .before .before .before .before .before .before .before .before .wide3 .result * 80 + 16 + l .e ≡ a .c * 80 + 16 + l .e = rw (c .before .before .before .before .before .before .before .before .before .before .wide3 .ensures .0) in
     let source = l .inv .1 (inside t) in
-    let f = c .before .before .before .before .before .before .before .before .before .before .before .before .before .before .before .before .pre .4 .next (l .e) (inside t) in
-    let best : pickOf (c .before .considered-edge .result) ≡ considered p (a .at .location) (a .at .clocks) (a .at .values) (l .e) arc (pickOf (l .best)) =
-    c .before .considered-edge .ensures .0
-    ∙ ap (λ x. considered p (a .at .location) (a .at .clocks) (a .at .values) (l .e) x (pickOf (l .best))) (arc-is (a .table .now) (a .c) (a .start) k _ (l .e) (place-is t) (inside t)) in
-    let turned = chosen-turn p (a .at .location) (a .at .clocks) (a .at .values) (C .arcs) (l .e) (pickOf (l .best)) _ _ (inside t) best (l .inv .2) in (
-      c .before .considered-edge .ensures .1 (arcPlace (a .table .now) (a .start)) (sym (place-is t)) (l .inv .0),
+    let f = s .pre .4 .next (l .e) (inside t) in
+    let later = ready-now best ∙ ne-eqb (best .ready) 0 (λ z. absurd (omega (arith, z, c .before .if2 .left))) in (
+      best-kept d,
       λ z. ap (sourceOf C) (ap (λ j. getD i j 0) q) ∙ (f .leaves (omega (arith, z, ap (λ j. getD i j 0) q)) ∙ source),
-      subst (λ j. chosen p (a .at .location) (a .at .clocks) (a .at .values) (getD i j 0) (drop (getD i j 0) (C .arcs)) (pickOf (c .before .considered-edge .result)) ≡ choice C (entryOf (a .at))) (sym q)
-          (chosen-skip p (a .at .location) (a .at .clocks) (a .at .values) (C .arcs) (l .e + 1) (nextOf i (a .c) (l .e)) _ _ (omega (arith, f .from))
-          (λ j m u v z. f .none j (omega (arith, m)) u v (z ∙ sym source)) turned),
+      subst (λ j. Searching C (entryOf (a .at)) p (getD i j 0) (pickOf best)) (sym q)
+          (searching-next C (entryOf (a .at)) p (location-is (d .before .before .before .before .before .before .before .before)) (l .e) (pickOf (l .best)) _ (l .inv .2) (inside t) source (best-is d) later f),
     )
 
 returns : tie.Need-returns Inv-loop μ-loop
 returns c =
     let a = c .before .before .before .before .before .before .before .before .before .before .before .before .args in
     let l = c .before .loop in
-    let all : length (componentIn (a .table .now) (a .c) .arcs) ≤ l .e = omega (arith, known (c .before .before .before .before .before .before .before .before .before .before .before) .stands .arcs, c .loop-test .left, c .before .before .before .before .before .before .before .before .wide .ensures .0) in
-    (chosen-done (c .before .before .before .before .before .location-at .result) (a .at .location) (a .at .clocks) (a .at .values) (componentIn (a .table .now) (a .c) .arcs) (l .e) (pickOf (l .best)) _ all (l .inv .2), l .inv .0)
+    let C = componentIn (a .table .now) (a .c) in
+    let count = c .before .before .before .before .before .before .before .before .wide .ensures .0 in
+    let edges = known (c .before .before .before .before .before .before .before .before .before .before .before) .stands .arcs in
+    let all : length (C .arcs) ≤ l .e = omega (arith, edges, c .if1 .taken, count) in
+    let done = searching-end C (entryOf (a .at)) (c .before .before .before .before .before .location-at .result) (l .e) (pickOf (l .best)) (l .inv .2) all in
+    (done .0, (omega (arith, edges, count, done .1), l .inv .0))
+
+returns-2 : tie.Need-returns-2 Inv-loop μ-loop
+returns-2 c =
+    let d = c .before .before in
+    let a = d .before .before .before .before .before .before .before .before .before .before .before .before .before .before .before .args in
+    let l = d .before .before .before .before .loop in
+    let t = d .before .before .before in
+    let best = d .considered-edge .result in
+    let at-once = ready-now best ∙ eq-eqb (best .ready) 0 (omega (arith, c .if2 .taken)) in
+    let done = searching-stop (componentIn (a .table .now) (a .c)) (entryOf (a .at)) (d .before .before .before .before .before .before .before .before .location-at .result) (location-is (d .before .before .before .before .before .before .before .before)) (l .e) (pickOf (l .best)) _ (l .inv .2) (inside t) (l .inv .1 (inside t)) (best-is d) at-once in
+    (done .0, (done .1, best-kept d))
 
 pub choose-spec : {M : Type 1} → statement M
 choose-spec =
@@ -250,6 +281,7 @@ choose-spec =
     part-considered-edge-end
     cast-considered-edge
     considered-edge-requires
+    add-t34
     add-e-2
     add-e-3
     mul-e-2
@@ -257,4 +289,5 @@ choose-spec =
     cast-e-2
     loop-less
     loop-again
-    returns)
+    returns
+    returns-2)

@@ -23,68 +23,68 @@ known : (c : tie.After-shared-slice-known) → Entered (c .before .args .table .
 known c = let s = c .before in entered (s .args .table .now) (s .args .c) (s .args .start) (λ i. c .shared-slice-known .given i .fits) (s .pre .0) (s .pre .1) (s .pre .2)
 
 -- and of the edge taken
-taken : (c : tie.After-values) → Took (c .before .before .before .before .before .before .args .table .now) (c .before .before .before .before .before .before .args .c) (c .before .before .before .before .before .before .args .start) (entryOf (c .before .before .before .before .before .before .args .at)) (c .before .before .before .choose .result)
+taken : (c : tie.After-values) → Took (c .before .before .before .before .before .before .before .args .table .now) (c .before .before .before .before .before .before .before .args .c) (c .before .before .before .before .before .before .before .args .start) (entryOf (c .before .before .before .before .before .before .before .args .at)) (c .before .before .before .before .choose .result .choice)
 taken c =
-    let a = c .before .before .before .before .before .before .args in
-    let r = c .before .before .before .choose in
-    took (a .table .now) (a .c) (a .start) (entryOf (a .at)) (r .result) (omega (arith, c .before .if1 .left)) (r .ensures .0) (r .ensures .1)
+    let a = c .before .before .before .before .before .before .before .args in
+    let r = c .before .before .before .before .choose in
+    took (a .table .now) (a .c) (a .start) (entryOf (a .at)) (r .result .choice) (omega (arith, c .before .if1 .left)) (r .ensures .0) (r .ensures .1 .1)
 
 -- its updates
 changed : (c : tie.After-edge-update)
     → cond (c .edge-update .result .fits) (some (c .edge-update .result .values)) none
-    ≡ updated (arcOf (componentIn (c .before .before .before .before .before .before .before .before .args .table .now) (c .before .before .before .before .before .before .before .before .args .c)) (c .before .before .before .before .before .choose .result .edge) .updates) (c .before .before .before .before .before .before .before .before .args .at .values)
+    ≡ updated (arcOf (componentIn (c .before .before .before .before .before .before .before .before .before .args .table .now) (c .before .before .before .before .before .before .before .before .before .args .c)) (c .before .before .before .before .before .before .choose .result .choice .edge) .updates) (c .before .before .before .before .before .before .before .before .before .args .at .values)
 changed c =
-    let a = c .before .before .before .before .before .before .before .before .args in
+    let a = c .before .before .before .before .before .before .before .before .before .args in
     let k = taken (c .before .before) in
-    let t = c .before .before .before .before .before .choose .result in
-    c .edge-update .ensures ∙ ap (λ x. updated (x .updates) (a .at .values)) (arc-is (a .table .now) (a .c) (a .start) (known (c .before .before .before .before .before .before .before)) (t .place) (t .edge) (k .place) (k .inside))
+    let t = c .before .before .before .before .before .before .choose .result .choice in
+    c .edge-update .ensures ∙ ap (λ x. updated (x .updates) (a .at .values)) (arc-is (a .table .now) (a .c) (a .start) (known (c .before .before .before .before .before .before .before .before)) (t .place) (t .edge) (k .place) (k .inside))
 
 returns : tie.Need-returns
 returns c =
-    let a = c .before .before .before .before .before .args in
-    let r = c .before .before .choose in
-    let e = sym (pick-none (r .result) (omega (arith, c .if1 .taken))) ∙ r .ensures .0 in
+    let a = c .before .before .before .before .before .before .args in
+    let r = c .before .before .before .choose in
+    let e = sym (pick-none (r .result .choice) (omega (arith, c .if1 .taken))) ∙ r .ensures .0 in
     (open-none (a .c) (componentIn (a .table .now) (a .c)) (entryOf (a .at)) e, tt)
 
 sub-edge-update : tie.Need-sub-edge-update
 sub-edge-update c =
-    let a = c .before .before .before .before .before .before .args in
+    let a = c .before .before .before .before .before .before .before .args in
     let k = taken c in
-    let t = c .before .before .before .choose .result in
-    omega (arith, arc-head (a .table .now) (a .c) (a .start) (known (c .before .before .before .before .before)) (t .place) (t .edge) (k .place) (k .inside))
+    let t = c .before .before .before .before .choose .result .choice in
+    omega (arith, arc-head (a .table .now) (a .c) (a .start) (known (c .before .before .before .before .before .before)) (t .place) (t .edge) (k .place) (k .inside))
 
 part-edge-update-start : tie.Need-part-edge-update-start
 part-edge-update-start c =
-    let a = c .before .before .before .before .before .before .args in
+    let a = c .before .before .before .before .before .before .before .args in
     let k = taken c in
-    let t = c .before .before .before .choose .result in
-    omega (arith, arc-head (a .table .now) (a .c) (a .start) (known (c .before .before .before .before .before)) (t .place) (t .edge) (k .place) (k .inside))
+    let t = c .before .before .before .before .choose .result .choice in
+    omega (arith, arc-head (a .table .now) (a .c) (a .start) (known (c .before .before .before .before .before .before)) (t .place) (t .edge) (k .place) (k .inside))
 
 part-edge-update-end : tie.Need-part-edge-update-end
 part-edge-update-end c = search needs
 
 edge-update-requires : tie.Need-edge-update-requires
 edge-update-requires c κs =
-    let a = c .before .before .before .before .before .before .before .args in
+    let a = c .before .before .before .before .before .before .before .before .args in
     let k = taken (c .before) in
-    let t = c .before .before .before .before .choose .result in
-    arc-asked (a .table .now) (a .c) (a .start) (known (c .before .before .before .before .before .before)) (t .place) (t .edge) (k .place) (k .inside)
+    let t = c .before .before .before .before .before .choose .result .choice in
+    arc-asked (a .table .now) (a .c) (a .start) (known (c .before .before .before .before .before .before .before)) (t .place) (t .edge) (k .place) (k .inside)
 
 returns-2 : tie.Need-returns-2
 returns-2 c =
-    let a = c .before .before .before .before .before .before .before .before .before .before .args in
+    let a = c .before .before .before .before .before .before .before .before .before .before .before .args in
     let k = taken (c .before .before .before .before) in
     let u = rw (not-true (c .before .before .edge-update .result .fits) (c .if2 .taken)) at (changed (c .before .before)) in
-    (open-out (a .c) (componentIn (a .table .now) (a .c)) (entryOf (a .at)) (pickFrom (c .before .before .before .before .before .before .before .choose .result)) (k .pick) u, tt)
+    (open-out (a .c) (componentIn (a .table .now) (a .c)) (entryOf (a .at)) (pickFrom (c .before .before .before .before .before .before .before .before .choose .result .choice)) (k .pick) u, tt)
 
-cast-t15 : tie.Need-cast-t15
-cast-t15 c = omega (arith, taken (c .before .before .before .before .before) .byte)
+cast-t16 : tie.Need-cast-t16
+cast-t16 c = omega (arith, taken (c .before .before .before .before .before) .byte)
 
 returns-3 : tie.Need-returns-3
 returns-3 c =
-    let a = c .before .before .before .before .before .before .before .before .before .before .before .args in
+    let a = c .before .before .before .before .before .before .before .before .before .before .before .before .args in
     let k = taken (c .before .before .before .before .before) in
-    let t = c .before .before .before .before .before .before .before .before .choose .result in
+    let t = c .before .before .before .before .before .before .before .before .before .choose .result .choice in
     let u = rw (not-false (c .before .before .before .edge-update .result .fits) (c .before .if2 .left)) at (changed (c .before .before .before)) in
     (open-ranged (a .c) (componentIn (a .table .now) (a .c)) (entryOf (a .at)) (pickFrom t) (k .pick) u, (k .inside, k .place, omega (arith, c .before .before .before .before .before .before .if1 .left), k .end))
 
@@ -99,5 +99,5 @@ open-spec =
     part-edge-update-end
     edge-update-requires
     returns-2
-    cast-t15
+    cast-t16
     returns-3)

@@ -1,5 +1,6 @@
 //! The classes of cases.
 
+mod at_once;
 mod bases;
 mod charts;
 mod close;
@@ -66,7 +67,7 @@ const fn class(name: &'static str, run: fn(&mut Trial, &mut Random, &Extent) -> 
 }
 
 /// All classes, in the order in which they are tried.
-pub const CLASSES: [Class; 59] = [
+pub const CLASSES: [Class; 60] = [
     class("vectors", stored::vectors),
     class("corpus", stored::corpus),
     class("random bytes", random_bytes::anything),
@@ -111,6 +112,7 @@ pub const CLASSES: [Class; 59] = [
     class("parts of programs cut off", programs::cut),
     class("parts of programs, one byte changed", programs::one_byte),
     class("parts of random bytes", programs::anything),
+    class("many edges, some ready at once", at_once::crowds),
     class("charts with cells of few ticks", charts::horizons),
     class("charts with windows at cell ends", charts::windows),
     class("slot plans", slots::planned),

@@ -29,7 +29,7 @@ fn expect_all(trial: &mut Trial, tables: Result<Vec<Stored>, String>) -> Outcome
     Ok(())
 }
 
-/// The programs, parts, charts, plans and runs of the vectors.
+/// The programs, parts, charts, plans, edge choices and runs of the vectors.
 pub(super) fn requests(trial: &mut Trial, _: &mut Random, _: &Extent) -> Outcome {
     for request in requests::requests().map_err(Stop::Unreadable)? {
         match &request {
@@ -55,6 +55,7 @@ pub(super) fn requests(trial: &mut Trial, _: &mut Random, _: &Extent) -> Outcome
                 lent,
                 answer,
             } => trial.expect_plan(*slots, *lent, answer)?,
+            Request::Looked { table, answer } => trial.expect_looked(table, answer)?,
             Request::Run {
                 table,
                 choices,

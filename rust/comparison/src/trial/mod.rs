@@ -1,6 +1,7 @@
 //! One class of cases: each case is handed to both implementations, their
 //! answers are compared and counted.
 
+mod choosing;
 mod running;
 
 use crate::difference::{Difference, Expected, Outcome, Stop};
@@ -96,6 +97,7 @@ impl<'a> Trial<'a> {
             }
         }
         self.chart_accepted(input)?;
+        self.choose_accepted(input)?;
         self.translate_accepted(input)
     }
 
@@ -109,6 +111,7 @@ impl<'a> Trial<'a> {
         if count.is_multiple_of(every) {
             self.lend(input, lists::length_for_refused(count / every))?;
             self.translate_and_run_refused(input, count / every)?;
+            self.choose_refused(input)?;
         }
         Ok(())
     }

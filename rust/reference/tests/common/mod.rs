@@ -132,7 +132,9 @@ pub fn vectors() -> Vec<Vector> {
         "random.tsv",
         "chart.tsv",
         "bands.tsv",
+        "hearings.tsv",
         "plan.tsv",
+        "edge_choice.tsv",
     ] {
         let path = vector_folder().join(file);
         let text = std::fs::read_to_string(&path)
