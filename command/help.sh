@@ -16,7 +16,9 @@ usage: vanillatarn COMMAND ...
   text TABLE                                a table as text
   table TEXTFILE [-o FILE]                  a text as a table
 
-vanillatarn COMMAND --help says more. A file may be - for standard input.
+vanillatarn COMMAND --help, or vanillatarn help COMMAND, says more. A file may be
+- for standard input. Words behind -- are files, also those that begin with -.
+vanillatarn --version tells the version, the commit and which rt there is.
 
 Bytes (programs, parts, choices, tables) go to FILE, without -o or with -o - to
 standard output. Without -o a terminal gets none. Where the answer is no, the

@@ -391,6 +391,8 @@ TEXT
 
 # shellcheck source=command/test_build.sh
 source "$root/command/test_build.sh"
+# shellcheck source=command/test_words.sh
+source "$root/command/test_words.sh"
 
 echo "the command: $passed checks passed, $failed failed"
 ((failed == 0))
