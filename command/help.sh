@@ -20,6 +20,9 @@ vanillatarn COMMAND --help, or vanillatarn help COMMAND, says more. A file may b
 - for standard input. Words behind -- are files, also those that begin with -.
 vanillatarn --version tells the version, the commit and which rt there is.
 
+A TABLE may be bytes or its text (docs/TABLE-TEXT.md). A file of another kind, such
+as a program where a table is asked for, is named: wrong use.
+
 Bytes (programs, parts, choices, tables) go to FILE, without -o or with -o - to
 standard output. Without -o a terminal gets none. Where the answer is no, the
 file of -o is left as it was.

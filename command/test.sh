@@ -244,7 +244,7 @@ printf '\001\000' >no_header
 printf '\001\000\014\001\000\024\000\006\002\002\000\000' >no_starts
 printf '\001\000\015\001\000\024\000\007\000\000\000\000\001' >rest
 head -c 245 program.bin >shortened
-for file in unknown no_block far_block no_header no_starts rest shortened cellar.bin; do
+for file in unknown no_block far_block no_header no_starts rest shortened; do
     call list "$file"
     says 1
     check 'it is said' grep -q "$file: the program is damaged" err
@@ -258,9 +258,10 @@ for node in x 256 1000 ''; do
     says 2
     complains 'is not the number of a node'
 done
-call text program.bin
+head -c 20 cellar.bin >short.bin
+call text short.bin
 says 1
-complains 'program.bin: '
+complains 'short.bin: '
 call table fault.txt -o old
 says 1
 complains "fault.txt: line 2: 'channel' begins no line"
@@ -391,6 +392,8 @@ TEXT
 
 # shellcheck source=command/test_build.sh
 source "$root/command/test_build.sh"
+# shellcheck source=command/test_kinds.sh
+source "$root/command/test_kinds.sh"
 # shellcheck source=command/test_words.sh
 source "$root/command/test_words.sh"
 
