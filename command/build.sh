@@ -1,6 +1,13 @@
 # Builds what a command of `vanillatarn` needs, where that is absent or older than its sources.
 # shellcheck shell=bash
-# shellcheck disable=SC2154 # root, scratch and broken are set by vanillatarn, and by tools/archive
+# shellcheck disable=SC2154 # root, scratch, broken and stop are those of vanillatarn, or of tools/archive
+
+# Makes the folder for what is neither read nor written by the caller.
+make_scratch() {
+    [[ -z $scratch ]] || return 0
+    scratch="$(mktemp -d 2>/dev/null)" || stop "$broken" "no scratch folder can be made in ${TMPDIR:-/tmp}"
+    trap 'rm -rf -- "$scratch"' EXIT
+}
 
 # Whether a file is there and not older than any of its sources.
 is_newer() {
@@ -11,9 +18,11 @@ is_newer() {
 
 # Runs a tool in the root. Of what it says the lines of this pattern are shown; after a failure all of them.
 build() {
-    local name=$1 shown=$2 log="$scratch/log"
+    local name=$1 shown=$2 log
     shift 2
     command -v "$1" >/dev/null || stop "$broken" "$name has to be built, and '$1' is not installed"
+    make_scratch
+    log="$scratch/log"
     say "building $name, once; that can take some minutes ..." || true
     if ! (cd "$root" && "$@" 2>&1) | tee "$log" | { grep --line-buffered "$shown" || true; } >&2; then
         cat "$log" >&2 || true
@@ -25,24 +34,27 @@ build() {
 verified=("$root/crates" "$root/crates.txt")
 plain=("$root"/rust/*/{src,Cargo.toml} "$root"/rust/Cargo.{toml,lock})
 
-# The file that says when a file was last found current. A tool that finds nothing to do leaves a file as old as it was.
-stamp_of() {
-    echo "$root/target/command/$(basename "$1")"
+# The file whose age says since when a file is current, in `since`: itself, or its stamp. A tool that finds nothing to do leaves a file as
+# old as it was, and the stamp says when it was asked.
+current_since() {
+    local stamp="$root/target/command/${1##*/}"
+    since=$1
+    [[ ! $stamp -nt $1 ]] || since=$stamp
 }
 
 # Whether a file is current: the file, its sources.
 is_current() {
-    local built=$1
+    local built=$1 since
     shift
-    [[ -e $built ]] && { is_newer "$built" "$@" || is_newer "$(stamp_of "$built")" "$@"; }
+    [[ -e $built ]] || return 1
+    current_since "$built"
+    is_newer "$since" "$@"
 }
 
 # Makes a file with a tool: the file, the pattern of the lines to be shown, the tool with its words.
 make_current() {
-    local built=$1 shown=$2 name stamp
+    local built=$1 shown=$2 name=${1##*/} stamp="$root/target/command/${1##*/}"
     shift 2
-    name="$(basename "$built")"
-    stamp="$(stamp_of "$built")"
     build "$name" "$shown" "$@"
     [[ -e $built ]] || stop "$broken" "$name was not built by: $* (remove target/ to build all from nothing)"
     { mkdir -p "$(dirname "$stamp")" && touch "$stamp"; } 2>/dev/null || stop "$broken" "$(dirname "$stamp") cannot be written"
@@ -72,11 +84,15 @@ need_library() {
     is_current "$library" "${verified[@]}" || make_current "$library" '^rt: ' rt staticlib timed_network
 }
 
-# The Rust tool that has the library in it.
-need_part() {
-    tool="$root/rust/target/release/program_part"
+# A Rust tool that has the library in it, and its package.
+need_linked() {
+    tool="$root/rust/target/release/$1"
     if ! is_current "$tool" "${verified[@]}" "${plain[@]}"; then
         need_library
-        make_rust timed_network
+        make_rust "$2"
     fi
+}
+
+need_part() {
+    need_linked program_part timed_network
 }

@@ -5,7 +5,7 @@ general_help() {
     cat <<'TEXT'
 usage: vanillatarn COMMAND ...
 
-  verdict TABLE                             whether the table is accepted; if not, why
+  verdict [--json|--quiet] TABLE...         whether each table is accepted; if not, why
   schedule TABLE                            its schedule, a line a passage
   chart TABLE                               its schedule as a chart, a row a component
   translate TABLE [-o FILE]                 the program of its nodes
@@ -44,13 +44,19 @@ TEXT
 command_help() {
     case $1 in
         verdict) cat <<'TEXT' ;;
-usage: vanillatarn verdict TABLE
+usage: vanillatarn verdict [--json|--quiet] TABLE...
 
 Says whether the table is accepted. If it is not: `refused`, the number of the
 check, the component; the question in words; after 10, 11 or 12 also which
-windows met. docs/REFUSALS.md lists the numbers.
+windows met. docs/REFUSALS.md lists the numbers. Of several tables each answer
+stands behind the file's name; a file that cannot be judged is told on standard
+error, and the others are judged all the same.
 
-Exit status: 0 accepted, 1 refused.
+--json:  an object a line and file (docs/FORMATS.md)
+--quiet: the exit status alone
+
+Exit status: 0 accepted, 1 refused, or a text has a fault; the worst of all
+files.
 TEXT
         schedule) cat <<'TEXT' ;;
 usage: vanillatarn schedule TABLE

@@ -361,12 +361,12 @@ starts accepted
 # A folder for scratch files that is not there, one in which none can be made, and one in which no file may have a byte.
 for folder in "$work/absent" /proc; do
     what="no scratch folder in $folder" status=0
-    TMPDIR=$folder "$root/vanillatarn" verdict cellar.bin >out 2>err || status=$?
+    TMPDIR=$folder "$root/vanillatarn" schedule cellar.bin >out 2>err || status=$?
     says 3
     complains "no scratch folder can be made in $folder"
 done
 what='a scratch folder that is full'
-status="$(ulimit -f 0 && { "$root/vanillatarn" verdict cellar.bin >/dev/null 2>&1 || echo $?; })"
+status="$(ulimit -f 0 && { "$root/vanillatarn" schedule cellar.bin >/dev/null 2>&1 || echo $?; })"
 says 3
 
 ## Wrong use
@@ -382,7 +382,7 @@ brew|unknown command 'brew'
 verdict|a word is missing (see: vanillatarn verdict --help)
 run cellar.bin|a word is missing
 part program.bin|a word is missing
-verdict cellar.bin cellar.bin|one word too many: cellar.bin
+schedule cellar.bin cellar.bin|one word too many: cellar.bin
 verdict --loud cellar.bin|unknown option --loud
 translate cellar.bin -o|-o lacks its file
 schedule cellar.bin -o file|'schedule' has no option -o
@@ -394,6 +394,8 @@ TEXT
 source "$root/command/test_build.sh"
 # shellcheck source=command/test_kinds.sh
 source "$root/command/test_kinds.sh"
+# shellcheck source=command/test_verdict.sh
+source "$root/command/test_verdict.sh"
 # shellcheck source=command/test_words.sh
 source "$root/command/test_words.sh"
 

@@ -17,9 +17,9 @@ call_there() {
 }
 
 cp "$root/corpus/probe_and_hub.bin" cellar.bin
-call_there verdict cellar.bin
+call_there schedule cellar.bin
 says 3
-complains "verdict_printer has to be built, and 'rt' is not installed"
+complains "schedule_printer has to be built, and 'rt' is not installed"
 
 # An rt that fails.
 cat >"$work/tools/rt" <<'TEXT'
@@ -28,28 +28,28 @@ echo 'a reason'
 exit 1
 TEXT
 chmod +x "$work/tools/rt"
-call_there verdict cellar.bin
+call_there schedule cellar.bin
 says 3
 complains 'a reason'
-complains 'verdict_printer could not be built: rt check verdict_printer'
+complains 'schedule_printer could not be built: rt check schedule_printer'
 
 # An rt that builds nothing.
 printf '#!/usr/bin/env bash\n' >"$work/tools/rt"
-call_there verdict cellar.bin
+call_there schedule cellar.bin
 says 3
-complains 'verdict_printer was not built by: rt check verdict_printer'
+complains 'schedule_printer was not built by: rt check schedule_printer'
 
 # A folder that cannot be written, whoever asks: a file stands in its place.
 printf '#!/usr/bin/env bash\nmkdir -p target/bin\n' >"$work/tools/rt"
 : >"$work/tree/target"
-call_there verdict cellar.bin
+call_there schedule cellar.bin
 says 3
-complains 'verdict_printer could not be built: rt check verdict_printer'
+complains 'schedule_printer could not be built: rt check schedule_printer'
 rm "$work/tree/target"
 printf '#!/usr/bin/env bash\nmkdir -p target/bin\n: >"target/bin/$2"\n' >"$work/tools/rt"
 mkdir "$work/tree/target"
 : >"$work/tree/target/command"
-call_there verdict cellar.bin
+call_there schedule cellar.bin
 says 3
 complains 'target/command cannot be written'
 rm -r "$work/tree/target"
@@ -60,33 +60,33 @@ cat >"$work/tools/rt" <<'TEXT'
 mkdir -p target/bin
 echo "rt: $2 proved"
 echo 'a detail'
-[[ -e target/bin/$2 ]] || printf '#!/usr/bin/env bash\necho accepted\n' >"target/bin/$2"
+[[ -e target/bin/$2 ]] || printf '#!/usr/bin/env bash\necho "c e l entry"\n' >"target/bin/$2"
 TEXT
-call_there verdict cellar.bin
+call_there schedule cellar.bin
 says 3
-check 'a program that cannot be run is told' grep -q 'verdict_printer failed' err
-chmod +x "$work/tree/target/bin/verdict_printer"
-call_there verdict cellar.bin
+check 'a program that cannot be run is told' grep -q 'schedule_printer failed' err
+chmod +x "$work/tree/target/bin/schedule_printer"
+call_there schedule cellar.bin
 says 0
-starts accepted
+starts 'c e l entry'
 check 'nothing is built twice' test ! -s err
 
 # A source that is newer than the program: rt is asked once more, and then no longer, though the program stays as old as it is.
-touch -d '2 hours ago' "$work/tree/target/bin/verdict_printer" "$work/tree/target/command/verdict_printer"
+touch -d '2 hours ago' "$work/tree/target/bin/schedule_printer" "$work/tree/target/command/schedule_printer"
 touch -d '1 hour ago' "$work/tree/crates/source"
 for folder in crates crates.txt; do
     touch -d '1 hour ago' "$work/tree/$folder"
 done
-call_there verdict cellar.bin
+call_there schedule cellar.bin
 says 0
-starts accepted
-check 'its progress is shown' grep -q '^rt: verdict_printer proved$' err
+starts 'c e l entry'
+check 'its progress is shown' grep -q '^rt: schedule_printer proved$' err
 check 'its details are not' test -z "$(grep detail err || true)"
-call_there verdict cellar.bin
+call_there schedule cellar.bin
 check 'nothing is built twice' test ! -s err
 
 # A program that writes something else.
-printf '#!/usr/bin/env bash\necho perhaps\n' >"$work/tree/target/bin/verdict_printer"
-call_there verdict cellar.bin
+printf '#!/usr/bin/env bash\necho perhaps\n' >"$work/tree/target/bin/schedule_printer"
+call_there schedule cellar.bin
 says 3
-check 'an answer that is none is told' grep -q 'verdict_printer failed' err
+check 'an answer that is none is told' grep -q 'schedule_printer failed' err

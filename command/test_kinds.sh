@@ -123,11 +123,11 @@ says 1
 starts 'refused 2 255'
 
 # Where the texts' tool cannot be had, a table is judged all the same, and a text is not.
-printf '#!/usr/bin/env bash\necho "refused 4 0"\n' >"$work/tree/target/bin/verdict_printer"
-call_there verdict program.bin
+printf '#!/usr/bin/env bash\necho "refused 4 0"\n' >"$work/tree/target/bin/schedule_printer"
+call_there schedule program.bin
 says 1
-starts 'refused 4 0'
-call_there verdict cellar.txt
+complains 'refused 4 0'
+call_there schedule cellar.txt
 says 3
 complains "table_text has to be built, and 'cargo' is not installed"
 
