@@ -7,7 +7,7 @@ usage: vanillatarn COMMAND ...
 
   verdict [--json|--quiet] TABLE...         whether each table is accepted; if not, why
   schedule TABLE                            its schedule, a line a passage
-  chart TABLE                               its schedule as a chart, a row a component
+  chart TABLE [--svg FILE]                  its schedule as a chart, a row a component
   translate TABLE [-o FILE]                 the program of its nodes
   list PROGRAM                              a program, a statement a line
   part PROGRAM NODE [-o FILE]               the part of a program that belongs to one node
@@ -68,13 +68,20 @@ Exit status: 0 printed, 1 the table is refused.
 TEXT
         chart) cat <<'TEXT' ;;
 usage: vanillatarn chart TABLE
+       vanillatarn chart TABLE --svg FILE [--from TICK] [--to TICK]
 
 Prints the schedule as a chart: a row for each component, with 64 cells for the
 ticks up to the horizon. A cell shows S if a send window of the component has a
 tick there, else R for receive, else W for internal, else a dot; a cell without
 ticks is a space.
 
-Exit status: 0 printed, 1 the table is refused.
+--svg draws the windows to a file (- for standard output) instead: a row for each
+component, on one axis of ticks; an arrow for each message. Of a table that 10, 11
+or 12 refuses, the windows that met are drawn, marked; any other refusal draws
+nothing and leaves the file as it was. --from and --to are the first and the last
+tick shown.
+
+Exit status: 0 printed or drawn, 1 the table is refused.
 TEXT
         translate) cat <<'TEXT' ;;
 usage: vanillatarn translate TABLE [-o FILE]

@@ -64,6 +64,7 @@ head -c 65536 /dev/zero >longer
 "$root/vanillatarn" verdict cellar.bin >out
 "$root/vanillatarn" schedule cellar.bin >out
 "$root/vanillatarn" chart cellar.bin >out
+"$root/vanillatarn" chart cellar.bin --svg out
 "$root/vanillatarn" translate cellar.bin -o program.bin
 "$root/vanillatarn" list program.bin >out
 "$root/vanillatarn" part program.bin 0 -o part0.bin
@@ -396,6 +397,8 @@ source "$root/command/test_build.sh"
 source "$root/command/test_kinds.sh"
 # shellcheck source=command/test_verdict.sh
 source "$root/command/test_verdict.sh"
+# shellcheck source=command/test_svg.sh
+source "$root/command/test_svg.sh"
 # shellcheck source=command/test_words.sh
 source "$root/command/test_words.sh"
 
