@@ -2,6 +2,12 @@
 # shellcheck shell=bash
 # shellcheck disable=SC2154 # root, scratch, broken and stop are those of vanillatarn, or of tools/archive
 
+# Where the verified programs and the tools stand. An installed command has all of them in one folder, and never builds.
+programs="$root/target/bin" tools="$root/rust/target/release" installed=''
+if [[ -e $root/INSTALLED ]]; then
+    programs="$root/programs" tools="$root/programs" installed=yes
+fi
+
 # Makes the folder for what is neither read nor written by the caller.
 make_scratch() {
     [[ -z $scratch ]] || return 0
@@ -13,13 +19,14 @@ make_scratch() {
 is_newer() {
     local built=$1
     shift
-    [[ -e $built && -z "$(find "$@" -newer "$built" -print -quit)" ]]
+    [[ -e $built && ( -n $installed || -z "$(find "$@" -newer "$built" -print -quit)" ) ]]
 }
 
 # Runs a tool in the root. Of what it says the lines of this pattern are shown; after a failure all of them.
 build() {
     local name=$1 shown=$2 log
     shift 2
+    [[ -z $installed ]] || stop "$broken" "$name is missing in $root: install vanillatarn once more"
     command -v "$1" >/dev/null || stop "$broken" "$name has to be built, and '$1' is not installed"
     make_scratch
     log="$scratch/log"
@@ -31,8 +38,11 @@ build() {
 }
 
 # The sources of verified code, and of Rust code.
-verified=("$root/crates" "$root/crates.txt")
-plain=("$root"/rust/*/{src,Cargo.toml} "$root"/rust/Cargo.{toml,lock})
+verified=() plain=()
+if [[ -z $installed ]]; then
+    verified=("$root/crates" "$root/crates.txt")
+    plain=("$root"/rust/*/{src,Cargo.toml} "$root"/rust/Cargo.{toml,lock})
+fi
 
 # The file whose age says since when a file is current, in `since`: itself, or its stamp. A tool that finds nothing to do leaves a file as
 # old as it was, and the stamp says when it was asked.
@@ -68,25 +78,25 @@ make_rust() {
 
 # A verified program.
 need_program() {
-    tool="$root/target/bin/$1"
+    tool="$programs/$1"
     is_current "$tool" "${verified[@]}" || make_current "$tool" '^rt: ' rt check "$1"
 }
 
 # A Rust tool, and its package.
 need_rust() {
-    tool="$root/rust/target/release/$1"
+    tool="$tools/$1"
     is_current "$tool" "${plain[@]}" || make_rust "$2"
 }
 
 # The verified library.
 need_library() {
-    local library="$root/target/staticlib/libtimed_network.a"
+    library="$root/target/staticlib/libtimed_network.a"
     is_current "$library" "${verified[@]}" || make_current "$library" '^rt: ' rt staticlib timed_network
 }
 
 # A Rust tool that has the library in it, and its package.
 need_linked() {
-    tool="$root/rust/target/release/$1"
+    tool="$tools/$1"
     if ! is_current "$tool" "${verified[@]}" "${plain[@]}"; then
         need_library
         make_rust "$2"

@@ -15,6 +15,7 @@ usage: vanillatarn COMMAND ...
   choices [--early|--late] TABLE [-o FILE]  choices that take a run to the horizon
   text TABLE                                a table as text
   table TEXTFILE [-o FILE]                  a text as a table
+  install PREFIX                            the command and the library, in a folder
 
 vanillatarn COMMAND --help, or vanillatarn help COMMAND, says more. A file may be
 - for standard input. Words behind -- are files, also those that begin with -.
@@ -141,6 +142,20 @@ Writes the bytes of a table from its text form (docs/TABLE-TEXT.md). Whether
 the table is good is not asked here: vanillatarn verdict does.
 
 Exit status: 0 written, 1 the text has a fault, told with its line.
+TEXT
+        install) cat <<'TEXT' ;;
+usage: vanillatarn install PREFIX
+
+Builds everything and copies it to the folder PREFIX, which is made if it is not
+there: bin/vanillatarn, lib/libtimed_network.a, include/timed_network.h,
+lib/pkgconfig/timed_network.pc, the documents for users in share/doc/vanillatarn,
+the tables of the tutorial in share/vanillatarn, and what the command needs in
+libexec/vanillatarn. What is there of an earlier installation is replaced. The
+folder can be moved.
+
+The installed command needs neither rt nor cargo, and never builds.
+
+Exit status: 0 installed.
 TEXT
     esac
 }

@@ -27,7 +27,7 @@ encode_table() {
 
 # Whether the tool that knows the kinds is there or can be built.
 has_converter() {
-    [[ -x $root/rust/target/release/table_text ]] || command -v cargo >/dev/null
+    [[ -x $tools/table_text ]] || command -v cargo >/dev/null
 }
 
 # Ends where a copy is of another kind: the file's name, the copy, what is wanted, and the kinds that are something else.

@@ -80,7 +80,7 @@ starts 'usage: vanillatarn COMMAND ...'
 cp out help
 call -h
 gives help
-for command in verdict schedule chart translate list part run choices text table; do
+for command in verdict schedule chart translate list part run choices text table install; do
     call --help
     check "the help names $command" grep -q "^  $command " out
     call "$command" --help
@@ -399,6 +399,8 @@ source "$root/command/test_kinds.sh"
 source "$root/command/test_verdict.sh"
 # shellcheck source=command/test_svg.sh
 source "$root/command/test_svg.sh"
+# shellcheck source=command/test_install.sh
+source "$root/command/test_install.sh"
 # shellcheck source=command/test_words.sh
 source "$root/command/test_words.sh"
 

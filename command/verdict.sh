@@ -21,7 +21,7 @@ are_current() {
 
 # Builds the verified program that has the words, and the tool that calls it.
 need_verdicts() {
-    printer="$root/target/bin/verdict_printer" tool="$root/rust/target/release/table_verdicts"
+    printer="$programs/verdict_printer" tool="$tools/table_verdicts"
     if ! are_current; then
         need_program verdict_printer
         need_linked table_verdicts verdicts

@@ -1,6 +1,7 @@
-# What `vanillatarn --version` says: the version, the commit, and which rt there is.
+# What `vanillatarn --version` says: the version, the commit, and which rt there is. An installed command says of which commit and by which rt
+# it was made.
 # shellcheck shell=bash
-# shellcheck disable=SC2154 # root is set by vanillatarn
+# shellcheck disable=SC2154 # root and installed are set by vanillatarn
 
 # The commit that the tree stands at, or why there is none to tell.
 commit_words() {
@@ -30,10 +31,16 @@ rt_words() {
     fi
 }
 
+# The lines of the commit and of rt.
+origin_text() {
+    printf 'commit: %s\nrt: %s\n' "$(commit_words)" "$(rt_words)"
+}
+
 version_text() {
+    local origin
+    if [[ -n $installed ]]; then origin="$(<"$root/INSTALLED")"; else origin="$(origin_text)"; fi
     cat <<TEXT
 vanillatarn $(<"$root/VERSION")
-commit: $(commit_words)
-rt: $(rt_words)
+$origin
 TEXT
 }
