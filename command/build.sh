@@ -22,16 +22,18 @@ is_newer() {
     [[ -e $built && ( -n $installed || -z "$(find "$@" -newer "$built" -print -quit)" ) ]]
 }
 
-# Runs a tool in the root. Of what it says the lines of this pattern are shown; after a failure all of them.
+# shellcheck source=command/progress.sh
+source "$root/command/progress.sh"
+
+# Runs a tool in the root: what is built, of how many crates, the tool with its words. Its progress is told; after a failure all that it said.
 build() {
-    local name=$1 shown=$2 log
+    local name=$1 total=$2 log
     shift 2
     [[ -z $installed ]] || stop "$broken" "$name is missing in $root: install vanillatarn once more"
     command -v "$1" >/dev/null || stop "$broken" "$name has to be built, and '$1' is not installed"
     make_scratch
     log="$scratch/log"
-    say "building $name, once; that can take some minutes ..." || true
-    if ! (cd "$root" && "$@" 2>&1) | tee "$log" | { grep --line-buffered "$shown" || true; } >&2; then
+    if ! (cd "$root" && "$@" 2>&1) | tee "$log" | show_progress "$name" "$total"; then
         cat "$log" >&2 || true
         stop "$broken" "$name could not be built: $*"
     fi
@@ -61,25 +63,25 @@ is_current() {
     is_newer "$since" "$@"
 }
 
-# Makes a file with a tool: the file, the pattern of the lines to be shown, the tool with its words.
+# Makes a file with a tool: the file, of how many crates it is made, the tool with its words.
 make_current() {
-    local built=$1 shown=$2 name=${1##*/} stamp="$root/target/command/${1##*/}"
+    local built=$1 crates=$2 name=${1##*/} stamp="$root/target/command/${1##*/}"
     shift 2
-    build "$name" "$shown" "$@"
+    build "$name" "$crates" "$@"
     [[ -e $built ]] || stop "$broken" "$name was not built by: $* (remove target/ to build all from nothing)"
     { mkdir -p "$(dirname "$stamp")" && touch "$stamp"; } 2>/dev/null || stop "$broken" "$(dirname "$stamp") cannot be written"
 }
 
 # A Rust tool of a package.
 make_rust() {
-    make_current "$tool" '^ *Compiling ' \
+    make_current "$tool" '' \
         cargo build --manifest-path rust/Cargo.toml --target-dir rust/target --release --offline --package "$1"
 }
 
 # A verified program.
 need_program() {
     tool="$programs/$1"
-    is_current "$tool" "${verified[@]}" || make_current "$tool" '^rt: ' rt check "$1"
+    is_current "$tool" "${verified[@]}" || make_current "$tool" "$(count_crates "$1")" rt check "$1"
 }
 
 # A Rust tool, and its package.
@@ -91,7 +93,7 @@ need_rust() {
 # The verified library.
 need_library() {
     library="$root/target/staticlib/libtimed_network.a"
-    is_current "$library" "${verified[@]}" || make_current "$library" '^rt: ' rt staticlib timed_network
+    is_current "$library" "${verified[@]}" || make_current "$library" "$(count_crates timed_network)" rt staticlib timed_network
 }
 
 # A Rust tool that has the library in it, and its package.

@@ -4,8 +4,8 @@
 
 mkdir -p "$work/tree/crates" "$work/tools"
 cp -r "$root/vanillatarn" "$root/command" "$work/tree"
-: >"$work/tree/crates.txt"
-for name in bash cat head wc find basename dirname readlink mktemp rm mkdir touch tee grep env; do
+printf '# A comment.\nparts:\nschedule_printer: parts io\nother: parts\n' >"$work/tree/crates.txt"
+for name in bash cat head wc find basename dirname readlink mktemp rm mkdir touch tee grep env chmod sleep; do
     ln -s "$(command -v "$name")" "$work/tools/$name"
 done
 
@@ -58,7 +58,8 @@ rm -r "$work/tree/target"
 cat >"$work/tools/rt" <<'TEXT'
 #!/usr/bin/env bash
 mkdir -p target/bin
-echo "rt: $2 proved"
+echo "rt: parts proved (unchanged since it was last proved)"
+echo "rt: $2 proved (2 s)"
 echo 'a detail'
 [[ -e target/bin/$2 ]] || printf '#!/usr/bin/env bash\necho "c e l entry"\n' >"target/bin/$2"
 TEXT
@@ -80,8 +81,8 @@ done
 call_there schedule cellar.bin
 says 0
 starts 'c e l entry'
-check 'its progress is shown' grep -q '^rt: schedule_printer proved$' err
-check 'its details are not' test -z "$(grep detail err || true)"
+printf 'vanillatarn: building schedule_printer, once; it can be stopped, and goes on where it was\nvanillatarn: [2 of 2] schedule_printer\n' >expected
+check 'its progress is shown, and nothing else' cmp -s expected err
 call_there schedule cellar.bin
 check 'nothing is built twice' test ! -s err
 
@@ -90,3 +91,24 @@ printf '#!/usr/bin/env bash\necho perhaps\n' >"$work/tree/target/bin/schedule_pr
 call_there schedule cellar.bin
 says 3
 check 'an answer that is none is told' grep -q 'schedule_printer failed' err
+
+# An rt that finds nothing to do says nothing, one that is slow gives signs of life.
+rm -r "$work/tree/target"
+cat >"$work/tools/rt" <<'TEXT'
+#!/usr/bin/env bash
+mkdir -p target/bin
+echo "rt: parts proved (unchanged since it was last proved)"
+echo "rt: $2 proved (unchanged since it was last proved)"
+printf '#!/usr/bin/env bash\necho "c e l entry"\n' >"target/bin/$2"
+chmod +x "target/bin/$2"
+TEXT
+call_there schedule cellar.bin
+says 0
+check 'nothing is said of what is unchanged' test ! -s err
+rm -r "$work/tree/target"
+{ cat "$work/tools/rt"; echo 'sleep 10; printf "rt: half a "; sleep 1; echo line'; } >slow
+cp slow "$work/tools/rt"
+call_there schedule cellar.bin
+says 0
+check 'a sign of life' grep -q -E '^vanillatarn: \[2 of 2\] at work for ([89]|10) s$' err
+check 'nothing else' test "$(wc -l <err)" -eq 2

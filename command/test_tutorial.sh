@@ -11,7 +11,7 @@ trap 'rm -rf -- "$work"' EXIT
 cd "$work"
 PATH="$root:$PATH"
 
-readonly building='^(vanillatarn: building |rt: | *Compiling )'
+readonly building='^vanillatarn: (building |compiling |\[[0-9]+ of [0-9]+\] |at work for )'
 tried=0 failed=0 kind='' typed=''
 
 # Runs the command that was read last, if there is one, and compares.
