@@ -6,7 +6,7 @@
 all_programs=(schedule_printer chart_printer verdict_printer translate_table program_listing trial_run)
 all_tools=(table_text:table_text make_choices:choices)
 all_linked=(program_part:timed_network table_verdicts:verdicts schedule_svg:schedule_svg)
-user_docs=("$root"/docs/{TUTORIAL,FORMATS,REFUSALS,TABLE-TEXT,LINKING}.md)
+user_docs=("$root"/docs/{TUTORIAL,FORMATS,REFUSALS,TABLE-TEXT,LINKING}.md "$root"/{CHANGELOG.md,LICENSE})
 
 # Builds all of them.
 need_all() {

@@ -8,7 +8,7 @@ says 0
 printf 'installed in %s\n' "$prefix" >expected
 gives expected
 for file in bin/vanillatarn lib/libtimed_network.a include/timed_network.h lib/pkgconfig/timed_network.pc share/vanillatarn/cellar.txt \
-    share/vanillatarn/accident.txt share/doc/vanillatarn/TUTORIAL.md; do
+    share/vanillatarn/accident.txt share/doc/vanillatarn/TUTORIAL.md share/doc/vanillatarn/LICENSE; do
     check "there is $file" test -s "$prefix/$file"
 done
 check 'the archive is the one that was built' cmp -s "$prefix/lib/libtimed_network.a" "$root/target/staticlib/libtimed_network.a"

@@ -14,6 +14,7 @@ if [[ -e $root/.git ]] && command -v git >/dev/null; then
 fi
 check 'rt is the one that is there' grep -q -F -x "rt: $(rt version | head -n 1)" out
 check 'nothing is said besides' test ! -s err
+check 'the changelog begins with this version' test "$(grep -m 1 '^## ' "$root/CHANGELOG.md")" = "## $(cat "$root/VERSION")"
 call --version now
 says 2
 complains 'one word too many: now'
