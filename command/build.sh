@@ -25,7 +25,8 @@ is_newer() {
 # shellcheck source=command/progress.sh
 source "$root/command/progress.sh"
 
-# Runs a tool in the root: what is built, of how many crates, the tool with its words. Its progress is told; after a failure all that it said.
+# Runs a tool in the root: what is built, of how many crates, the tool with its words. Its progress is told; after a failure all that it
+# said.
 build() {
     local name=$1 total=$2 log
     shift 2

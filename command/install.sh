@@ -64,7 +64,8 @@ TEXT
 do_install() {
     local prefix=${files[0]}
     [[ -z $installed ]] || misused 'an installed command installs nothing: use the one of the repository'
-    { mkdir -p -- "$prefix" && prefix="$(cd -- "$prefix" && pwd)"; } 2>/dev/null || stop "$wrong" "$prefix: is no folder and cannot be made one"
+    { mkdir -p -- "$prefix" && prefix="$(cd -- "$prefix" && pwd)"; } 2>/dev/null ||
+        stop "$wrong" "$prefix: is no folder and cannot be made one"
     [[ -w $prefix ]] || stop "$wrong" "$prefix: cannot be written"
     need_all
     put_command

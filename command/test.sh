@@ -391,18 +391,9 @@ chart cellar.bin -o file|'chart' has no option -o
 translate --late cellar.bin|'translate' has no option --late
 TEXT
 
-# shellcheck source=command/test_build.sh
-source "$root/command/test_build.sh"
-# shellcheck source=command/test_kinds.sh
-source "$root/command/test_kinds.sh"
-# shellcheck source=command/test_verdict.sh
-source "$root/command/test_verdict.sh"
-# shellcheck source=command/test_svg.sh
-source "$root/command/test_svg.sh"
-# shellcheck source=command/test_install.sh
-source "$root/command/test_install.sh"
-# shellcheck source=command/test_words.sh
-source "$root/command/test_words.sh"
-
+for part in build kinds verdict svg install words; do
+    # shellcheck source=/dev/null # build first: others use its root
+    source "$root/command/test_$part.sh"
+done
 echo "the command: $passed checks passed, $failed failed"
 ((failed == 0))

@@ -46,6 +46,7 @@ call_there schedule cellar.bin
 says 3
 complains 'schedule_printer could not be built: rt check schedule_printer'
 rm "$work/tree/target"
+# shellcheck disable=SC2016 # meant for the file
 printf '#!/usr/bin/env bash\nmkdir -p target/bin\n: >"target/bin/$2"\n' >"$work/tools/rt"
 mkdir "$work/tree/target"
 : >"$work/tree/target/command"
@@ -81,7 +82,7 @@ done
 call_there schedule cellar.bin
 says 0
 starts 'c e l entry'
-printf 'vanillatarn: building schedule_printer, once; it can be stopped, and goes on where it was\nvanillatarn: [2 of 2] schedule_printer\n' >expected
+printf 'vanillatarn: %s\n' 'building schedule_printer, once; it can be stopped, and goes on where it was' '[2 of 2] schedule_printer' >expected
 check 'its progress is shown, and nothing else' cmp -s expected err
 call_there schedule cellar.bin
 check 'nothing is built twice' test ! -s err

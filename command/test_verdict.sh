@@ -96,8 +96,8 @@ for form in words --json --quiet; do
     [[ $form == words ]] || options=("$form")
     call verdict "${options[@]}" cellar.bin absent folder empty long program.bin fault.txt incident.bin cellar.txt
     says 2
-    for message in 'absent: no such file' 'folder: is a folder' 'empty: is empty' 'long: longer than 8192 bytes, the most that a table has' \
-        'program.bin: this is a program, not a table' "fault.txt: line 2: 'channel' begins no line of this text form"; do
+    for message in 'absent: no such file' 'folder: is a folder' 'empty: is empty' \
+        'long: longer than 8192 bytes, the most that a table has' 'program.bin: this is a program, not a table' "fault.txt: line 2: 'channel' begins no line of this text form"; do
         check "standard error has: $message" grep -q -F -x "vanillatarn: $message" err
     done
 done

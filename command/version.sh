@@ -1,5 +1,5 @@
-# What `vanillatarn --version` says: the version, the commit, and which rt there is. An installed command says of which commit and by which rt
-# it was made.
+# What `vanillatarn --version` says: the version, the commit, and which rt there is. An installed command says of which commit and by which
+# rt it was made.
 # shellcheck shell=bash
 # shellcheck disable=SC2154 # root and installed are set by vanillatarn
 

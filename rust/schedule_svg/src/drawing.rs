@@ -18,8 +18,11 @@ const RED: &str = "#b00020";
 /// The fills, which differ without colour too: sends dark, receives hatched,
 /// internal work pale; and the head of an arrow.
 const DEFINITIONS: &str = "<defs>
-<pattern id=\"receive\" width=\"7\" height=\"7\" patternUnits=\"userSpaceOnUse\" patternTransform=\"rotate(45)\"><rect width=\"7\" height=\"7\" fill=\"#fff\"/><rect width=\"2.5\" height=\"7\" fill=\"#c77700\"/></pattern>
-<marker id=\"head\" viewBox=\"0 0 8 8\" refX=\"7\" refY=\"4\" markerWidth=\"7\" markerHeight=\"7\" orient=\"auto\"><path d=\"M0 0L8 4L0 8z\"/></marker>
+<pattern id=\"receive\" width=\"7\" height=\"7\" patternUnits=\"userSpaceOnUse\" \
+    patternTransform=\"rotate(45)\"><rect width=\"7\" height=\"7\" fill=\"#fff\"/>\
+    <rect width=\"2.5\" height=\"7\" fill=\"#c77700\"/></pattern>
+<marker id=\"head\" viewBox=\"0 0 8 8\" refX=\"7\" refY=\"4\" \
+    markerWidth=\"7\" markerHeight=\"7\" orient=\"auto\"><path d=\"M0 0L8 4L0 8z\"/></marker>
 </defs>
 ";
 
@@ -27,7 +30,8 @@ const DEFINITIONS: &str = "<defs>
 pub fn whole(scene: &Scene, axis: &Axis) -> String {
     let height = TOP + ROW * f64::from(scene.components) + 36.0;
     let mut text = format!(
-        "<svg xmlns=\"http://www.w3.org/2000/svg\" width=\"{WIDTH}\" height=\"{height}\" viewBox=\"0 0 {WIDTH} {height}\" font-family=\"sans-serif\" font-size=\"12\">\n"
+        "<svg xmlns=\"http://www.w3.org/2000/svg\" width=\"{WIDTH}\" height=\"{height}\" viewBox=\"0 0 {WIDTH} {height}\" \
+        font-family=\"sans-serif\" font-size=\"12\">\n"
     );
     text += DEFINITIONS;
     text += &plain_box([0.0, 0.0, WIDTH, height], "fill=\"#fff\"");
