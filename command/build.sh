@@ -25,6 +25,17 @@ is_newer() {
 # shellcheck source=command/progress.sh
 source "$root/command/progress.sh"
 
+# Runs a tool in a process group of its own, so that Ctrl-C ends all of it: what rt has in the background would go on. Standard input is
+# not the tool's.
+stoppable() {
+    local group
+    set -m
+    "$@" </dev/null &
+    group=$!
+    trap 'kill -TERM -- "-$group"; exit 130' INT TERM
+    wait "$group"
+}
+
 # Runs a tool in the root: what is built, of how many crates, the tool with its words. Its progress is told; after a failure all that it
 # said.
 build() {
@@ -34,10 +45,12 @@ build() {
     command -v "$1" >/dev/null || stop "$broken" "$name has to be built, and '$1' is not installed"
     make_scratch
     log="$scratch/log"
-    if ! (cd "$root" && "$@" 2>&1) | tee "$log" | show_progress "$name" "$total"; then
+    trap 'exit 130' INT
+    if ! (cd "$root" && stoppable "$@" 2>&1) | tee "$log" | show_progress "$name" "$total"; then
         cat "$log" >&2 || true
         stop "$broken" "$name could not be built: $*"
     fi
+    trap - INT
 }
 
 # The sources of verified code, and of Rust code.

@@ -38,8 +38,8 @@ Exit status
 
 What is needed is built on first use (with rt and cargo); its progress goes to
 standard error. That takes minutes, once; the very first time, when the whole
-library is proved, some ten on two cores. It can be stopped, and goes on where it
-was.
+library is proved, some ten on two cores. It can be stopped (Ctrl-C, status 130),
+and goes on where it was.
 TEXT
 }
 

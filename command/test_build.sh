@@ -113,3 +113,35 @@ call_there schedule cellar.bin
 says 0
 check 'a sign of life' grep -q -E '^vanillatarn: \[2 of 2\] at work for ([89]|10) s$' err
 check 'nothing else' test "$(wc -l <err)" -eq 2
+
+# Whether a process ends within ten seconds.
+has_ended() {
+    local tries
+    for ((tries = 0; tries < 100; tries++)); do
+        grep -q -s '^State:[^Z]*$' "/proc/$1/status" || return 0
+        sleep 0.1
+    done
+    return 1
+}
+
+# Ctrl-C ends the tool with what it has in the background, which by itself ignores that signal; nothing else is said.
+rm -r "$work/tree/target"
+cat >"$work/tools/rt" <<'TEXT'
+#!/usr/bin/env bash
+(echo "$BASHPID" >worker; echo 'rt: parts proved (2 s)'; sleep 60) &
+wait
+TEXT
+what='Ctrl-C while something is built' status=0
+set -m
+PATH="$work/tools" TMPDIR="$work/folder" "$work/tree/vanillatarn" schedule cellar.bin >out 2>err &
+set +m
+for ((tries = 0; tries < 100; tries++)); do
+    ! grep -q parts err || break
+    sleep 0.1
+done
+kill -INT -- "-$!"
+wait "$!" || status=$?
+says 130
+check 'the worker has ended' has_ended "$(cat "$work/tree/worker")"
+check 'nothing is said of a failure' test "$(grep -c -v -e ' building ' -e ' parts$' err)" -eq 0
+check 'no scratch folder is left' test -z "$(ls "$work/folder")"

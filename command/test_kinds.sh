@@ -123,7 +123,9 @@ says 1
 starts 'refused 2 255'
 
 # Where the texts' tool cannot be had, a table is judged all the same, and a text is not.
+mkdir -p "$work/tree/target/bin"
 printf '#!/usr/bin/env bash\necho "refused 4 0"\n' >"$work/tree/target/bin/schedule_printer"
+chmod +x "$work/tree/target/bin/schedule_printer"
 call_there schedule program.bin
 says 1
 complains 'refused 4 0'
