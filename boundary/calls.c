@@ -52,11 +52,15 @@ void calls_start(void) {
     node_place = place_new(sizeof(NodeRegisters));
 }
 
-/* What holds for every verdict; `most` is the highest number of the call. */
+/*
+ * What holds for every verdict: 0 to `most`, the last number of the call, or,
+ * where 11 is among them, 15 to 17, which stand in its place.
+ */
 static void try_verdict(uint8_t number, uint8_t component, uint8_t most) {
-    if (number > most)
+    int unheard = number >= 15 && number <= 17 && most >= 11;
+    if (number > most && !unheard)
         fail("there is no such refusal");
-    int none = number <= 3 || number >= 13;
+    int none = number <= 3 || (number >= 13 && !unheard);
     if (none ? component != 255 : component >= 8)
         fail("there is no such component");
 }

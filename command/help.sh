@@ -5,9 +5,9 @@ general_help() {
     cat <<'TEXT'
 usage: vanillatarn COMMAND ...
 
-  verdict TABLE                             whether the table is accepted; if not, why
+  verdict [--json|--quiet] TABLE...         whether each table is accepted; if not, why
   schedule TABLE                            its schedule, a line a passage
-  chart TABLE                               its schedule as a chart, a row a component
+  chart TABLE [--svg FILE]                  its schedule as a chart, a row a component
   plan --probes N --slot S --guard G --period P [-o FILE]
                                             a table in which each probe has a slot
   edge TABLE --component C --location L ... the edge that is taken at an entry
@@ -18,8 +18,14 @@ usage: vanillatarn COMMAND ...
   choices [--early|--late] TABLE [-o FILE]  choices that take a run to the horizon
   text TABLE                                a table as text
   table TEXTFILE [-o FILE]                  a text as a table
+  install PREFIX                            the command and the library, in a folder
 
-vanillatarn COMMAND --help says more. A file may be - for standard input.
+vanillatarn COMMAND --help, or vanillatarn help COMMAND, says more. A file may be
+- for standard input. Words behind -- are files, also those that begin with -.
+vanillatarn --version tells the version, the commit and which rt there is.
+
+A TABLE may be bytes or its text (docs/TABLE-TEXT.md). A file of another kind, such
+as a program where a table is asked for, is named: wrong use.
 
 Bytes (programs, parts, choices, tables) go to FILE, without -o or with -o - to
 standard output. Without -o a terminal gets none. Where the answer is no, the
@@ -36,21 +42,28 @@ Exit status
 
 What is needed is built on first use (with rt and cargo); its progress goes to
 standard error. That takes minutes, once; the very first time, when the whole
-library is proved, it takes longest.
+library is proved, some ten on two cores. It can be stopped (Ctrl-C, status 130),
+and goes on where it was.
 TEXT
 }
 
 command_help() {
     case $1 in
         verdict) cat <<'TEXT' ;;
-usage: vanillatarn verdict TABLE
+usage: vanillatarn verdict [--json|--quiet] TABLE...
 
 Says whether the table is accepted. If it is not: `refused`, the number of the
 check, the component; the question in words; after 10 to 12 and 15 to 17 also
 which windows met, and where a send is not heard well the remedy.
-docs/REFUSALS.md lists the numbers.
+docs/REFUSALS.md lists the numbers. Of several tables each answer stands behind
+the file's name; a file that cannot be judged is told on standard error, and the
+others are judged all the same.
 
-Exit status: 0 accepted, 1 refused.
+--json:  an object a line and file (docs/FORMATS.md)
+--quiet: the exit status alone
+
+Exit status: 0 accepted, 1 refused, or a text has a fault; the worst of all
+files.
 TEXT
         schedule) cat <<'TEXT' ;;
 usage: vanillatarn schedule TABLE
@@ -62,13 +75,20 @@ Exit status: 0 printed, 1 the table is refused.
 TEXT
         chart) cat <<'TEXT' ;;
 usage: vanillatarn chart TABLE
+       vanillatarn chart TABLE --svg FILE [--from TICK] [--to TICK]
 
 Prints the schedule as a chart: a row for each component, with 64 cells for the
 ticks up to the horizon. A cell shows S if a send window of the component has a
 tick there, else R for receive, else W for internal, else a dot; a cell without
 ticks is a space.
 
-Exit status: 0 printed, 1 the table is refused.
+--svg draws the windows to a file (- for standard output) instead: a row for each
+component, on one axis of ticks; an arrow for each message. Of a table refused by
+10 to 12 or 15 to 17 the windows that met are drawn, marked; any other refusal draws
+nothing and leaves the file as it was. --from and --to are the first and the last
+tick shown.
+
+Exit status: 0 printed or drawn, 1 the table is refused.
 TEXT
         plan) cat <<'TEXT' ;;
 usage: vanillatarn plan --probes N --slot S --guard G --period P [-o FILE]
@@ -158,6 +178,20 @@ Writes the bytes of a table from its text form (docs/TABLE-TEXT.md). Whether
 the table is good is not asked here: vanillatarn verdict does.
 
 Exit status: 0 written, 1 the text has a fault, told with its line.
+TEXT
+        install) cat <<'TEXT' ;;
+usage: vanillatarn install PREFIX
+
+Builds everything and copies it to the folder PREFIX, which is made if it is not
+there: bin/vanillatarn, lib/libtimed_network.a, include/timed_network.h,
+lib/pkgconfig/timed_network.pc, the documents for users in share/doc/vanillatarn,
+the tables of the tutorial in share/vanillatarn, and what the command needs in
+libexec/vanillatarn. What is there of an earlier installation is replaced. The
+folder can be moved.
+
+The installed command needs neither rt nor cargo, and never builds.
+
+Exit status: 0 installed.
 TEXT
     esac
 }

@@ -66,6 +66,7 @@ head -c 65536 /dev/zero >longer
 "$root/vanillatarn" chart cellar.bin >out
 "$root/vanillatarn" plan --probes 1 --slot 1 --guard 1 --period 4 -o plan.bin
 "$root/vanillatarn" edge cellar.bin --component 0 --location 0 >out
+"$root/vanillatarn" chart cellar.bin --svg out
 "$root/vanillatarn" translate cellar.bin -o program.bin
 "$root/vanillatarn" list program.bin >out
 "$root/vanillatarn" part program.bin 0 -o part0.bin
@@ -81,7 +82,7 @@ starts 'usage: vanillatarn COMMAND ...'
 cp out help
 call -h
 gives help
-for command in verdict schedule chart plan edge translate list part run choices text table; do
+for command in verdict schedule chart plan edge translate list part run choices text table install; do
     call --help
     check "the help names $command" grep -q "^  $command " out
     call "$command" --help
@@ -311,7 +312,7 @@ printf '\001\000' >no_header
 printf '\001\000\014\001\000\024\000\006\002\002\000\000' >no_starts
 printf '\001\000\015\001\000\024\000\007\000\000\000\000\001' >rest
 head -c 245 program.bin >shortened
-for file in unknown no_block far_block no_header no_starts rest shortened cellar.bin; do
+for file in unknown no_block far_block no_header no_starts rest shortened; do
     call list "$file"
     says 1
     check 'it is said' grep -q "$file: the program is damaged" err
@@ -325,9 +326,10 @@ for node in x 256 1000 ''; do
     says 2
     complains 'is not the number of a node'
 done
-call text program.bin
+head -c 20 cellar.bin >short.bin
+call text short.bin
 says 1
-complains 'program.bin: '
+complains 'short.bin: '
 call table fault.txt -o old
 says 1
 complains "fault.txt: line 2: 'channel' begins no line"
@@ -428,12 +430,12 @@ starts accepted
 # A folder for scratch files that is not there, one in which none can be made, and one in which no file may have a byte.
 for folder in "$work/absent" /proc; do
     what="no scratch folder in $folder" status=0
-    TMPDIR=$folder "$root/vanillatarn" verdict cellar.bin >out 2>err || status=$?
+    TMPDIR=$folder "$root/vanillatarn" schedule cellar.bin >out 2>err || status=$?
     says 3
     complains "no scratch folder can be made in $folder"
 done
 what='a scratch folder that is full'
-status="$(ulimit -f 0 && { "$root/vanillatarn" verdict cellar.bin >/dev/null 2>&1 || echo $?; })"
+status="$(ulimit -f 0 && { "$root/vanillatarn" schedule cellar.bin >/dev/null 2>&1 || echo $?; })"
 says 3
 
 ## Wrong use
@@ -449,7 +451,7 @@ brew|unknown command 'brew'
 verdict|a word is missing (see: vanillatarn verdict --help)
 run cellar.bin|a word is missing
 part program.bin|a word is missing
-verdict cellar.bin cellar.bin|one word too many: cellar.bin
+schedule cellar.bin cellar.bin|one word too many: cellar.bin
 verdict --loud cellar.bin|unknown option --loud
 translate cellar.bin -o|-o lacks its file
 schedule cellar.bin -o file|'schedule' has no option -o
@@ -478,8 +480,9 @@ edge cellar.bin --component 0 --location 0 --variables 32768|--variables: '32768
 edge cellar.bin --component 0 --location 0 -o file|'edge' has no option -o
 TEXT
 
-# shellcheck source=command/test_build.sh
-source "$root/command/test_build.sh"
-
+for part in build kinds verdict svg install words; do
+    # shellcheck source=/dev/null # build first: others use its root
+    source "$root/command/test_$part.sh"
+done
 echo "the command: $passed checks passed, $failed failed"
 ((failed == 0))

@@ -11,7 +11,7 @@ trap 'rm -rf -- "$work"' EXIT
 cd "$work"
 PATH="$root:$PATH"
 
-readonly building='^(vanillatarn: building |rt: | *Compiling )'
+readonly building='^vanillatarn: (building |compiling |\[[0-9]+ of [0-9]+\] |at work for )'
 tried=0 failed=0 kind='' typed=''
 
 # Runs the command that was read last, if there is one, and compares.
@@ -53,5 +53,14 @@ while IFS= read -r line; do
     esac
 done <"$root/docs/TUTORIAL.md"
 
-echo "the tutorial: $tried commands tried, $failed failed"
+# The tables that are installed for its readers are those that it makes.
+for file in "$root"/examples/tables/*.txt; do
+    tried=$((tried + 1))
+    if ! cmp -s "$file" "$(basename "$file")"; then
+        failed=$((failed + 1))
+        printf 'FAILED: %s is not the table of the tutorial\n' "$file"
+    fi
+done
+
+echo "the tutorial: $tried commands and tables tried, $failed failed"
 ((failed == 0 && tried > 0))

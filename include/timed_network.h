@@ -1,4 +1,6 @@
 /*
+ * SPDX-License-Identifier: BSL-1.0
+ *
  * Timed cellar networks: the exported calls.
  *
  * A table is a string of bytes, laid out as document 01 says under "The
@@ -23,6 +25,64 @@
 #include <stdbool.h>
 #include <stddef.h>
 #include <stdint.h>
+
+/*
+ * The version of this header and its archive, as words and as a number that
+ * grows: 10,000 x major + 100 x minor + patch.
+ */
+#define TIMED_NETWORK_VERSION "0.4.0"
+#define TIMED_NETWORK_VERSION_NUMBER 400
+
+/*
+ * Limits and sizes. "Enough" is what a buffer needs for any table.
+ */
+#define TIMED_NETWORK_MAX_TABLE 8192                    /* bytes of a table */
+#define TIMED_NETWORK_MAX_COMPONENTS 8                  /* components of a table */
+#define TIMED_NETWORK_MAX_PASSAGES 1024                 /* passages of a schedule */
+#define TIMED_NETWORK_FIELDS 7                          /* numbers of a passage in a list */
+#define TIMED_NETWORK_PASSAGE_BYTES 16                  /* bytes of a passage struct */
+#define TIMED_NETWORK_SCHEDULE_ENOUGH (7 * 1024)        /* numbers of a schedule */
+#define TIMED_NETWORK_MEETINGS_ENOUGH (7 * 1025)        /* numbers of meetings */
+#define TIMED_NETWORK_CHART_ROW 69                      /* bytes of a chart's row */
+#define TIMED_NETWORK_CHART_ENOUGH (69 * 8)             /* bytes of a chart */
+#define TIMED_NETWORK_MAX_PLAN 414                      /* bytes of a plan: enough */
+#define TIMED_NETWORK_MAX_PROGRAM 24576                 /* bytes of a program: enough */
+#define TIMED_NETWORK_OBSERVATION 32                    /* bytes of an observation */
+#define TIMED_NETWORK_OBSERVATIONS_ENOUGH (32 * 1024)   /* bytes of a run's */
+#define TIMED_NETWORK_MAX_CHOICES 1000000               /* choices of a run */
+#define TIMED_NETWORK_TICK 255                          /* the choice that is a tick */
+#define TIMED_NETWORK_NONE 255                          /* no component, message, node */
+
+/* What the number of an answer means; each is explained below. */
+enum timed_network_number {
+    TIMED_NETWORK_ACCEPTED = 0,
+    TIMED_NETWORK_REFUSED_VERSION = 1,
+    TIMED_NETWORK_REFUSED_LENGTH = 2,
+    TIMED_NETWORK_REFUSED_HEADER = 3,
+    TIMED_NETWORK_REFUSED_LAYOUT = 4,
+    TIMED_NETWORK_REFUSED_RANGE = 5,
+    TIMED_NETWORK_REFUSED_CHANNEL_TWICE = 6,
+    TIMED_NETWORK_REFUSED_PASSAGES = 7,
+    TIMED_NETWORK_REFUSED_NO_EDGE = 8,
+    TIMED_NETWORK_REFUSED_UPDATE = 9,
+    TIMED_NETWORK_REFUSED_SENDS_MEET = 10,
+    TIMED_NETWORK_REFUSED_NO_LISTENER = 11,
+    TIMED_NETWORK_REFUSED_CROWDED = 12,
+    TIMED_NETWORK_REFUSED_LENT = 13,
+    TIMED_NETWORK_REFUSED_CHOICES = 14,
+    TIMED_NETWORK_REFUSED_SEVERAL_LISTENERS = 15,
+    TIMED_NETWORK_REFUSED_LISTENER_LATE = 16,
+    TIMED_NETWORK_REFUSED_LISTENER_SHORT = 17,
+    TIMED_NETWORK_REFUSED_PLAN = 18
+};
+
+/* What the end of a run means; see RunNumbers. */
+enum timed_network_end {
+    TIMED_NETWORK_END_HORIZON = 0,
+    TIMED_NETWORK_END_USED_UP = 1,
+    TIMED_NETWORK_END_LATE = 2,
+    TIMED_NETWORK_END_NOT_ALLOWED = 3
+};
 
 #ifdef __cplusplus
 extern "C" {

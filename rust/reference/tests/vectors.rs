@@ -132,5 +132,5 @@ fn all_vectors() {
     }
     println!("{counts:?}");
     assert!(wrong.is_empty(), "{}", wrong.join("\n"));
-    assert!(counts.len() == 7);
+    assert!(counts.len() == 8);
 }

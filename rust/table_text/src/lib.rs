@@ -9,6 +9,7 @@
 pub mod corpus;
 mod decode;
 mod encode;
+mod kind;
 mod line;
 mod parse;
 pub mod schedule;
@@ -17,6 +18,7 @@ mod source;
 use std::fmt;
 
 pub use decode::{decode, DecodeError};
+pub use kind::{kind, Kind};
 
 /// A fault in a source text, with the number of its line, counted from 1.
 #[derive(Debug, Clone, PartialEq, Eq)]

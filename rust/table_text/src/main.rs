@@ -1,6 +1,7 @@
 //! Converts between the text form of a table and its bytes.
 //!
-//! Exit status: 0 done, 1 a fault in what was read, 2 wrong use.
+//! Exit status: 0 done, 1 a fault in what was read, 2 wrong use or an output
+//! that cannot be written.
 
 #![forbid(unsafe_code)]
 
@@ -13,6 +14,7 @@ use table_text::corpus;
 const USAGE: &str = "usage:
   table_text encode < source.txt > table.bin
   table_text decode < table.bin > source.txt
+  table_text kind < FILE  says what FILE is: table, text, program, part or other
   table_text build DIR    writes DIR/NAME.bin for each DIR/NAME.txt
   table_text verify DIR   tries DIR's sources, bytes, schedules and answers.tsv against each other";
 
@@ -22,6 +24,7 @@ fn main() -> ExitCode {
     let outcome = match words.as_slice() {
         ["encode"] => encode_input(),
         ["decode"] => decode_input(),
+        ["kind"] => kind_of_input(),
         ["build", folder] => corpus::build(Path::new(folder)).map(|count| counted(count, "built")),
         ["verify", folder] => {
             corpus::verify(Path::new(folder)).map(|count| counted(count, "verified"))
@@ -36,9 +39,12 @@ fn main() -> ExitCode {
 
 /// Writes the result to standard output, or each problem to standard error.
 fn finish(outcome: Result<Vec<u8>, Vec<String>>) -> ExitCode {
-    let written = outcome.and_then(|bytes| write_output(&bytes).map_err(one));
-    match written {
-        Ok(()) => ExitCode::SUCCESS,
+    match outcome.map(|bytes| write_output(&bytes)) {
+        Ok(Ok(())) => ExitCode::SUCCESS,
+        Ok(Err(problem)) => {
+            eprintln!("standard output: {problem}");
+            ExitCode::from(2)
+        }
         Err(problems) => {
             for problem in problems {
                 eprintln!("{problem}");
@@ -55,6 +61,11 @@ fn encode_input() -> Result<Vec<u8>, Vec<String>> {
 fn decode_input() -> Result<Vec<u8>, Vec<String>> {
     let text = table_text::decode(&read_input()?).map_err(one)?;
     Ok(text.into_bytes())
+}
+
+fn kind_of_input() -> Result<Vec<u8>, Vec<String>> {
+    let kind = table_text::kind(&read_input()?);
+    Ok(format!("{}\n", kind.name()).into_bytes())
 }
 
 fn counted(count: usize, done: &str) -> Vec<u8> {

@@ -62,6 +62,15 @@ fn faults_are_told_and_nothing_is_written() {
 }
 
 #[test]
+fn kinds() {
+    for (input, word) in [(SOURCE.as_bytes(), "text"), (&TABLE, "other")] {
+        let output = run(&["kind"], input);
+        let said = String::from_utf8(output.stdout.clone()).unwrap();
+        assert_eq!((status(&output), said), (Some(0), format!("{word}\n")));
+    }
+}
+
+#[test]
 fn wrong_use() {
     for words in [&[][..], &["encode", "file"], &["build"], &["something"]] {
         let output = run(words, b"");

@@ -63,7 +63,7 @@ fn all_vectors() {
             count += 1;
         }
     }
-    assert_eq!(count, 89);
+    assert_eq!(count, 90);
 }
 
 /// An entry of component 1, the hub, with its counter at 7.

@@ -61,6 +61,7 @@ fn all_vectors() {
         "vectors/random.tsv",
         "vectors/chart.tsv",
         "vectors/bands.tsv",
+        "vectors/hearings.tsv",
         "vectors/plan.tsv",
     ] {
         for line in text(file).lines() {

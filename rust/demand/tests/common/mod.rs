@@ -41,7 +41,7 @@ pub struct Stored {
 pub fn stored() -> Vec<Stored> {
     let folder = Path::new(env!("CARGO_MANIFEST_DIR")).join("../../vectors");
     let mut runs = Vec::new();
-    for file in ["named.tsv", "random.tsv", "bands.tsv"] {
+    for file in ["named.tsv", "random.tsv", "bands.tsv", "hearings.tsv"] {
         let path = folder.join(file);
         let text = std::fs::read_to_string(&path)
             .unwrap_or_else(|error| panic!("{}: {error}", path.display()));

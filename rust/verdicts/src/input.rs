@@ -1,0 +1,92 @@
+//! A table from a file: its bytes, or those of its text.
+
+use crate::{REFUSED, WRONG};
+use std::ffi::OsStr;
+use std::fs::File;
+use std::io::{self, Read};
+use std::path::Path;
+use table_text::Kind;
+use timed_network::Verdict;
+
+/// The most bytes of a table and of a text.
+const TABLE: usize = 8192;
+const TEXT: usize = 10_000_000;
+
+/// Why there is no verdict on a file.
+#[derive(Debug, PartialEq, Eq)]
+pub struct Problem {
+    pub words: String,
+    pub status: u8,
+}
+
+/// A problem that is the file's.
+fn wrong(words: impl Into<String>) -> Problem {
+    Problem {
+        words: words.into(),
+        status: WRONG,
+    }
+}
+
+fn too_long(most: usize, what: &str) -> Problem {
+    wrong(format!(
+        "longer than {most} bytes, the most that {what} has"
+    ))
+}
+
+/// The table of a file, `-` for standard input.
+pub fn table_of(file: &OsStr) -> Result<Vec<u8>, Problem> {
+    let bytes = read(file)?;
+    let table = match table_text::kind(&bytes) {
+        Kind::Text => encoded(&bytes)?,
+        _ if bytes.is_empty() => return Err(wrong("is empty")),
+        _ => bytes,
+    };
+    match table.len() {
+        0..=TABLE => Ok(table),
+        _ => Err(too_long(TABLE, "a table")),
+    }
+}
+
+fn read(file: &OsStr) -> Result<Vec<u8>, Problem> {
+    let unreadable = |_| wrong("cannot be read");
+    if file == "-" {
+        return taken(io::stdin().lock()).map_err(unreadable);
+    }
+    let path = Path::new(file);
+    if !path.exists() {
+        Err(wrong("no such file"))
+    } else if path.is_dir() {
+        Err(wrong("is a folder"))
+    } else {
+        File::open(path).and_then(taken).map_err(unreadable)
+    }
+}
+
+/// The bytes, one more than a text may have at most, so that more are seen.
+fn taken(source: impl Read) -> io::Result<Vec<u8>> {
+    let mut bytes = Vec::new();
+    source.take(TEXT as u64 + 1).read_to_end(&mut bytes)?;
+    Ok(bytes)
+}
+
+fn encoded(text: &[u8]) -> Result<Vec<u8>, Problem> {
+    if text.len() > TEXT {
+        return Err(too_long(TEXT, "a text"));
+    }
+    table_text::encode_file(text).map_err(|fault| Problem {
+        words: fault.to_string(),
+        status: REFUSED,
+    })
+}
+
+/// What refused bytes are, if they are no table: asked after 1 to 4 alone.
+pub fn another_kind(table: &[u8], verdict: Verdict) -> Option<Problem> {
+    let Verdict::Refused { number: 1..=4, .. } = verdict else {
+        return None;
+    };
+    match table_text::kind(table) {
+        Kind::Program => Some(wrong("this is a program, not a table")),
+        Kind::Part => Some(wrong("this is a node's part, not a table")),
+        _ => None,
+    }
+}
