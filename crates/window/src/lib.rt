@@ -75,23 +75,23 @@ pub enum Opening {
     Fails(u8),
 }
 
-// What is left of a after b, or 0.
-fn left_of(a: u32, b: u32) -> u32
-    ensures { λ r. ⌜ r ≡ a - b ⌝ }
+// What is left of a clock bound, in ticks from that clock on, or 0.
+fn left_of(bound: u32, clock: u32) -> u32
+    ensures { λ r. ⌜ r ≡ bound - clock ⌝ }
 {
-    if b < a { a - b } else { 0 }
+    if clock < bound { bound - clock } else { 0 }
 }
 
-fn greater(a: u32, b: u32) -> u32
-    ensures { λ r. ⌜ r ≡ max a b ⌝ }
+fn greater(first: u32, second: u32) -> u32
+    ensures { λ r. ⌜ r ≡ max first second ⌝ }
 {
-    if a < b { b } else { a }
+    if first < second { second } else { first }
 }
 
-fn lesser(a: u32, b: u32) -> u32
-    ensures { λ r. ⌜ r ≡ min a b ⌝ }
+fn lesser(first: u32, second: u32) -> u32
+    ensures { λ r. ⌜ r ≡ min first second ⌝ }
 {
-    if a < b { a } else { b }
+    if first < second { first } else { second }
 }
 
 // One clock bound narrows a window.
