@@ -18,11 +18,13 @@ _Static_assert(sizeof(EdgeChoiceNumbers) == 16 && offsetof(EdgeChoiceNumbers, ed
                "edge choice");
 _Static_assert(sizeof(MeetingsNumbers) == 8 && offsetof(MeetingsNumbers, size) == 4,
                "meetings");
+_Static_assert(sizeof(SpreadNumbers) == 8 && offsetof(SpreadNumbers, spread) == 4, "spread");
 
-const char *const call_names[CALLS] = {"check",        "schedule",  "timing_chart", "plan",
-                                       "edge_choice",  "translate", "part",         "run",
-                                       "passages",     "meetings",  "start",        "step",
-                                       "take_message"};
+const char *const call_names[CALLS] = {
+    "check",     "schedule", "timing_chart",   "plan",            "edge_choice",
+    "translate", "part",     "run",            "check_spread",    "run_apart",
+    "passages",  "meetings", "largest_spread", "meetings_spread", "start",
+    "step",      "take_message"};
 unsigned long made[CALLS];
 uint32_t list[MAX_LIST];
 uint8_t chart[MAX_CHART];
@@ -30,12 +32,11 @@ uint8_t plan[MAX_PLAN];
 uint8_t program[MAX_PROGRAM];
 uint8_t observations[MAX_OBSERVATIONS];
 Passage passages[MAX_PASSAGES];
-uint32_t met[MAX_MET];
 
 static struct place table_place, choices_place, bytes_place, part_place;
 static struct place list_place, chart_place, plan_place, program_place;
 static struct place observations_place;
-static struct place passages_place, met_place, node_place;
+static struct place passages_place, node_place;
 
 void calls_start(void) {
     table_place = place_new(MAX_TABLE);
@@ -48,15 +49,12 @@ void calls_start(void) {
     program_place = place_new(MAX_PROGRAM);
     observations_place = place_new(MAX_OBSERVATIONS);
     passages_place = place_new(sizeof passages);
-    met_place = place_new(sizeof met);
     node_place = place_new(sizeof(NodeRegisters));
+    meetings_start();
+    apart_start();
 }
 
-/*
- * What holds for every verdict: 0 to `most`, the last number of the call, or,
- * where 11 is among them, 15 to 17, which stand in its place.
- */
-static void try_verdict(uint8_t number, uint8_t component, uint8_t most) {
+void try_verdict(uint8_t number, uint8_t component, uint8_t most) {
     int unheard = number >= 15 && number <= 17 && most >= 11;
     if (number > most && !unheard)
         fail("there is no such refusal");
@@ -184,6 +182,17 @@ PartNumbers guarded_part(enum where where, struct bytes bytes, uint8_t node) {
     return answer;
 }
 
+void try_run(RunNumbers answer, struct bytes choices) {
+    if (answer.end > 3 || (answer.end == 2 ? answer.node >= 8 : answer.node != 255))
+        fail("there is no such end");
+    if (answer.used > choices.length || answer.tick > answer.used)
+        fail("more choices or ticks than were handed in");
+    if (answer.size > MAX_PASSAGES)
+        fail("more observations than passages");
+    if (answer.number != 0 && (answer.end | answer.tick | answer.used | answer.size))
+        fail("a refused run has numbers");
+}
+
 RunNumbers guarded_run(enum where where, struct bytes table,
                        struct bytes choices, size_t lent) {
     const uint8_t *in = place_input(&table_place, where, table.at, table.length);
@@ -194,14 +203,7 @@ RunNumbers guarded_run(enum where where, struct bytes table,
                                           choices.length, out, lent);
     made[RUN]++;
     try_verdict(answer.number, answer.component, 14);
-    if (answer.end > 3 || (answer.end == 2 ? answer.node >= 8 : answer.node != 255))
-        fail("there is no such end");
-    if (answer.used > choices.length || answer.tick > answer.used)
-        fail("more choices or ticks than were handed in");
-    if (answer.size > MAX_PASSAGES)
-        fail("more observations than passages");
-    if (answer.number != 0 && (answer.end | answer.tick | answer.used | answer.size))
-        fail("a refused run has numbers");
+    try_run(answer, choices);
     place_input_done(&table_place, table.at);
     place_input_done(&choices_place, choices.at);
     place_output_done(&observations_place, (size_t)answer.size * OBSERVATION,
@@ -235,77 +237,6 @@ CallNumbers guarded_passages(enum where where, struct bytes table, size_t lent) 
     for (size_t i = 0; i < answer.size; i++)
         if (!same_passage(&passages[i], &list[FIELDS * i]))
             fail("another passage than that of the schedule");
-    return answer;
-}
-
-/* Two windows, as rows of the schedule, share a tick. */
-static int share_tick(const uint32_t *row, const uint32_t *other) {
-    return row[4] <= other[5] && other[4] <= row[5];
-}
-
-/* Whether so many passages are listed as the refusal takes. */
-static int met_size_fits(uint8_t refusal, size_t size) {
-    switch (refusal) {
-    case 10:
-        return size >= 2;
-    case 11:
-        return size == 1;
-    case 12:
-    case 15:
-        return size >= 3;
-    default:
-        return size == 2;
-    }
-}
-
-/* 16: the listener does not start earlier; 17: it does, and does not end later. */
-static void try_listener(uint8_t refusal, const uint32_t *send, const uint32_t *receive) {
-    if (refusal == 16 && receive[4] < send[4])
-        fail("the listener starts earlier");
-    if (refusal == 17 && (receive[4] >= send[4] || receive[5] > send[5]))
-        fail("the listener starts late, or ends later");
-}
-
-/*
- * What is listed after refusal 10 to 12 or 15 to 17: the passage at fault, of
- * the component concerned, then passages of others that share a tick with it,
- * in the order of the schedule; as many as the refusal takes.
- */
-static void try_met(uint8_t refusal, uint8_t concerned, size_t size) {
-    if (!met_size_fits(refusal, size) || met[0] != concerned)
-        fail("not the passage at fault, or another count of those that it meets");
-    if (refusal >= 16)
-        try_listener(refusal, met, &met[FIELDS]);
-    for (size_t i = 1; i < size; i++) {
-        const uint32_t *row = &met[FIELDS * i];
-        if (row[0] == concerned || row[0] >= 8 || !share_tick(met, row))
-            fail("a passage is listed that does not meet the one at fault");
-        if (i > 1 && row[3] < row[3 - FIELDS])
-            fail("the passages that meet are not in their order");
-    }
-}
-
-/* The verdict is held to that of the check. */
-MeetingsNumbers guarded_meetings(enum where where, struct bytes table, size_t lent) {
-    const uint8_t *in = place_input(&table_place, where, table.at, table.length);
-    uint8_t *out = place_output(&met_place, where, lent * sizeof met[0]);
-    MeetingsNumbers answer =
-        timed_network_meetings(in, table.length, (uint32_t *)(void *)out, lent);
-    made[MEETINGS]++;
-    place_input_done(&table_place, table.at);
-    place_output_done(&met_place, (size_t)answer.size * FIELDS * sizeof met[0],
-                      (uint8_t *)met);
-    VerdictNumbers verdict = guarded_check(where, table);
-    if (answer.refusal != verdict.number || answer.concerned != verdict.component)
-        fail("another verdict than that of the check");
-    if ((answer.number != 0 && answer.number != 13) || answer.component != 255)
-        fail("there is no such answer");
-    int met_some = (answer.refusal >= 10 && answer.refusal <= 12) ||
-                   (answer.refusal >= 15 && answer.refusal <= 17);
-    if (answer.number == 13 ? answer.size != 0 || !met_some : !met_some && answer.size != 0)
-        fail("the size cannot be");
-    if (met_some && answer.number == 0)
-        try_met(answer.refusal, answer.concerned, answer.size);
     return answer;
 }
 

@@ -19,7 +19,9 @@ enum {
     MAX_PART = 65535,
     OBSERVATION = 32,
     MAX_OBSERVATIONS = OBSERVATION * MAX_PASSAGES,
-    MAX_CHOICES = 1000000
+    MAX_CHOICES = 1000000,
+    MAX_SPREAD = 1000,
+    MAX_OFFSETS = 64
 };
 
 struct bytes {
@@ -27,12 +29,19 @@ struct bytes {
     size_t length;
 };
 
+/* How nodes wake: the bound on their offsets, and so many of these. */
+struct waking {
+    uint32_t spread;
+    uint32_t offsets[MAX_OFFSETS];
+    size_t count;
+};
+
 /* What a plan is made from: probes, slot, guard, period. */
 struct slots {
     uint32_t probes, slot, guard, period;
 };
 
-/* The exported calls. */
+/* The exported calls; vectors ask for those up to RUN_APART. */
 enum call {
     CHECK,
     SCHEDULE,
@@ -42,8 +51,12 @@ enum call {
     TRANSLATE,
     PART,
     RUN,
+    CHECK_SPREAD,
+    RUN_APART,
     PASSAGES,
     MEETINGS,
+    LARGEST_SPREAD,
+    MEETINGS_SPREAD,
     START,
     STEP,
     TAKE_MESSAGE,
@@ -64,6 +77,17 @@ extern Passage passages[MAX_PASSAGES];
 extern uint32_t met[MAX_MET];
 
 void calls_start(void);
+void meetings_start(void);
+void apart_start(void);
+
+/*
+ * What holds for every verdict: 0 to `most`, the last number of the call, or,
+ * where 11 is among them, 15 to 17, which stand in its place.
+ */
+void try_verdict(uint8_t number, uint8_t component, uint8_t most);
+
+/* What holds for every run. */
+void try_run(RunNumbers answer, struct bytes choices);
 
 /* Each call, its buffers at the place named, as long as said. */
 VerdictNumbers guarded_check(enum where where, struct bytes table);
@@ -78,6 +102,12 @@ RunNumbers guarded_run(enum where where, struct bytes table,
                        struct bytes choices, size_t lent);
 CallNumbers guarded_passages(enum where where, struct bytes table, size_t lent);
 MeetingsNumbers guarded_meetings(enum where where, struct bytes table, size_t lent);
+MeetingsNumbers guarded_meetings_spread(enum where where, struct bytes table,
+                                        uint32_t spread, size_t lent);
+VerdictNumbers guarded_check_spread(enum where where, struct bytes table, uint32_t spread);
+SpreadNumbers guarded_largest_spread(enum where where, struct bytes table);
+RunNumbers guarded_run_apart(enum where where, struct bytes table, struct bytes choices,
+                             const struct waking *waking, size_t lent);
 NodeRegisters guarded_start(enum where where, struct bytes part);
 void guarded_step(enum where where, NodeRegisters *node, struct bytes part,
                   uint8_t clocks, uint8_t variables);

@@ -61,6 +61,22 @@ size_t random_choices(struct bytes table, size_t from, size_t more) {
     return from + more;
 }
 
+struct waking random_waking(struct bytes table) {
+    static const uint32_t spreads[] = {0, 0, 1, 1, 2, 3, 7, 40, MAX_SPREAD, MAX_SPREAD + 1};
+    size_t nodes = table.length > 3 ? table.at[3] % 9u : 0;
+    struct waking waking;
+    memset(&waking, 0, sizeof waking);
+    waking.spread = spreads[random_below(sizeof spreads / sizeof spreads[0])];
+    if (random_below(50) == 0)
+        waking.spread = (uint32_t)random_number();
+    waking.count = random_below(4) ? nodes : random_below(MAX_OFFSETS + 1);
+    for (size_t i = 0; i < waking.count; i++)
+        waking.offsets[i] = (uint32_t)(random_below(40) == 0
+                                           ? waking.spread + 1 + random_below(2)
+                                           : random_below((size_t)waking.spread + 1));
+    return waking;
+}
+
 struct bytes random_program(size_t length) {
     if (length > 0)
         memcpy(program_bytes, program, length);

@@ -1,4 +1,4 @@
-/* Random tables, choices and programs, most of them close to good ones. */
+/* Random tables, choices, offsets and programs, most of them close to good ones. */
 #ifndef INPUTS_H
 #define INPUTS_H
 
@@ -25,6 +25,12 @@ struct bytes random_table(void);
  * first `from` of choices_bytes. How many there are now.
  */
 size_t random_choices(struct bytes table, size_t from, size_t more);
+
+/*
+ * A spread and offsets for the nodes of a table, most of them small; sometimes
+ * one that is too large, and fewer or more offsets than there are nodes.
+ */
+struct waking random_waking(struct bytes table);
 
 /*
  * The first `length` bytes of `program` with one byte changed and some cut

@@ -6,8 +6,9 @@
  *
  * First the cases of vectors/ and corpus/ with their answers, each run also
  * with its nodes driven one at a time; then lent memory of every length about
- * the one needed, plans of all counts of probes among them; then tables cut at every length; then random rounds from the
- * seed. Ends at the first fault, with status 1.
+ * the one needed, plans of all counts of probes among them; then tables cut at
+ * every length; then random rounds from the seed. Ends at the first fault, with
+ * status 1.
  */
 #include <stdio.h>
 #include <stdlib.h>
@@ -28,6 +29,9 @@ static void same(int condition, const char *what) {
         fail(what);
 }
 
+/* All nodes wake at tick 0. */
+static const struct waking together;
+
 /* The calls that write, with as much lent as they need plus `more`. */
 static void lend(enum where where, struct bytes table, struct bytes choices, long more) {
     size_t rows = guarded_schedule(where, table, MAX_LIST).size;
@@ -46,6 +50,9 @@ static void lend(enum where where, struct bytes table, struct bytes choices, lon
          "program bytes are refused or taken wrongly");
     same(guarded_run(where, table, choices, lent[2]).number == (lent[2] < needed[2] ? 13 : 0),
          "observations are refused or taken wrongly");
+    same(guarded_run_apart(where, table, choices, &together, lent[2]).number ==
+             (lent[2] < needed[2] ? 13 : 0),
+         "observations of nodes that wake apart are refused or taken wrongly");
     same(guarded_passages(where, table, lent[3]).number == (lent[3] < needed[3] ? 13 : 0),
          "a list of passages is refused or taken wrongly");
     same(guarded_timing_chart(where, table, lent[4]).number ==
@@ -88,6 +95,30 @@ static void lend_for_meetings(enum where where, struct bytes table, long more) {
     size_t lent = sum < 0 ? 0 : (size_t)sum > MAX_MET ? MAX_MET : (size_t)sum;
     same(guarded_meetings(where, table, lent).number == (lent < needed ? 13 : 0),
          "a list for meetings is refused or taken wrongly");
+}
+
+/* The same at a spread. */
+static void lend_at_spread(enum where where, struct bytes table, uint32_t spread, long more) {
+    size_t needed = FIELDS * guarded_meetings_spread(where, table, spread, MAX_MET).size;
+    long sum = (long)needed + more;
+    size_t lent = sum < 0 ? 0 : (size_t)sum > MAX_MET ? MAX_MET : (size_t)sum;
+    same(guarded_meetings_spread(where, table, spread, lent).number ==
+             (lent < needed ? 13 : 0),
+         "a list for meetings at a spread is refused or taken wrongly");
+}
+
+static void lent_at_spreads(void) {
+    for (size_t i = 0; i < case_count; i++) {
+        if (cases[i].request != CHECK_SPREAD)
+            continue;
+        trying("lent lengths at a spread", cases[i].name);
+        for (long more = -22; more <= 2; more += more < -2 ? 4 : 1)
+            for (int where = 0; where < PLACES; where++)
+                lend_at_spread((enum where)where, cases[i].table, cases[i].waking.spread,
+                               more);
+        for (int where = 0; where < PLACES; where++)
+            guarded_largest_spread((enum where)where, cases[i].table);
+    }
 }
 
 static void lent_for_meetings(void) {
@@ -149,6 +180,26 @@ static void any_entry(enum where where, struct bytes table, uint8_t refusal) {
     same(answer.number == (refusal <= 6 ? refusal : 0), "another refusal than that of the check");
 }
 
+/* The calls for nodes that wake apart; without a spread and offsets the run. */
+static void apart_calls(enum where where, struct bytes table, struct bytes choices,
+                        size_t lent) {
+    static uint8_t shown[MAX_OBSERVATIONS];
+    struct waking waking = random_waking(table);
+    guarded_check_spread(where, table, waking.spread);
+    guarded_meetings_spread(where, table, waking.spread, lent);
+    guarded_run_apart(where, table, choices, &waking, lent);
+    if (random_below(8) == 0)
+        guarded_largest_spread(where, table);
+    if (random_below(4) == 0) {
+        RunNumbers ran = guarded_run(where, table, choices, lent);
+        size_t size = (size_t)ran.size * OBSERVATION;
+        memcpy(shown, observations, size);
+        RunNumbers apart = guarded_run_apart(where, table, choices, &together, lent);
+        same(memcmp(&ran, &apart, sizeof ran) == 0 && memcmp(shown, observations, size) == 0,
+             "another run together than without a spread");
+    }
+}
+
 static void all_calls(enum where where, struct bytes table, struct bytes choices,
                       size_t lent) {
     VerdictNumbers verdict = guarded_check(where, table);
@@ -158,6 +209,7 @@ static void all_calls(enum where where, struct bytes table, struct bytes choices
     guarded_passages(where, table, lent / FIELDS);
     CallNumbers charted = guarded_timing_chart(where, table, lent);
     guarded_meetings(where, table, lent);
+    apart_calls(where, table, choices, lent);
     any_entry(where, table, verdict.number);
     if (verdict.number != 0) {
         same(planned.number == verdict.number && translated.number == verdict.number &&
@@ -216,6 +268,13 @@ static void many_choices(void) {
         RunNumbers refused = guarded_run((enum where)where, table,
                                          of(choices_bytes, MAX_CHOICES + 1), 256);
         same(refused.number == 14, "a million choices and one");
+        struct waking above = {0, {1}, 1};
+        refused = guarded_run_apart((enum where)where, table,
+                                    of(choices_bytes, MAX_CHOICES), &above, 256);
+        same(refused.number == 20, "a million choices and an offset");
+        refused = guarded_run_apart((enum where)where, table,
+                                    of(choices_bytes, MAX_CHOICES + 1), &above, 256);
+        same(refused.number == 14, "a million choices and one, and an offset");
     }
 }
 
@@ -276,6 +335,7 @@ int main(int count, char **words) {
     single_nodes();
     lent_lengths();
     lent_for_meetings();
+    lent_at_spreads();
     lent_for_plans();
     cuts();
     cut_programs();

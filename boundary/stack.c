@@ -37,6 +37,7 @@ static CallNumbers called;
 static PartNumbers placed;
 static RunNumbers ran;
 static MeetingsNumbers meetings;
+static SpreadNumbers largest;
 static EdgeChoiceNumbers edge_choice;
 
 /* What is lent to a call. For a node's calls `bytes` is its part. */
@@ -44,7 +45,16 @@ struct lent {
     struct bytes bytes, choices;
     uint8_t number;
     struct slots slots;
+    struct waking waking;
 };
+
+/* Apart from the others, whose frame would else hold what is passed in memory. */
+__attribute__((noinline)) static void call_run_apart(const struct lent *lent) {
+    const struct waking *waking = &lent->waking;
+    ran = timed_network_run_apart(lent->bytes.at, lent->bytes.length, lent->choices.at,
+                                  lent->choices.length, waking->spread, waking->offsets,
+                                  waking->count, observations, MAX_OBSERVATIONS);
+}
 
 /* Apart from the others, whose frame would else hold the entry that is passed. */
 __attribute__((noinline)) static void call_edge_choice(const uint8_t *bytes, size_t length) {
@@ -82,11 +92,24 @@ static void call(int request, const struct lent *lent) {
         ran = timed_network_run(bytes, length, lent->choices.at, lent->choices.length,
                                 observations, MAX_OBSERVATIONS);
         break;
+    case CHECK_SPREAD:
+        verdict = timed_network_check_spread(bytes, length, lent->waking.spread);
+        break;
+    case RUN_APART:
+        call_run_apart(lent);
+        break;
     case PASSAGES:
         called = timed_network_passages(bytes, length, passages, MAX_PASSAGES);
         break;
     case MEETINGS:
         meetings = timed_network_meetings(bytes, length, met, MAX_MET);
+        break;
+    case LARGEST_SPREAD:
+        largest = timed_network_largest_spread(bytes, length);
+        break;
+    case MEETINGS_SPREAD:
+        meetings = timed_network_meetings_spread(bytes, length, lent->waking.spread, met,
+                                                 MAX_MET);
         break;
     case START:
         node = timed_network_start(bytes, length);
@@ -149,7 +172,10 @@ static void each_part(int request, measure *measure, const struct stored *stored
                                                   program, MAX_PROGRAM);
     for (uint8_t c = 0; made_of.number == 0 && c < 8; c++) {
         PartNumbers part = timed_network_part(program, made_of.size, c);
-        struct lent lent = {{program + part.start, part.length}, {NULL, 0}, 0, {0, 0, 0, 0}};
+        struct lent lent;
+        memset(&lent, 0, sizeof lent);
+        lent.bytes.at = program + part.start;
+        lent.bytes.length = part.length;
         if (part.length > 0)
             each_statement(request, measure, &lent);
     }
@@ -158,7 +184,8 @@ static void each_part(int request, measure *measure, const struct stored *stored
 static void each_case(int request, measure *measure) {
     for (size_t i = 0; i < case_count; i++) {
         const struct stored *stored = &cases[i];
-        struct lent lent = {stored->table, stored->choices, stored->node, stored->slots};
+        struct lent lent = {stored->table, stored->choices, stored->node, stored->slots,
+                            stored->waking};
         if (request < START)
             note(request, measure(request, &lent));
         else if (stored->request == TRANSLATE)
@@ -167,7 +194,9 @@ static void each_case(int request, measure *measure) {
 }
 
 static void *measured(void *nothing) {
-    struct lent lent = {cases[0].table, cases[0].choices, 0, {0, 0, 0, 0}};
+    struct lent lent;
+    memset(&lent, 0, sizeof lent);
+    lent.bytes = cases[0].table;
     call(RUN, &lent); /* memcpy and memset are found now, not below */
     for (int request = 0; request < CALLS; request++)
         each_case(request, depth);

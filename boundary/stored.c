@@ -78,34 +78,86 @@ static void read_slots(struct stored *stored, const char *words) {
     stored->lent = lent;
 }
 
+/* A spread, then, unless there are none, the offsets with commas between them. */
+static void read_waking(struct waking *waking, char *words) {
+    waking->spread = (uint32_t)strtoul(words, &words, 10);
+    while (*words != 0) {
+        if ((*words != ' ' && *words != ',') || waking->count == MAX_OFFSETS)
+            fail("offsets are not understood");
+        waking->offsets[waking->count++] = (uint32_t)strtoul(words + 1, &words, 10);
+    }
+}
+
+/*
+ * The request of a word. A check and a run that say a spread, behind the table
+ * and behind the choices, are those at a spread.
+ */
+static size_t request_of(const char *word, const char *words) {
+    static const char *const all[] = {"check",  "schedule", "chart", "plan",
+                                      "looked", "program",  "part",  "run"};
+    size_t request = 0;
+    while (request <= RUN && strcmp(all[request], word) != 0)
+        request++;
+    if (request > RUN)
+        fail("a request is not understood");
+    const char *second = strchr(words, ' ');
+    if (request == CHECK && second != NULL)
+        return CHECK_SPREAD;
+    if (request == RUN && second != NULL && strchr(second + 1, ' ') != NULL)
+        return RUN_APART;
+    return request;
+}
+
+/* What stands behind the word of a request. */
+static void read_words(struct stored *stored, char *table) {
+    size_t request = stored->request;
+    if (request == PLAN) {
+        read_slots(stored, table);
+        return;
+    }
+    char *more = strchr(table, ' ') != NULL ? cut(table, ' ') : NULL;
+    stored->table = from_hex(table);
+    if (request == RUN_APART)
+        read_waking(&stored->waking, cut(more, ' '));
+    if (request == RUN || request == RUN_APART)
+        stored->choices = from_hex(more);
+    else if (request == CHECK_SPREAD)
+        read_waking(&stored->waking, more);
+    else if (request == PART)
+        stored->node = (uint8_t)atoi(more);
+    else if (request == TIMING_CHART)
+        stored->lent = more != NULL ? (size_t)atoi(more) : MAX_CHART;
+}
+
 static void read_vectors(const char *root, const char *path) {
-    static const char *const words[] = {"check",  "schedule", "chart", "plan",
-                                        "looked", "program",  "part",  "run"};
     char *line = (char *)read_file(root, path).at;
     while (*line != 0) {
         char *next = cut(line, '\n');
         char *request = cut(line, '\t');
         char *answer = cut(request, '\t');
-        char *table = cut(request, ' ');
-        size_t word = 0;
-        while (word <= RUN && strcmp(words[word], request) != 0)
-            word++;
-        if (word > RUN)
-            fail("a request is not understood");
-        struct stored *stored = add(line, (enum call)word, answer);
-        if (word == PLAN) {
-            read_slots(stored, table);
-            line = next;
-            continue;
+        size_t lent = MAX_OBSERVATIONS;
+        if (strncmp(request, "lent ", 5) == 0) {
+            lent = strtoul(request + 5, &request, 10);
+            request++;
         }
-        int has_more = word >= PART || (word == TIMING_CHART && strchr(table, ' ') != NULL);
-        char *more = has_more ? cut(table, ' ') : NULL;
-        stored->table = from_hex(table);
-        if (word == RUN)
-            stored->choices = from_hex(more);
-        else if (word == PART)
-            stored->node = (uint8_t)atoi(more);
-        stored->lent = word == TIMING_CHART && has_more ? (size_t)atoi(more) : MAX_CHART;
+        char *words = cut(request, ' ');
+        struct stored *stored = add(line, (enum call)request_of(request, words), answer);
+        stored->lent = lent;
+        read_words(stored, words);
+        line = next;
+    }
+}
+
+/* The verdicts of a table of the corpus at spreads: a spread and a verdict a line. */
+static void read_spreads(const char *root, char *name, struct bytes table) {
+    char path[300];
+    snprintf(path, sizeof path, "corpus/%s.spread", name);
+    char *line = (char *)read_file(root, path).at;
+    while (*line != 0) {
+        char *next = cut(line, '\n');
+        struct stored *stored = add(name, CHECK_SPREAD, cut(line, ' '));
+        stored->table = table;
+        read_waking(&stored->waking, line);
         line = next;
     }
 }
@@ -120,6 +172,8 @@ static void read_corpus(const char *root) {
         snprintf(path, sizeof path, "corpus/%s.bin", line);
         struct bytes table = read_file(root, path);
         add(line, CHECK, answer)->table = table;
+        if (strncmp(line, "spread_", 7) == 0)
+            read_spreads(root, line, table);
         if (strcmp(answer, "accepted") == 0) {
             snprintf(path, sizeof path, "corpus/%s.schedule", line);
             struct bytes text = read_file(root, path);
@@ -140,6 +194,7 @@ void stored_read(const char *root) {
     read_vectors(root, "vectors/hearings.tsv");
     read_vectors(root, "vectors/plan.tsv");
     read_vectors(root, "vectors/edge_choice.tsv");
+    read_vectors(root, "vectors/apart.tsv");
     read_corpus(root);
 }
 
@@ -243,9 +298,7 @@ static void write_part(const struct stored *stored, enum where where) {
         write_text("-");
 }
 
-static void write_run(const struct stored *stored, enum where where) {
-    RunNumbers answer =
-        guarded_run(where, stored->table, stored->choices, MAX_OBSERVATIONS);
+static void write_ran(RunNumbers answer) {
     if (write_refusal(answer.number, answer.component))
         return;
     write_number("", answer.end);
@@ -258,10 +311,26 @@ static void write_run(const struct stored *stored, enum where where) {
     }
 }
 
+static void write_run(const struct stored *stored, enum where where) {
+    write_ran(guarded_run(where, stored->table, stored->choices, MAX_OBSERVATIONS));
+}
+
+static void write_check_spread(const struct stored *stored, enum where where) {
+    VerdictNumbers answer =
+        guarded_check_spread(where, stored->table, stored->waking.spread);
+    if (!write_refusal(answer.number, answer.component))
+        write_text("accepted");
+}
+
+static void write_run_apart(const struct stored *stored, enum where where) {
+    write_ran(guarded_run_apart(where, stored->table, stored->choices, &stored->waking,
+                                stored->lent));
+}
+
 void stored_try(const struct stored *stored, enum where where) {
     static void (*const writers[])(const struct stored *, enum where) = {
-        write_check,  write_schedule, write_chart, write_plan,
-        write_looked, write_program,  write_part,  write_run};
+        write_check,   write_schedule, write_chart, write_plan,         write_looked,
+        write_program, write_part,     write_run,   write_check_spread, write_run_apart};
     trying("a stored case", stored->name);
     used = 0;
     text[0] = 0;

@@ -6,11 +6,12 @@
 
 struct stored {
     char *name;
-    enum call request;    /* CHECK to RUN */
+    enum call request;    /* CHECK to RUN_APART */
     struct bytes table;   /* for PART the program */
-    size_t lent;          /* for TIMING_CHART and PLAN */
+    size_t lent;          /* for TIMING_CHART, PLAN and RUN_APART */
     struct slots slots;   /* for PLAN, which has no table */
-    struct bytes choices; /* for RUN */
+    struct bytes choices; /* for RUN and RUN_APART */
+    struct waking waking; /* for RUN_APART; for CHECK_SPREAD the spread */
     uint8_t node;         /* for PART */
     char *answer;
 };

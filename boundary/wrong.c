@@ -21,6 +21,13 @@ void __real_timed_network_take_message(NodeRegisters *, const uint8_t *, size_t,
 CallNumbers __real_timed_network_timing_chart(const uint8_t *, size_t, uint8_t *, size_t);
 CallNumbers __real_timed_network_plan(uint32_t, uint32_t, uint32_t, uint32_t, uint8_t *, size_t);
 EdgeChoiceNumbers __real_timed_network_edge_choice(const uint8_t *, size_t, EntryNumbers);
+VerdictNumbers __real_timed_network_check_spread(const uint8_t *, size_t, uint32_t);
+SpreadNumbers __real_timed_network_largest_spread(const uint8_t *, size_t);
+MeetingsNumbers __real_timed_network_meetings_spread(const uint8_t *, size_t, uint32_t,
+                                                     uint32_t *, size_t);
+RunNumbers __real_timed_network_run_apart(const uint8_t *, size_t, const uint8_t *, size_t,
+                                          uint32_t, const uint32_t *, size_t, uint8_t *,
+                                          size_t);
 
 VerdictNumbers __wrap_timed_network_check(const uint8_t *, size_t);
 CallNumbers __wrap_timed_network_schedule(const uint8_t *, size_t, uint32_t *, size_t);
@@ -36,6 +43,13 @@ void __wrap_timed_network_take_message(NodeRegisters *, const uint8_t *, size_t,
 CallNumbers __wrap_timed_network_timing_chart(const uint8_t *, size_t, uint8_t *, size_t);
 CallNumbers __wrap_timed_network_plan(uint32_t, uint32_t, uint32_t, uint32_t, uint8_t *, size_t);
 EdgeChoiceNumbers __wrap_timed_network_edge_choice(const uint8_t *, size_t, EntryNumbers);
+VerdictNumbers __wrap_timed_network_check_spread(const uint8_t *, size_t, uint32_t);
+SpreadNumbers __wrap_timed_network_largest_spread(const uint8_t *, size_t);
+MeetingsNumbers __wrap_timed_network_meetings_spread(const uint8_t *, size_t, uint32_t,
+                                                     uint32_t *, size_t);
+RunNumbers __wrap_timed_network_run_apart(const uint8_t *, size_t, const uint8_t *, size_t,
+                                          uint32_t, const uint32_t *, size_t, uint8_t *,
+                                          size_t);
 
 static int wrong(int fault) {
     static int chosen = -1;
@@ -237,5 +251,83 @@ EdgeChoiceNumbers __wrap_timed_network_edge_choice(const uint8_t *table, size_t 
         answer.looked -= 1; /* counts one too few where none is ready at once */
     if (wrong(53) && answer.taken && answer.ready == 0 && answer.looked < 32)
         answer.looked += 1; /* looks at one more */
+    return answer;
+}
+
+VerdictNumbers __wrap_timed_network_check_spread(const uint8_t *table, size_t length,
+                                                 uint32_t spread) {
+    if (wrong(54))
+        touch(table + length); /* reads the byte behind the table */
+    if (wrong(55) && spread == 1001)
+        spread = 1000; /* takes a spread of 1,001 */
+    if (wrong(56) && spread > 65535)
+        spread = (uint16_t)spread; /* cuts the spread to 16 bits */
+    VerdictNumbers answer = __real_timed_network_check_spread(table, length, spread);
+    if (wrong(57) && answer.number == 19)
+        answer.component = 0; /* names a component with refusal 19 */
+    if (wrong(58) && spread == 0 && answer.number == 16)
+        answer.number = 11; /* another verdict at spread 0 */
+    return answer;
+}
+
+SpreadNumbers __wrap_timed_network_largest_spread(const uint8_t *table, size_t length) {
+    SpreadNumbers answer = __real_timed_network_largest_spread(table, length);
+    if (wrong(59) && length > 0)
+        touch(table - 1); /* reads the byte before the table */
+    if (wrong(60) && answer.number == 0 && answer.spread > 0)
+        answer.spread -= 1; /* one tick too few */
+    if (wrong(61) && answer.number == 0)
+        answer.spread += 1; /* one tick too many */
+    if (wrong(62) && answer.number != 0)
+        answer.spread = 1; /* a spread of a refused table */
+    return answer;
+}
+
+MeetingsNumbers __wrap_timed_network_meetings_spread(const uint8_t *table, size_t length,
+                                                     uint32_t spread, uint32_t *list,
+                                                     size_t list_length) {
+    MeetingsNumbers answer =
+        __real_timed_network_meetings_spread(table, length, spread, list, list_length);
+    if (wrong(63) && list_length > 0)
+        list[list_length] = 1; /* writes the number behind the list */
+    if (wrong(64) && answer.number == 13 && list_length > 0)
+        list[0] = 0; /* writes where the list is too short */
+    if (wrong(65) && answer.refusal == 16 && answer.size > 1)
+        list[11] -= spread; /* lists a listener that starts earlier than it does */
+    if (wrong(66) && answer.refusal == 10 && answer.size > 1)
+        list[11] += 2000; /* lists a send that is not near */
+    if (wrong(67) && spread > 0 && answer.refusal != 19)
+        answer.refusal = 0; /* accepts the table at a spread */
+    return answer;
+}
+
+RunNumbers __wrap_timed_network_run_apart(const uint8_t *table, size_t length,
+                                          const uint8_t *choices, size_t choices_length,
+                                          uint32_t spread, const uint32_t *offsets,
+                                          size_t offsets_length, uint8_t *observations,
+                                          size_t observations_length) {
+    if (wrong(68))
+        touch((const uint8_t *)(offsets + offsets_length)); /* reads the offset behind the last */
+    if (wrong(69) && offsets_length > 0)
+        touch((const uint8_t *)offsets - 1); /* reads the byte before them */
+    if (wrong(70) && offsets_length > 0)
+        *(volatile uint32_t *)offsets = *offsets; /* writes to them, the same number */
+    if (wrong(71) && offsets_length > 8)
+        offsets_length = 0; /* takes more offsets than nodes for none */
+    if (wrong(72) && offsets_length == 0)
+        offsets_length = 1; /* reads an offset where there is none */
+    RunNumbers answer = __real_timed_network_run_apart(
+        table, length, choices, choices_length, spread, offsets, offsets_length, observations,
+        observations_length);
+    if (wrong(73) && answer.number == 20)
+        answer.number = 14; /* another refusal of an offset */
+    if (wrong(74) && answer.number == 20 && observations_length > 0)
+        observations[0] = 0; /* writes after that refusal */
+    if (wrong(75) && answer.number == 0)
+        observations[32 * answer.size] = 7; /* writes one observation more */
+    if (wrong(76) && answer.size > 0 && offsets_length > 0)
+        observations[7] += (uint8_t)offsets[0]; /* the common tick in an observation */
+    if (wrong(77) && answer.number == 19)
+        answer.tick = 1; /* a refused run with a tick */
     return answer;
 }

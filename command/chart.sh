@@ -24,12 +24,7 @@ do_chart() {
 
 print_chart() {
     need_program chart_printer
-    ask <"$scratch/table"
-    case $(first_line out) in
-        'C0: '*) show out ;;
-        'refused '*) refuse out ;;
-        *) fail ;;
-    esac
+    print_answer 'C0: '
 }
 
 # Draws the schedule. Of a refused table what met is drawn, and the refusal is told all the same.

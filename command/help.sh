@@ -5,7 +5,9 @@ general_help() {
     cat <<'TEXT'
 usage: vanillatarn COMMAND ...
 
-  verdict [--json|--quiet] TABLE...         whether each table is accepted; if not, why
+  verdict [--spread G] [--json|--quiet] TABLE...
+                                            whether each table is accepted; if not, why
+  spread TABLE                              how many ticks apart its nodes may wake
   schedule TABLE                            its schedule, a line a passage
   chart TABLE [--svg FILE]                  its schedule as a chart, a row a component
   plan --probes N --slot S --guard G --period P [-o FILE]
@@ -14,8 +16,10 @@ usage: vanillatarn COMMAND ...
   translate TABLE [-o FILE]                 the program of its nodes
   list PROGRAM                              a program, a statement a line
   part PROGRAM NODE [-o FILE]               the part of a program that belongs to one node
-  run TABLE CHOICES                         how a run ends, and what is observed
-  choices [--early|--late] TABLE [-o FILE]  choices that take a run to the horizon
+  run [--spread G] [--offsets A,B,..] TABLE CHOICES
+                                            how a run ends, and what is observed
+  choices [--early|--late] [--offsets A,B,..] TABLE [-o FILE]
+                                            choices that take a run to the horizon
   text TABLE                                a table as text
   table TEXTFILE [-o FILE]                  a text as a table
   install PREFIX                            the command and the library, in a folder
@@ -34,8 +38,8 @@ file of -o is left as it was.
 Exit status
   0  fine
   1  the answer is no: a table or a plan is refused, no edge is taken, a run ends
-     late or with a choice that is not allowed, a program is damaged or has no such
-     part, a text has a fault
+     late or with a choice that is not allowed, a spread or an offset is too large,
+     a program is damaged or has no such part, a text has a fault
   2  wrong use; a file that cannot be read or written, is empty or too long
   3  a tool is missing, could not be built or failed; standard output, standard
      error or the scratch folder cannot be written
@@ -50,7 +54,7 @@ TEXT
 command_help() {
     case $1 in
         verdict) cat <<'TEXT' ;;
-usage: vanillatarn verdict [--json|--quiet] TABLE...
+usage: vanillatarn verdict [--spread G] [--json|--quiet] TABLE...
 
 Says whether the table is accepted. If it is not: `refused`, the number of the
 check, the component; the question in words; after 10 to 12 and 15 to 17 also
@@ -59,11 +63,26 @@ docs/REFUSALS.md lists the numbers. Of several tables each answer stands behind
 the file's name; a file that cannot be judged is told on standard error, and the
 others are judged all the same.
 
---json:  an object a line and file (docs/FORMATS.md)
---quiet: the exit status alone
+--spread G: whether it is accepted where the nodes may wake up to G ticks apart
+            (at most 1,000, else 19); without it they wake together, G = 0. After
+            10 to 12 and 15 to 17 it is told by how many ticks windows are too
+            close, or start too late, or end too soon. vanillatarn spread finds
+            the largest G.
+--json:     an object a line and file (docs/FORMATS.md)
+--quiet:    the exit status alone
 
 Exit status: 0 accepted, 1 refused, or a text has a fault; the worst of all
 files.
+TEXT
+        spread) cat <<'TEXT' ;;
+usage: vanillatarn spread TABLE
+
+Prints the largest spread at which the table is accepted, 0 to 1,000: its nodes
+may wake up to so many ticks apart. At every smaller spread it is accepted too,
+at no larger one: that is proved. vanillatarn verdict --spread tells what is too
+close at the next one.
+
+Exit status: 0 printed, 1 the table is refused also where all nodes wake together.
 TEXT
         schedule) cat <<'TEXT' ;;
 usage: vanillatarn schedule TABLE
@@ -100,7 +119,8 @@ G ticks longer on both sides (1 to 1,000). The slots with their guards have to
 fit: N x (S + 2 x G) must be below P. The probes are components 0 upward, the
 hub is the last one, and the horizon is two periods.
 
-Every table written is accepted: that is proved.
+Every table written is accepted, and that at every spread below G, so also where
+the nodes wake up to G - 1 ticks apart: that is proved.
 
 Exit status: 0 written, 1 refused: a number is outside its range, or the slots do
 not fit the period.
@@ -144,22 +164,33 @@ bytes: what is loaded on that node.
 Exit status: 0 written, 1 the program has no part for this node, or an empty one.
 TEXT
         run) cat <<'TEXT' ;;
-usage: vanillatarn run TABLE CHOICES
+usage: vanillatarn run [--spread G] [--offsets A,B,..] TABLE CHOICES
 
 Runs the programs of the table's nodes together under a list of choices, a byte
 each (0 to 7: that node finishes its statement; 255: a tick passes). Prints how
 the run ended, the tick, the choices used, and each observation.
 
+--offsets: the ticks at which nodes 0, 1 and so on wake, with commas between
+           them; those left out are 0. Until its tick a node's clock stands at 0
+           and it may not be chosen. An observation has the tick of its node's
+           own clock; the tick at the end is the common one.
+--spread:  the largest offset that there may be (at most 1,000, else 19); without
+           it 0. The table has to be accepted at this spread. An offset above it
+           is refused with 20.
+
 Exit status: 0 at the horizon, or with all choices used up; 1 late, or with a
-choice that is not allowed, or the table is refused, or there are more than
-1,000,000 choices. The first line tells which.
+choice that is not allowed, or the table, the spread or an offset is refused, or
+there are more than 1,000,000 choices. The first line tells which.
 TEXT
         choices) cat <<'TEXT' ;;
-usage: vanillatarn choices [--early|--late] TABLE [-o FILE]
+usage: vanillatarn choices [--early|--late] [--offsets A,B,..] TABLE [-o FILE]
 
 Writes a list of choices that takes a run of the table to its horizon. --early
 (the default): each node finishes everything as early as it can. --late: each
 node finishes everything as late as it may, its work at the end of the window.
+
+--offsets: the ticks at which the nodes wake, as for run. The table has to be
+           accepted at a spread of the largest one.
 
 Exit status: 0 written, 1 the table is refused.
 TEXT

@@ -42,7 +42,9 @@ not_another() {
     stop "$wrong" "$file: this is a $kind, not a $wanted"
 }
 
-# The same for a table whose refusal, the first line of a file of the scratch folder, is about its layout.
+# The same for a table whose refusal, the first line of a file of the scratch folder, is about its layout, or is 19, which hides a 4.
 name_kind() {
-    [[ $(first_line "$1") != 'refused '[1-4]' '* ]] || not_another "$table" table table program part
+    case $(first_line "$1") in
+        'refused '[1-4]' '* | 'refused 19 '*) not_another "$table" table table program part ;;
+    esac
 }

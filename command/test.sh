@@ -62,6 +62,7 @@ head -c 65536 /dev/zero >longer
 
 "$root/vanillatarn" table cellar.txt -o cellar.bin
 "$root/vanillatarn" verdict cellar.bin >out
+"$root/vanillatarn" spread cellar.bin >out
 "$root/vanillatarn" schedule cellar.bin >out
 "$root/vanillatarn" chart cellar.bin >out
 "$root/vanillatarn" plan --probes 1 --slot 1 --guard 1 --period 4 -o plan.bin
@@ -82,7 +83,7 @@ starts 'usage: vanillatarn COMMAND ...'
 cp out help
 call -h
 gives help
-for command in verdict schedule chart plan edge translate list part run choices text table install; do
+for command in verdict spread schedule chart plan edge translate list part run choices text table install; do
     call --help
     check "the help names $command" grep -q "^  $command " out
     call "$command" --help
@@ -111,58 +112,6 @@ for name in priority one_tick_cells empty_cells; do
     says 0
     gives "$corpus/accepted_chart_$name.chart"
 done
-call plan --probes 3 --slot 40 --guard 5 --period 500 -o plan.bin
-says 0
-gives empty
-check 'the plan is that of the corpus' cmp -s plan.bin "$corpus/accepted_plan_three_probes.bin"
-call plan --period 0500 --guard 5 --slot 40 --probes 3
-says 0
-gives plan.bin
-call verdict plan.bin
-says 0
-starts accepted
-
-# Which edge: its words, then the two lines. The hub's clock and variable, and those that it does not have.
-while IFS='|' read -r words taken looked; do
-    # shellcheck disable=SC2086 # several words
-    call edge cellar.bin $words
-    says 0
-    printf '%s\n' "$taken" "$looked" >expected
-    gives expected
-done <<'TEXT'
---component 0 --location 0|edge 0, from 3 to 5 ticks after the entry|looked at 2 edges
---component 1 --location 0|edge 0, from 2 to 6 ticks after the entry|looked at 3 edges
---component 1 --location 0 --clocks 2|edge 0, from 0 to 4 ticks after the entry|looked at 1 edge
---clocks 9,0,0,4294967295 --component 1 --location 1|edge 1, from 0 to 1 ticks after the entry|looked at 2 edges
---component 1 --variables -32768,32767 --location 2 --clocks 9|edge 2, from 0 to 1 ticks after the entry|looked at 3 edges
-TEXT
-call edge "$corpus/accepted_edge_ready_at_once_last_of_32.bin" --component 0 --location 0
-says 0
-starts 'edge 31, from 0 to 40 ticks after the entry'
-check 'all edges are looked at' grep -q -x 'looked at 32 edges' out
-call edge "$corpus/accepted_ready_at_once_without_window.bin" --component 0 --location 0
-starts 'edge 2, from 0 to 1 ticks after the entry'
-check 'an edge without a window does not stop it' grep -q -x 'looked at 3 edges' out
-call edge - --component 1 --location 0 --clocks 6 <cellar.bin
-says 1
-starts 'no edge is a candidate'
-check 'all edges are looked at' grep -q -x 'looked at 3 edges' out
-call edge cellar.bin --component 2 --location 0
-says 1
-starts 'there is no component 2'
-# A table that 8 refuses is answered, one that 2 refuses is not.
-sed 's/x0 from 3/x0 from 5/' cellar.txt >shut.txt
-call table shut.txt -o shut.bin
-call verdict shut.bin
-starts 'refused 8 0'
-call edge shut.bin --component 0 --location 0
-says 1
-starts 'no edge is a candidate'
-head -c 102 cellar.bin >cut.bin
-call edge cut.bin --component 0 --location 0
-says 1
-complains 'refused 2 255'
-
 call translate -o program.bin cellar.bin
 says 0
 check 'the program is the stored one' cmp -s program.bin "$root/crates/translate_table/stdout"
@@ -270,19 +219,6 @@ call translate - <incident.bin
 says 1
 complains 'refused 16 0'
 check 'no file is named' test -z "$(grep verdict err || true)"
-
-## Refused plans
-
-for words in '--probes 8 --slot 1 --guard 1 --period 100' '--probes 1 --slot 1 --guard 1 --period 3' '--probes 1 --slot 1 --guard 0 --period 100' \
-    '--probes 4294967297 --slot 1 --guard 1 --period 100' '--probes 18446744073709551617 --slot 1 --guard 1 --period 100'; do
-    printf kept >kept
-    # shellcheck disable=SC2086 # several words
-    call plan $words -o kept
-    says 1
-    complains 'refused 18 255'
-    check 'the question is told' grep -q 'The answer is no: Are the numbers in range and probes x (slot + 2 x guard) below the period?' err
-    check 'the file is as it was' test "$(cat kept)" = kept
-done
 
 ## Ends of runs
 
@@ -394,17 +330,23 @@ call_to() {
     fi
 }
 
-for to in full closed; do
-    for words in 'verdict cellar.bin' 'verdict incident.bin' 'schedule cellar.bin' 'chart cellar.bin' 'translate cellar.bin' 'list program.bin' \
-        'edge cellar.bin --component 0 --location 0' 'edge cellar.bin --component 2 --location 0' \
-        'part program.bin 0' 'choices cellar.bin' 'run cellar.bin early.bin' 'run cellar.bin ticks' 'text cellar.bin' 'table cellar.txt' \
-        --help 'run --help'; do
-        # shellcheck disable=SC2086 # several words
-        call_to "$to" $words
-        says 3
-        complains 'standard output cannot be written'
+# Calls, a word each, with such a standard output.
+unwritable() {
+    local to words
+    for to in full closed; do
+        for words in "$@"; do
+            # shellcheck disable=SC2086 # several words
+            call_to "$to" $words
+            says 3
+            complains 'standard output cannot be written'
+        done
     done
-done
+}
+
+unwritable 'verdict cellar.bin' 'verdict incident.bin' 'schedule cellar.bin' 'chart cellar.bin' 'translate cellar.bin' 'list program.bin' \
+    'edge cellar.bin --component 0 --location 0' 'edge cellar.bin --component 2 --location 0' \
+    'part program.bin 0' 'choices cellar.bin' 'run cellar.bin early.bin' 'run cellar.bin ticks' 'text cellar.bin' 'table cellar.txt' \
+    --help 'run --help'
 call translate cellar.bin -o /dev/full
 says 3
 complains '/dev/full: could not be written to its end'
@@ -440,12 +382,18 @@ says 3
 
 ## Wrong use
 
-while IFS='|' read -r words message; do
-    # shellcheck disable=SC2086 # several words
-    call $words
-    says 2
-    complains "$message"
-done <<'TEXT'
+# Calls with wrong words, each with what is said of it: a line a call.
+misuses() {
+    local words message
+    while IFS='|' read -r words message; do
+        # shellcheck disable=SC2086 # several words
+        call $words
+        says 2
+        complains "$message"
+    done
+}
+
+misuses <<'TEXT'
 |a command is missing (see: vanillatarn --help)
 brew|unknown command 'brew'
 verdict|a word is missing (see: vanillatarn verdict --help)
@@ -457,30 +405,9 @@ translate cellar.bin -o|-o lacks its file
 schedule cellar.bin -o file|'schedule' has no option -o
 chart cellar.bin -o file|'chart' has no option -o
 translate --late cellar.bin|'translate' has no option --late
-plan --probes 1 --slot 1 --guard 1|--period is missing
-plan --probes|--probes lacks its number
-plan --probes x --slot 1 --guard 1 --period 4|--probes 'x' is not a number
-plan --probes 1 --probes 2|--probes is given twice
-plan 1 1 1 4|one word too many: 1
-verdict --probes 1 cellar.bin|'verdict' has no option --probes
-verdict --component 0 cellar.bin|'verdict' has no option --component
-edge cellar.bin --location 0|--component is missing
-edge cellar.bin --component 0|--location is missing
-edge cellar.bin --component 0 --location|--location lacks its number
-edge cellar.bin --component 256 --location 0|--component: '256' is not a number from 0 to 255
-edge cellar.bin --component 01 --location 0|--component: '01' is not a number from 0 to 255
-edge cellar.bin --component 0,1 --location 0|--component: '0,1' is not one number
-edge cellar.bin --component 0 --location x|--location: 'x' is not a number from 0 to 255
-edge cellar.bin --component 0 --location 0 --clocks 4294967296|--clocks: '4294967296' is not a number from 0 to 4294967295
-edge cellar.bin --component 0 --location 0 --clocks -1|--clocks: '-1' is not a number from 0 to 4294967295
-edge cellar.bin --component 0 --location 0 --clocks 1,2,3,4,5|--clocks: there are at most four
-edge cellar.bin --component 0 --location 0 --clocks 1,|--clocks: a number is missing behind the last comma
-edge cellar.bin --component 0 --location 0 --clocks 1,,2|--clocks: '' is not a number
-edge cellar.bin --component 0 --location 0 --variables 32768|--variables: '32768' is not a number from -32768 to 32767
-edge cellar.bin --component 0 --location 0 -o file|'edge' has no option -o
 TEXT
 
-for part in build kinds verdict svg install words; do
+for part in build kinds numbers spread verdict svg install words; do
     # shellcheck source=/dev/null # build first: others use its root
     source "$root/command/test_$part.sh"
 done

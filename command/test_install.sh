@@ -46,6 +46,8 @@ same() {
 try_installed() {
     same verdict "$prefix/share/vanillatarn/cellar.txt" cellar.bin incident.txt program.bin
     same verdict --json "$prefix/share/vanillatarn/accident.txt"
+    same verdict --spread 1 cellar.bin
+    same spread "$prefix/share/vanillatarn/wide.txt"
     same schedule cellar.txt
     same chart cellar.bin
     same chart incident.bin --svg -
@@ -54,6 +56,9 @@ try_installed() {
     same part program.bin 1
     same choices --late cellar.bin
     same run cellar.bin early.bin
+    same choices --offsets 2,0 wide.txt
+    same run --spread 2 --offsets 2,0 wide.txt apart.choices
+    same run --offsets 2,0 wide.txt apart.choices
     same text cellar.bin
     same table cellar.txt
     same schedule fault.txt

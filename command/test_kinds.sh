@@ -81,12 +81,7 @@ complains '-: line 2: '
 
 ## A file of another kind is named
 
-while IFS='|' read -r words message; do
-    # shellcheck disable=SC2086 # several words
-    call $words
-    says 2
-    complains "$message"
-done <<'TEXT'
+misuses <<'TEXT'
 verdict program.bin|program.bin: this is a program, not a table
 schedule program.bin|program.bin: this is a program, not a table
 chart program.bin|program.bin: this is a program, not a table
@@ -133,11 +128,4 @@ call_there schedule cellar.txt
 says 3
 complains "table_text has to be built, and 'cargo' is not installed"
 
-for to in full closed; do
-    for words in 'verdict cellar.txt' 'translate cellar.txt' 'run cellar.txt early.bin'; do
-        # shellcheck disable=SC2086 # several words
-        call_to "$to" $words
-        says 3
-        complains 'standard output cannot be written'
-    done
-done
+unwritable 'verdict cellar.txt' 'translate cellar.txt' 'run cellar.txt early.bin'

@@ -1,7 +1,8 @@
 #!/usr/bin/env bash
 # Runs the printers over the whole corpus, as programs: what they print of each table is compared with the stored answer, and of
-# an accepted one with the stored schedule. The listing of each program, and of damaged ones, is compared with that of
-# `listing.awk`. Then an output that cannot be written. Any failing check fails the whole.
+# an accepted one with the stored schedule; the largest spread of it is tried against the verdicts at that spread and at the next. The listing
+# of each program, and of damaged ones, is compared with that of `listing.awk`. Then an output that cannot be written. Any failing check fails
+# the whole.
 set -euo pipefail
 
 root="$(cd "$(dirname "$0")/.." && pwd)"
@@ -10,7 +11,7 @@ corpus="$root/corpus"
 work="$(mktemp -d)"
 trap 'rm -rf -- "$work"' EXIT
 cd "$root"
-rt check schedule_printer chart_printer verdict_printer plan_table translate_table program_listing trial_run >"$work/built" || { cat "$work/built"; exit 1; }
+rt check schedule_printer chart_printer verdict_printer spread_printer plan_table translate_table program_listing trial_run >"$work/built" || { cat "$work/built"; exit 1; }
 cd "$work"
 
 passed=0 failed=0
@@ -25,6 +26,11 @@ check() {
         failed=$((failed + 1))
         printf 'FAILED: %s\n' "$said"
     fi
+}
+
+# The first line of a verdict at a spread: the table, the spread.
+verdict_at() {
+    "$programs/verdict_printer" "$2" <"$1" | head -n 1
 }
 
 # The schedule of an accepted table, or the refusal's line, and nothing else.
@@ -47,6 +53,19 @@ while IFS=$'\t' read -r name answer; do
     "$programs/verdict_printer" <"$corpus/$name.bin" >out 2>err
     check "$name: the verdict printed" test "$(head -n 1 out)" = "$answer"
     check "$name: nothing on standard error" test ! -s err
+    cp out expected
+    "$programs/verdict_printer" 0 <"$corpus/$name.bin" >out 2>err
+    check "$name: the verdict at spread 0" cmp -s expected out
+    "$programs/spread_printer" <"$corpus/$name.bin" >out 2>err
+    check "$name: nothing on standard error" test ! -s err
+    if [[ $answer == accepted ]]; then
+        largest="$(sed -n -E 's/^accepted up to a spread of ([0-9]+) ticks?$/\1/p' out)"
+        check "$name: the largest spread printed" test "$(wc -l <out)-${largest:+number}" = 1-number
+        check "$name: accepted at the largest spread" test "$(verdict_at "$corpus/$name.bin" "${largest:-0}")" = accepted
+        check "$name: refused at the next one" test "$(verdict_at "$corpus/$name.bin" "$((${largest:-0} + 1))")" != accepted
+    else
+        check "$name: the spread refused" test "$(head -n 1 out)" = "$answer"
+    fi
 done <"$corpus/answers.tsv"
 
 # The listing of the bytes in the file `program`, against the second source.
@@ -92,12 +111,36 @@ full() {
 full schedule_printer 'The schedule could not be written.'
 full chart_printer 'The chart could not be written.'
 full verdict_printer 'The verdict could not be written.'
+full spread_printer 'The spread could not be written.'
 full translate_table 'The program could not be written.'
 full program_listing 'The listing could not be written.'
 "$programs/trial_run" "$corpus/probe_and_hub.bin" /dev/null >/dev/full 2>err || true
 check 'trial_run: an output that cannot be written is told' grep -q -F 'The run could not be written.' err
 "$programs/plan_table" 3 40 5 500 >/dev/full 2>err || true
 check 'plan_table: an output that cannot be written is told' grep -q -F 'The table could not be written.' err
+
+# What trial_run says of words that are no spread and no offsets.
+tried_run() {
+    "$programs/trial_run" "$corpus/probe_and_hub.bin" "$@" >out 2>err
+}
+for words in '' '/dev/null 0' '/dev/null 0 0 0'; do
+    # shellcheck disable=SC2086 # several words
+    tried_run $words
+    check "trial_run, '$words': usage" grep -q '^usage: trial_run ' err
+done
+for word in x -1 1x 4294967296 ''; do
+    tried_run /dev/null "$word" 0
+    check "trial_run, spread '$word'" grep -q '^The spread is a number ' err
+    tried_run /dev/null 0 "$word"
+    check "trial_run, offsets '$word'" grep -q '^The offsets are at most ' err
+    tried_run /dev/null 0 "0,$word"
+    check "trial_run, offsets '0,$word'" grep -q '^The offsets are at most ' err
+    check "trial_run, offsets '0,$word': nothing is run" test ! -s out
+done
+for word in - 0 0,0 0,0,7; do
+    tried_run /dev/null 0 "$word"
+    check "trial_run, offsets '$word'" test "$(head -n 1 out)" = 'choices used up'
+done
 
 # Plans: each of the vectors that lends enough, as bytes or as a refusal in words.
 while IFS=$'\t' read -r name request answer; do
@@ -118,6 +161,9 @@ for words in '' '1 1 1' '1 1 1 4 5'; do
     check "plan_table, '$words': usage" grep -q '^usage: plan_table ' err
 done
 for word in x -1 1x 4294967296 99999999999999999999 ''; do
+    "$programs/verdict_printer" "$word" <"$corpus/probe_and_hub.bin" >out 2>err
+    check "verdict_printer, spread '$word': usage" grep -q '^usage: verdict_printer ' err
+    check "verdict_printer, spread '$word': nothing else" test ! -s out
     "$programs/plan_table" "$word" 1 1 4 >out 2>err
     check "plan_table, probes '$word': 18" test "$(head -n 1 err)" = 'refused 18 255'
 done

@@ -138,14 +138,7 @@ complains '--json and --quiet exclude each other'
 call schedule --json cellar.bin
 says 2
 complains "'schedule' has no option --json"
-for to in full closed; do
-    for words in 'verdict cellar.bin incident.bin' 'verdict --json cellar.bin' 'verdict --json absent'; do
-        # shellcheck disable=SC2086 # several words
-        call_to "$to" $words
-        says 3
-        complains 'standard output cannot be written'
-    done
-done
+unwritable 'verdict cellar.bin incident.bin' 'verdict --json cellar.bin' 'verdict --json absent'
 call_to full verdict --quiet incident.bin
 says 1
 for to in /dev/full -; do
@@ -167,7 +160,7 @@ for said in 'echo refused 9 9' 'echo perhaps' 'echo accepted; echo more >&2' 'ex
     printf '#!/usr/bin/env bash\n%s\n' "$said" >liar
     chmod +x liar
     what="a printer that does: $said" status=0
-    "$root/rust/target/release/table_verdicts" words "$work/liar" cellar.bin >out 2>err || status=$?
+    "$root/rust/target/release/table_verdicts" words "$work/liar" 0 cellar.bin >out 2>err || status=$?
     says 3
     complains 'vanillatarn: verdict_printer failed: '
 done

@@ -133,11 +133,4 @@ for how in "$root/vanillatarn" "$work/a link"; do
 done
 
 # Output that cannot be written.
-for to in full closed; do
-    for words in --version help 'help run'; do
-        # shellcheck disable=SC2086 # several words
-        call_to "$to" $words
-        says 3
-        complains 'standard output cannot be written'
-    done
-done
+unwritable --version help 'help run'

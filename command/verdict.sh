@@ -1,6 +1,6 @@
 # `vanillatarn verdict`: one tool reads all files, so that many tables take little more than one.
 # shellcheck shell=bash
-# shellcheck disable=SC2154 # vanillatarn sets root, broken, form and files
+# shellcheck disable=SC2154 # vanillatarn sets root, broken, form, spread and files
 
 # A closed output is one that cannot be written. A tool in Rust does not see that it was closed.
 open_outputs() {
@@ -36,7 +36,7 @@ do_verdict() {
     ((inputs < 2)) || misused 'only one of the files can be standard input'
     need_verdicts
     open_outputs
-    "$tool" "$form" "$printer" "${files[@]}" || status=$?
+    "$tool" "$form" "$printer" "$spread" "${files[@]}" || status=$?
     ((status <= broken)) || stop "$broken" 'table_verdicts failed'
     exit "$status"
 }

@@ -30,8 +30,8 @@
  * The version of this header and its archive, as words and as a number that
  * grows: 10,000 x major + 100 x minor + patch.
  */
-#define TIMED_NETWORK_VERSION "0.4.0"
-#define TIMED_NETWORK_VERSION_NUMBER 400
+#define TIMED_NETWORK_VERSION "0.5.0"
+#define TIMED_NETWORK_VERSION_NUMBER 500
 
 /*
  * Limits and sizes. "Enough" is what a buffer needs for any table.
@@ -50,6 +50,7 @@
 #define TIMED_NETWORK_OBSERVATION 32                    /* bytes of an observation */
 #define TIMED_NETWORK_OBSERVATIONS_ENOUGH (32 * 1024)   /* bytes of a run's */
 #define TIMED_NETWORK_MAX_CHOICES 1000000               /* choices of a run */
+#define TIMED_NETWORK_MAX_SPREAD 1000                   /* ticks of a spread */
 #define TIMED_NETWORK_TICK 255                          /* the choice that is a tick */
 #define TIMED_NETWORK_NONE 255                          /* no component, message, node */
 
@@ -73,7 +74,9 @@ enum timed_network_number {
     TIMED_NETWORK_REFUSED_SEVERAL_LISTENERS = 15,
     TIMED_NETWORK_REFUSED_LISTENER_LATE = 16,
     TIMED_NETWORK_REFUSED_LISTENER_SHORT = 17,
-    TIMED_NETWORK_REFUSED_PLAN = 18
+    TIMED_NETWORK_REFUSED_PLAN = 18,
+    TIMED_NETWORK_REFUSED_SPREAD = 19,
+    TIMED_NETWORK_REFUSED_OFFSET = 20
 };
 
 /* What the end of a run means; see RunNumbers. */
@@ -116,8 +119,8 @@ extern "C" {
  *  17  with a single one, which starts earlier, but does not end later
  *
  * 15 to 17 stand in the place of 11 (document 02): they are asked after 10 and
- * before 12, and earlier versions of this library said 11 for all four. 13 and
- * 14 refuse a call and say nothing about a table.
+ * before 12, and earlier versions of this library said 11 for all four. 13, 14
+ * and 18 to 20 refuse a call and say nothing about a table.
  *
  * component: the number of the component concerned, counted from 0. For 4 to 6
  * the one that was being read, for 7 to 9 the one that was opening a passage,
@@ -141,6 +144,52 @@ typedef struct VerdictNumbers {
  * Nothing is written, and no byte behind the last one is read.
  */
 VerdictNumbers timed_network_check(const uint8_t *table, size_t length);
+
+/*
+ * Tries a table for nodes that wake apart (document 02, wish 6): at a spread.
+ *
+ * table, length: as for timed_network_check.
+ * spread:        how many ticks the nodes may wake apart, 0 to 1,000.
+ *
+ * In checks 10 and 12, and for the listeners counted in 11, two windows count
+ * as sharing a tick if from the end of the one to the start of the other there
+ * are at most `spread` ticks. The single listener has to start more than
+ * `spread` ticks earlier (else 16) and to end more than `spread` ticks later
+ * (else 17). At spread 0 this is timed_network_check. A table that is accepted
+ * at a spread is accepted at every smaller one.
+ *
+ * Refused with 1 to 3 as timed_network_check refuses, then with one number
+ * more, component 255:
+ *
+ *  19  the spread is above 1,000
+ *
+ * then with 4 to 12 and 15 to 17. Nothing is written.
+ */
+VerdictNumbers timed_network_check_spread(const uint8_t *table, size_t length,
+                                          uint32_t spread);
+
+/*
+ * The answer of timed_network_largest_spread.
+ *
+ * number, component: the verdict on the table, as timed_network_check gives it.
+ * spread:            the largest spread, 0 to 1,000; 0 after a refusal.
+ */
+typedef struct SpreadNumbers {
+    uint8_t number;
+    uint8_t component;
+    uint32_t spread;
+} SpreadNumbers;
+
+/*
+ * The largest spread at which timed_network_check_spread accepts a table: it
+ * does at every spread up to that, and at none above.
+ *
+ * table, length: as for timed_network_check.
+ *
+ * Refused with 1 to 12 as timed_network_check refuses, and with nothing else.
+ * Nothing is written.
+ */
+SpreadNumbers timed_network_largest_spread(const uint8_t *table, size_t length);
 
 /*
  * The answer of a call that writes into lent memory, as three numbers.
@@ -348,6 +397,8 @@ PartNumbers timed_network_part(const uint8_t *program, size_t program_length,
  *      component 255
  *  14  there are more than 1,000,000 choices; component 255
  *
+ * timed_network_run_apart has two more, 19 and 20, and says when.
+ *
  * end: how the run ended.
  *
  *   0  at the horizon; the choices behind that are ignored
@@ -399,6 +450,44 @@ RunNumbers timed_network_run(const uint8_t *table, size_t length,
                              uint8_t *observations, size_t observations_length);
 
 /*
+ * The same for nodes that wake apart (document 02, wish 6): each node has a
+ * clock of its own, which stands at 0 up to the tick that is its offset. Until
+ * that tick choosing the node is not allowed, and nothing is due or late at it.
+ *
+ * table, length:       as for timed_network_check.
+ * choices,
+ * choices_length:      as for timed_network_run.
+ * spread:              how many ticks the nodes may wake apart, 0 to 1,000.
+ * offsets:             the first of `offsets_length` numbers that can be read,
+ *                      the ticks at which nodes 0 upward wake. They are never
+ *                      written.
+ * offsets_length:      how many offsets there are. A node behind the last one
+ *                      has offset 0; offsets behind the last node are not
+ *                      looked at. It may be 0; then the pointer is not read.
+ * observations,
+ * observations_length: as for timed_network_run.
+ *
+ * A node does everything by its own clock, and an observation's tick is that of
+ * its node's own clock. The tick in the answer and the horizon are the common
+ * ones. The observations stand in the order in which they were made, so their
+ * ticks need not rise from one node's to another's.
+ *
+ * Refused as timed_network_check_spread refuses at this spread, then with 13
+ * and 14 as timed_network_run refuses, then with one number more, component
+ * 255:
+ *
+ *  20  the offset of a node is above the spread
+ *
+ * At spread 0 and without offsets this is timed_network_run. The observations
+ * must overlap neither the table nor the choices nor the offsets.
+ */
+RunNumbers timed_network_run_apart(const uint8_t *table, size_t length,
+                                   const uint8_t *choices, size_t choices_length,
+                                   uint32_t spread,
+                                   const uint32_t *offsets, size_t offsets_length,
+                                   uint8_t *observations, size_t observations_length);
+
+/*
  * A passage of a schedule: one stay in a location, with the window of the edge
  * taken. 16 bytes.
  *
@@ -436,12 +525,14 @@ CallNumbers timed_network_passages(const uint8_t *table, size_t length,
                                    Passage *list, size_t list_length);
 
 /*
- * The answer of timed_network_meetings.
+ * The answer of timed_network_meetings and timed_network_meetings_spread.
  *
  * number, component:  the call's own answer: 0 and 255, or 13 and 255 where the
  *                     list is too short.
  * refusal, concerned: the verdict on the table, as timed_network_check gives it
- *                     (number and component), also where the list is too short.
+ *                     (number and component), or at a spread
+ *                     timed_network_check_spread; also where the list is too
+ *                     short.
  * size:               how many passages are listed.
  */
 typedef struct MeetingsNumbers {
@@ -468,6 +559,20 @@ typedef struct MeetingsNumbers {
  */
 MeetingsNumbers timed_network_meetings(const uint8_t *table, size_t length,
                                        uint32_t *list, size_t list_length);
+
+/*
+ * Which windows met at a spread: as timed_network_meetings, with the verdict of
+ * timed_network_check_spread, and with the passages that the one at fault meets
+ * because they are at most `spread` ticks apart. Where the spread is refused
+ * with 19, nothing is listed.
+ *
+ * table, length:     as for timed_network_check.
+ * spread:            as for timed_network_check_spread.
+ * list, list_length: as for timed_network_meetings.
+ */
+MeetingsNumbers timed_network_meetings_spread(const uint8_t *table, size_t length,
+                                              uint32_t spread,
+                                              uint32_t *list, size_t list_length);
 
 /*
  * One node, whose registers the caller lends. A node's part is the part of the

@@ -1,3 +1,4 @@
 pub mod Answering
 pub mod Translating
 pub mod RunCalls
+pub mod Spreading

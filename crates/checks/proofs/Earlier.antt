@@ -16,13 +16,9 @@ use Rattle.model.specs.Checks.{sameBand, disturb, isSend, meets, collides}
 use Rattle.model.proofs.Basics.Bools.{clash}
 use Rattle.model.proofs.Checks.Heard.{others-is}
 use Rattle.rows.specs.Rows.{rowPassage, rowsFrom, rowsOf}
+use Rattle.checks.proofs.Swept.{rows-none}
 
 module _ (p : Passage → Bool) (l : List ℕ) where
-  rows-none : (m i : ℕ) → ((k : ℕ) → i ≤ k → k < i + m → p (rowPassage l k) ≡ false) → only p (rowsFrom l i m) ≡ []
-  unfolding rowsFrom
-  rows-none zero i f = refl
-  rows-none (suc m) i f = rw (f i (omega arith) (omega arith)) (rows-none m (suc i) (λ k a b. f k (omega arith) (omega arith)))
-
   or-true : (t : Bool) → t || true ≡ true
   or-true true = refl
   or-true false = refl
@@ -44,7 +40,7 @@ module _ (p : Passage → Bool) (l : List ℕ) where
       go (yes q) = rw q e
       go (no q) = f k (omega (arith, h, q))
 
-module _ (T : Table) (H : ℕ) where
+module _ (G : ℕ) (T : Table) (H : ℕ) where
   swapped : (a b c t x y d e : Bool) → a ≡ true → (c ≡ true → t ≡ true) → (x ≡ true → y ≡ true) → b && c && x && (d && e) ≡ true
       → (b ≡ true) × (a && t && y && (e && d) ≡ true)
   swapped a true true t true y true true h f g q = (refl, rw (h, f refl, g refl))
@@ -64,19 +60,19 @@ module _ (T : Table) (H : ℕ) where
       go (some j) (some k) q = eq-eqb (bandOf T k) (bandOf T j) (sym (eqb-true (bandOf T j) (bandOf T k) q))
 
   -- two sends meet each other
-  turned : (v w : Passage) → isSend T H v ≡ true → meets T H v w ≡ true → (isSend T H w ≡ true) × (meets T H w v ≡ true)
+  turned : (v w : Passage) → isSend T H v ≡ true → meets G T H v w ≡ true → (isSend T H w ≡ true) × (meets G T H w v ≡ true)
   turned v w s q =
-      swapped (isSend T H v) (isSend T H w) (others w v) (others v w) (disturb T v w) (disturb T w v) (leb (v .ready) (w .end)) (leb (w .ready) (v .end)) s
+      swapped (isSend T H v) (isSend T H w) (others w v) (others v w) (disturb T v w) (disturb T w v) (leb (v .ready) (w .end + G)) (leb (w .ready) (v .end + G)) s
       (λ h. others-is v w .1 (λ e. others-is w v .0 h (sym e))) (band-turned v w) q
 
   -- row i, a send, meets none of the rows before it, where none of them collides
-  pub none-earlier : (l : List ℕ) (n i : ℕ) → i < n → isSend T H (rowPassage l i) ≡ true → ((k : ℕ) → k < i → collides T H (rowsOf l n) (rowPassage l k) ≡ false)
-      → only (meets T H (rowPassage l i)) (rowsOf l i) ≡ []
-  none-earlier l n i h s f = rows-none (meets T H (rowPassage l i)) l i 0 (λ k a b. go k (omega (arith, b)) (meets T H (rowPassage l i) (rowPassage l k)) refl)
+  pub none-earlier : (l : List ℕ) (n i : ℕ) → i < n → isSend T H (rowPassage l i) ≡ true → ((k : ℕ) → k < i → collides G T H (rowsOf l n) (rowPassage l k) ≡ false)
+      → only (meets G T H (rowPassage l i)) (rowsOf l i) ≡ []
+  none-earlier l n i h s f = rows-none (meets G T H (rowPassage l i)) l 0 i (λ k a b. go k (omega (arith, b)) (meets G T H (rowPassage l i) (rowPassage l k)) refl)
     where
-      go : (k : ℕ) → k < i → (t : Bool) → meets T H (rowPassage l i) (rowPassage l k) ≡ t → t ≡ false
+      go : (k : ℕ) → k < i → (t : Bool) → meets G T H (rowPassage l i) (rowPassage l k) ≡ t → t ≡ false
       go k b true q =
           let w = turned (rowPassage l i) (rowPassage l k) s q in
-          let c : collides T H (rowsOf l n) (rowPassage l k) ≡ true = rw (w .0, rows-some (meets T H (rowPassage l k)) l n 0 i (omega arith) (omega arith) (w .1)) in
+          let c : collides G T H (rowsOf l n) (rowPassage l k) ≡ true = rw (w .0, rows-some (meets G T H (rowPassage l k)) l n 0 i (omega arith) (omega arith) (w .1)) in
           clash (sym (f k b) ∙ c)
       go k b false q = refl

@@ -1,23 +1,22 @@
 -- The receive windows that may hear a send, as they are noted: a bit for each component, a bit if it listens again, and its row. Assumes nothing.
 use mathlib.Core.Logic.{_⊎_, inl, inr, ⊎-elim}
-use mathlib.Core.Path.{_≡_, refl, sym, ap, subst, _∙_}
-use mathlib.Core.Bool.{Bool, true, false, _&&_, cond}
+use mathlib.Core.Path.{_≡_, refl, sym, ap, _∙_}
+use mathlib.Core.Bool.{Bool, true, false, cond}
 use mathlib.Core.List.{List, [], _∷_}
 use Prim.Native.Nat.{ℕ, zero, suc, _+_, _-_, _*_, _/_, _%_, _^_, _≤_, _<_, max}
 use native.Mathlib.Nat.{pow-suc, max-zero, max-eq-right}
 use native.Mathlib.Omega.{arith}
 use borrow.Author.Tests.{eq-eqb, ne-eqb}
-use lib.Bits.{bitOr, bitAnd, or-zero-l, or-zero-r, or-step, or-add-and, and-le-l, and-le-r}
+use lib.Bits.{bitOr, or-zero-l, or-zero-r, or-step, or-add-and, and-le-l, and-le-r}
 use lib.Dec.{eqb}
 use lib.Pow.{pow-pos}
 use lib.Count.{ones, trailingZeros, ones-step, ones-cat}
 use lib.ListN.{length, getD, set, length-set}
 use lib.Seq.{getD-set-same}
-use Rattle.model.specs.declared.Hearing.{Hearing}
 use Rattle.model.specs.declared.Hearing.the-variants.{Nobody, Several}
 use Rattle.model.specs.Lists.{only, snoc}
 use Rattle.model.specs.Schedule.{Passage}
-use Rattle.model.specs.Checks.{startsEarlier, endsLater, heardWell, hearingOf}
+use Rattle.model.specs.Checks.{hearingOf}
 use Rattle.rows.specs.Rows.{num, rowPassage, rowsFrom, RowsPlaced}
 use Rattle.checks.specs.Listening.{repeatedWith, Alone, Masks, Noted}
 use Rattle.checks.proofs.Swept.{Near, back-in, back-out, Swept, swept-in, swept-out}
@@ -151,8 +150,8 @@ pub record ListenedBack (p : Passage → Bool) (l : List ℕ) (n i j listening r
   pub back : only p (rowsFrom l j (i - j)) ≡ found
   pub noted : Noted l n found listening repeated rows
 
-module _ (p : Passage → Bool) (bs l : List ℕ) (n i : ℕ) (r : RowsPlaced bs l n) (there : i < n) (near : Near p l i)
-    (j k m q : ℕ) (rows : List ℕ) (h : k < i) (b : j ≤ k) (ended : (t : ℕ) → j ≤ t → t < k → num l t 5 < num l i 4)
+module _ {G : ℕ} (p : Passage → Bool) (bs l : List ℕ) (n i : ℕ) (r : RowsPlaced bs l n) (there : i < n) (near : Near G p l i)
+    (j k m q : ℕ) (rows : List ℕ) (h : k < i) (b : j ≤ k) (ended : (t : ℕ) → j ≤ t → t < k → num l t 5 + G < num l i 4)
     (x : Bool) (e : x ≡ p (rowPassage l k)) (a : ListenedBack p l n i (k + 1) m q rows) (m' q' : ℕ) (rows' : List ℕ) where
   pub listened-back-in : x ≡ true → (c : ℕ) → c ≡ num l k 0 → c < 8 → q' ≡ repeatedWith m q c → m' ≡ bitOr m (2 ^ c) → rows' ≡ set rows c k → ListenedBack p l n i j m' q' rows'
   listened-back-in t c f s u v w =
@@ -200,17 +199,6 @@ pub record AloneAt (l : List ℕ) (n listening : ℕ) (rows : List ℕ) (found :
   pub only : found ≡ rowPassage l (getD rows (trailingZeros 8 listening) 0) ∷ []
 
 module _ (l : List ℕ) (n m r : ℕ) (rows : List ℕ) where
-  -- the count of ones is not one, or a component listens by more than one window
-  pub not-one : (s : Passage) (found : List Passage) → Noted l n found m r rows → (ones m ≡ 1 → ⊥) → false ≡ heardWell s found
-  not-one s [] q h = refl
-  not-one s (v ∷ []) q h = absurd (h (ap ones (q .masks .bit) ∙ ones-of-bit (num l (q .masks .row) 0)))
-  not-one s (v ∷ w ∷ vs) q h = refl
-
-  pub not-once : (s : Passage) (found : List Passage) → Noted l n found m r rows → (r ≡ 0 → ⊥) → false ≡ heardWell s found
-  not-once s [] q h = refl
-  not-once s (v ∷ []) q h = absurd (h (q .masks .once))
-  not-once s (v ∷ w ∷ vs) q h = refl
-
   pub alone-at : ((k : ℕ) → k < n → num l k 0 < 8) → ones m ≡ 1 → r ≡ 0 → (found : List Passage) → Noted l n found m r rows → AloneAt l n m rows found
   alone-at small one once [] q = absurd (omega (arith, ap ones (q .masks .0), no-ones, one))
   alone-at small one once (v ∷ []) q =
@@ -228,26 +216,17 @@ module _ (l : List ℕ) (n m r : ℕ) (rows : List ℕ) where
   -- ## How the send is heard
 
   -- no component listens, or more than one does, or one by more than one window
-  pub by-nobody : (s : Passage) (found : List Passage) → Noted l n found m r rows → ones m ≡ 0 → Nobody ≡ hearingOf s found
-  by-nobody s [] q h = refl
-  by-nobody s (v ∷ []) q h = absurd (omega (arith, h, ap ones (q .masks .bit), ones-of-bit (num l (q .masks .row) 0)))
-  by-nobody s (v ∷ w ∷ vs) q h = absurd (omega (arith, h, q .masks .0))
+  pub by-nobody : (G : ℕ) (s : Passage) (found : List Passage) → Noted l n found m r rows → ones m ≡ 0 → Nobody ≡ hearingOf G s found
+  by-nobody G s [] q h = refl
+  by-nobody G s (v ∷ []) q h = absurd (omega (arith, h, ap ones (q .masks .bit), ones-of-bit (num l (q .masks .row) 0)))
+  by-nobody G s (v ∷ w ∷ vs) q h = absurd (omega (arith, h, q .masks .0))
 
-  pub by-components : (s : Passage) (found : List Passage) → Noted l n found m r rows → (ones m ≡ 0 → ⊥) → (ones m ≡ 1 → ⊥) → Several ≡ hearingOf s found
-  by-components s [] q z o = absurd (z (ap ones (q .masks .0) ∙ no-ones))
-  by-components s (v ∷ []) q z o = absurd (o (ap ones (q .masks .bit) ∙ ones-of-bit (num l (q .masks .row) 0)))
-  by-components s (v ∷ w ∷ vs) q z o = refl
+  pub by-components : (G : ℕ) (s : Passage) (found : List Passage) → Noted l n found m r rows → (ones m ≡ 0 → ⊥) → (ones m ≡ 1 → ⊥) → Several ≡ hearingOf G s found
+  by-components G s [] q z o = absurd (z (ap ones (q .masks .0) ∙ no-ones))
+  by-components G s (v ∷ []) q z o = absurd (o (ap ones (q .masks .bit) ∙ ones-of-bit (num l (q .masks .row) 0)))
+  by-components G s (v ∷ w ∷ vs) q z o = refl
 
-  pub by-windows : (s : Passage) (found : List Passage) → Noted l n found m r rows → (r ≡ 0 → ⊥) → Several ≡ hearingOf s found
-  by-windows s [] q h = absurd (h (q .masks .1))
-  by-windows s (v ∷ []) q h = absurd (h (q .masks .once))
-  by-windows s (v ∷ w ∷ vs) q h = refl
-
--- .. which is held against the send window
-pub heard-alone : (l : List ℕ) (s : Passage) (found : List Passage) (k : ℕ) (x : Bool) → found ≡ rowPassage l k ∷ []
-    → x ≡ startsEarlier (rowPassage l k) s && endsLater (rowPassage l k) s → x ≡ heardWell s found
-heard-alone l s found k x e q = rw e q
-
-pub hearing-alone : (l : List ℕ) (s : Passage) (found : List Passage) (k : ℕ) (h : Hearing) → found ≡ rowPassage l k ∷ [] → h ≡ hearingOf s (rowPassage l k ∷ [])
-    → h ≡ hearingOf s found
-hearing-alone l s found k h e q = rw e q
+  pub by-windows : (G : ℕ) (s : Passage) (found : List Passage) → Noted l n found m r rows → (r ≡ 0 → ⊥) → Several ≡ hearingOf G s found
+  by-windows G s [] q h = absurd (h (q .masks .1))
+  by-windows G s (v ∷ []) q h = absurd (h (q .masks .once))
+  by-windows G s (v ∷ w ∷ vs) q h = refl

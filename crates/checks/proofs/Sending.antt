@@ -36,11 +36,11 @@ row-stands bs l n i b r h = record { fits = omega (arith, r .fits); small = row-
 
 -- ## A send with ready < H: the number first
 
-module _ (T : Table) (H : ℕ) (v : Passage) where
-  and-false : (a : Bool) → a && false ≡ false
-  and-false true = refl
-  and-false false = refl
+pub and-false : (a : Bool) → a && false ≡ false
+and-false true = refl
+and-false false = refl
 
+module _ (T : Table) (H : ℕ) (v : Passage) where
   pub ready-late : H ≤ v .ready → false ≡ isSend T H v
   ready-late h = rw (le-ltb (v .ready) H h, and-false)
 

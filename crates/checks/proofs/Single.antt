@@ -6,20 +6,23 @@ use mathlib.Core.Option.{none}
 use Prim.Native.Nat.{ℕ, _+_, _≤_, _<_}
 use native.Mathlib.Omega.{arith}
 use native.Mathlib.Decide.{ℕ-discrete}
-use borrow.Author.Tests.{eqb-true, lt-ltb, le-ltb}
-use lib.Dec.{eqb, ltb}
+use borrow.Author.Tests.{eqb-true}
+use lib.Dec.{eqb}
 use lib.ListN.{length, getD, set, length-set}
 use lib.Seq.{getD-set-same, getD-set-other}
+use Rattle.model.specs.declared.Hearing.{Hearing}
+use Rattle.model.specs.declared.Hearing.the-variants.{Well}
 use Rattle.model.specs.Lists.{first, only, _∈_, here}
 use Rattle.model.specs.Table.{Table}
 use Rattle.model.specs.Schedule.{Passage}
-use Rattle.model.specs.Checks.{noPassage, passageAt, isSend, mayHear, heardWell, unheard, crowded}
+use Rattle.model.specs.Checks.{noPassage, passageAt, isSend, mayHear, heardWell, hearingOf, heardAs, unheard, crowded}
 use Rattle.model.proofs.Basics.Bools.{clash, and-is}
 use Rattle.model.proofs.Basics.Members.{number-of, only-is, once-is}
 use Rattle.model.proofs.Checks.Heard.{crowded-none}
+use Rattle.model.proofs.Checks.Hearings.{isWell, well-hears}
 use Rattle.rows.specs.Rows.{rowPassage, rowsOf}
 use Rattle.rows.proofs.Numbered.{rows-length, row-at}
-use Rattle.checks.specs.Listening.{ListenerIs}
+use Rattle.checks.specs.Listening.{HeardIs}
 use Rattle.checks.proofs.Questions.{hearing, heardSend}
 
 -- ## Numbers of rows
@@ -48,22 +51,24 @@ module _ (p : Passage → Bool) (l : List ℕ) (n : ℕ) where
       let y : k < n = omega (arith, v, rows-length l n) in
       f j k x y (of-row j x a) (of-row k y b))
 
--- ## The listener
+-- ## How a send is heard
 
-module _ (T : Table) (l : List ℕ) (n i : ℕ) where
-  pub no-listener : false ≡ heardWell (rowPassage l i) (only (hearing T (rowPassage l i)) (rowsOf l n)) → ListenerIs T l n i n
-  no-listener e = record { well = le-ltb n n (omega arith) ∙ e; alone = λ h. absurd (omega arith) }
+module _ (G : ℕ) (T : Table) (l : List ℕ) (n i : ℕ) where
+  -- not well, whatever the row ..
+  pub not-well : (h : Hearing) (row : ℕ) → isWell h ≡ false → h ≡ heardAs G T (rowsOf l n) (rowPassage l i) → HeardIs G T l n i h row
+  not-well h row f e = record { told = e; there = λ w. clash (sym f ∙ ap isWell w); alone = λ w. clash (sym f ∙ ap isWell w) }
 
-  pub one-listener : (k : ℕ) → only (hearing T (rowPassage l i)) (rowsOf l n) ≡ rowPassage l k ∷ [] → k < n
-      → true ≡ heardWell (rowPassage l i) (only (hearing T (rowPassage l i)) (rowsOf l n)) → ListenerIs T l n i k
-  one-listener k e h w = record { well = lt-ltb k n h ∙ w; alone = λ u. alone-row (hearing T (rowPassage l i)) l n k e h }
+  -- .. or by the one row that may hear it
+  pub by-one : (h : Hearing) (row : ℕ) → only (hearing G T (rowPassage l i)) (rowsOf l n) ≡ rowPassage l row ∷ [] → row < n
+      → h ≡ hearingOf G (rowPassage l i) (rowPassage l row ∷ []) → HeardIs G T l n i h row
+  by-one h row e there q = record { told = rw e q; there = λ w. there; alone = λ w. alone-row (hearing G T (rowPassage l i)) l n row e there }
 
 -- ## The sweep over the sends
 
-module _ (T : Table) (H : ℕ) (l : List ℕ) (n : ℕ) where
+module _ (G : ℕ) (T : Table) (H : ℕ) (l : List ℕ) (n : ℕ) where
   -- row j may hear row k, a send
   abbrev Hears : ℕ → ℕ → Type 0
-  Hears j k = heardSend T H (rowPassage l j) (rowPassage l k) ≡ true
+  Hears j k = heardSend G T H (rowPassage l j) (rowPassage l k) ≡ true
 
   -- the rows that may hear a send before row i are noted, and none of them hears two if they are apart
   pub record Marked (i : ℕ) (apart : Bool) (listens : List ℕ) : Type 0 where
@@ -89,15 +94,15 @@ module _ (T : Table) (H : ℕ) (l : List ℕ) (n : ℕ) where
         earlier j k v f = go (ℕ-discrete k i)
           where
             go : Dec (k ≡ i) → k < i
-            go (yes q) = clash (sym t ∙ s ∙ subst (λ x. isSend T H (rowPassage l x) ≡ true) q (and-is (isSend T H (rowPassage l k)) (mayHear T (rowPassage l j) (rowPassage l k)) .0 f .0))
+            go (yes q) = clash (sym t ∙ s ∙ subst (λ x. isSend T H (rowPassage l x) ≡ true) q (and-is (isSend T H (rowPassage l k)) (mayHear G T (rowPassage l j) (rowPassage l k)) .0 f .0))
             go (no q) = omega (arith, v, q)
 
     -- .. or a send that one row may hear
-    module _ (found : ℕ) (there : found < n) (few : n ≤ 1024) (alone : (j : ℕ) → j < n → mayHear T (rowPassage l j) (rowPassage l i) ≡ true → j ≡ found)
+    module _ (found : ℕ) (there : found < n) (few : n ≤ 1024) (alone : (j : ℕ) → j < n → mayHear G T (rowPassage l j) (rowPassage l i) ≡ true → j ≡ found)
         (apart' : Bool) (is : apart' ≡ apart && eqb (getD listens found 0) 0) where
       by-found : (j k : ℕ) → j < n → k ≡ i → Hears j k → j ≡ found
       by-found j k u q f =
-          alone j u (subst (λ x. mayHear T (rowPassage l j) (rowPassage l x) ≡ true) q (and-is (isSend T H (rowPassage l k)) (mayHear T (rowPassage l j) (rowPassage l k)) .0 f .1))
+          alone j u (subst (λ x. mayHear G T (rowPassage l j) (rowPassage l x) ≡ true) q (and-is (isSend T H (rowPassage l k)) (mayHear G T (rowPassage l j) (rowPassage l k)) .0 f .1))
 
       -- it was not noted before, so it heard none
       new : apart' ≡ true → (j k m : ℕ) → j < n → k ≡ i → m < i → Hears j k → Hears j m → ⊥
@@ -128,27 +133,31 @@ module _ (T : Table) (H : ℕ) (l : List ℕ) (n : ℕ) where
               before .single (and-is apart (eqb (getD listens found 0) 0) .0 (sym is ∙ a) .0) j k m u (omega (arith, v, p)) (omega (arith, w, q)) f g
 
     -- all rows were looked at
-    pub none-crowded : n ≤ i → apart ≡ true → none ≡ first (crowded T H (rowsOf l n)) (rowsOf l n)
+    pub none-crowded : n ≤ i → apart ≡ true → none ≡ first (crowded G T H (rowsOf l n)) (rowsOf l n)
     none-crowded h a =
-        sym (crowded-none T H (rowsOf l n) .1 (λ r m e.
+        sym (crowded-none G T H (rowsOf l n) .1 (λ r m e.
         let t = number-of noPassage m in
         let u : t .0 < n = omega (arith, t .1, rows-length l n) in
         let z : rowPassage l (t .0) ≡ r = sym (row-at l n (t .0) u) ∙ t .2 in
-        subst (λ v. length (only (heardSend T H v) (rowsOf l n)) ≤ 1) z
-        (one-row (heardSend T H (rowPassage l (t .0))) l n (λ k q x y f g. before .single a (t .0) k q u (omega (arith, h, x)) (omega (arith, h, y)) f g))))
+        subst (λ v. length (only (heardSend G T H v) (rowsOf l n)) ≤ 1) z
+        (one-row (heardSend G T H (rowPassage l (t .0))) l n (λ k q x y f g. before .single a (t .0) k q u (omega (arith, h, x)) (omega (arith, h, y)) f g))))
 
 -- ## 11
 
 -- a row that is no send is not asked
-pub not-heard : (T : Table) (H : ℕ) (l : List ℕ) (n i : ℕ) (x : Bool) → x ≡ isSend T H (rowPassage l i) → x ≡ false → false ≡ unheard T H (rowsOf l n) (rowPassage l i)
-not-heard T H l n i x e t = let s : isSend T H (rowPassage l i) ≡ false = sym e ∙ t in rw s
+pub not-heard : (G : ℕ) (T : Table) (H : ℕ) (l : List ℕ) (n i : ℕ) (x : Bool) → x ≡ isSend T H (rowPassage l i) → x ≡ false → false ≡ unheard G T H (rowsOf l n) (rowPassage l i)
+not-heard G T H l n i x e t = let s : isSend T H (rowPassage l i) ≡ false = sym e ∙ t in rw s
 
-module _ (T : Table) (H : ℕ) (l : List ℕ) (n i found : ℕ) (x : Bool) (e : x ≡ isSend T H (rowPassage l i)) (t : x ≡ true) (is : ListenerIs T l n i found) where
-  unheard-by : (y : Bool) → ltb found n ≡ y → unheard T H (rowsOf l n) (rowPassage l i) ≡ not y
-  unheard-by y f = let s : isSend T H (rowPassage l i) ≡ true = sym e ∙ t in rw (s, ← is .well, f)
+module _ (G : ℕ) (T : Table) (H : ℕ) (l : List ℕ) (n i row : ℕ) (h : Hearing) (x : Bool) (e : x ≡ isSend T H (rowPassage l i)) (t : x ≡ true) (is : HeardIs G T l n i h row) where
+  unheard-by : (y : Bool) → isWell h ≡ y → unheard G T H (rowsOf l n) (rowPassage l i) ≡ not y
+  unheard-by y f =
+      let s : isSend T H (rowPassage l i) ≡ true = sym e ∙ t in
+      let found = only (hearing G T (rowPassage l i)) (rowsOf l n) in
+      let w : heardWell G (rowPassage l i) found ≡ y = well-hears G (rowPassage l i) found ∙ ap isWell (sym (is .told)) ∙ f in
+      rw (s, w)
 
-  pub is-unheard : n ≤ found → true ≡ unheard T H (rowsOf l n) (rowPassage l i)
-  is-unheard h = sym (unheard-by false (le-ltb found n h))
+  pub is-unheard : isWell h ≡ false → true ≡ unheard G T H (rowsOf l n) (rowPassage l i)
+  is-unheard f = sym (unheard-by false f)
 
-  pub is-heard : found < n → false ≡ unheard T H (rowsOf l n) (rowPassage l i)
-  is-heard h = sym (unheard-by true (lt-ltb found n h))
+  pub is-heard : h ≡ Well → false ≡ unheard G T H (rowsOf l n) (rowPassage l i)
+  is-heard w = sym (unheard-by true (ap isWell w))

@@ -1,16 +1,13 @@
--- A sweep over the rows that may share a tick with row i: what was found before row j, and what is left. Assumes nothing.
+-- A sweep over the rows that may lie no more than G from row i: what was found before row j, and what is left. Assumes nothing.
 use mathlib.Core.Path.{_≡_, refl, sym, ap, subst, _∙_}
-use mathlib.Core.Bool.{Bool, true, false, _||_}
+use mathlib.Core.Bool.{Bool, true, false}
 use mathlib.Core.List.{List, [], _∷_, _++_, append-assoc, append-nil}
 use Prim.Native.Nat.{ℕ, zero, suc, _+_, _-_, _≤_, _<_}
 use native.Mathlib.Numerals.{add-one}
 use native.Mathlib.Omega.{arith}
-use borrow.Author.Tests.{ltb-true, ltb-false}
-use lib.Dec.{ltb}
 use lib.ListN.{length, length-append}
-use Rattle.model.specs.Lists.{any, only, snoc}
+use Rattle.model.specs.Lists.{only, snoc}
 use Rattle.model.specs.Schedule.{Passage}
-use Rattle.model.proofs.Basics.Bools.{clash}
 use Rattle.model.proofs.Basics.Members.{only-append}
 use Rattle.rows.specs.Rows.{num, rowPassage, rowsFrom, rowsOf, RowsPlaced}
 use Rattle.rows.proofs.Sought.{rows-split}
@@ -63,22 +60,22 @@ module _ (p : Passage → Bool) (l : List ℕ) (n j : ℕ) (found : List Passage
   pub swept-done : n ≤ j → Swept p l n j found → found ≡ only p (rowsOf l n)
   swept-done h q = swept-all (ap (only p) (rest-none l n j h)) q
 
--- p is false of a row that shares no tick with row i
-pub record Near (p : Passage → Bool) (l : List ℕ) (i : ℕ) : Type 0 where
-  pub before : (j : ℕ) → num l j 5 < num l i 4 → p (rowPassage l j) ≡ false
-  pub after : (j : ℕ) → num l i 5 < num l j 4 → p (rowPassage l j) ≡ false
+-- p is false of a row that lies more than G from row i
+pub record Near (G : ℕ) (p : Passage → Bool) (l : List ℕ) (i : ℕ) : Type 0 where
+  pub before : (j : ℕ) → num l j 5 + G < num l i 4 → p (rowPassage l j) ≡ false
+  pub after : (j : ℕ) → num l i 5 + G < num l j 4 → p (rowPassage l j) ≡ false
 
-module _ (p : Passage → Bool) (bs l : List ℕ) (n i : ℕ) (r : RowsPlaced bs l n) (there : i < n) (near : Near p l i) where
+module _ {G : ℕ} (p : Passage → Bool) (bs l : List ℕ) (n i : ℕ) (r : RowsPlaced bs l n) (there : i < n) (near : Near G p l i) where
   -- ## The rows before row i, backward
 
   -- from row j on all have ended ..
-  ended-none : (j m : ℕ) → ((t : ℕ) → j ≤ t → t < j + m → num l t 5 < num l i 4) → only p (rowsFrom l j m) ≡ []
+  ended-none : (j m : ℕ) → ((t : ℕ) → j ≤ t → t < j + m → num l t 5 + G < num l i 4) → only p (rowsFrom l j m) ≡ []
   ended-none j m e = rows-none p l j m (λ t a c. near .before t (e t a c))
 
-  pub back-start : (j : ℕ) → j ≤ i → ((t : ℕ) → j ≤ t → t < i → num l t 5 < num l i 4) → only p (rowsFrom l j (i - j)) ≡ []
+  pub back-start : (j : ℕ) → j ≤ i → ((t : ℕ) → j ≤ t → t < i → num l t 5 + G < num l i 4) → only p (rowsFrom l j (i - j)) ≡ []
   back-start j h e = ended-none j (i - j) (λ t a c. e t a (omega arith))
 
-  module _ (j k : ℕ) (found : List Passage) (h : k < i) (a : j ≤ k) (e : (t : ℕ) → j ≤ t → t < k → num l t 5 < num l i 4)
+  module _ (j k : ℕ) (found : List Passage) (h : k < i) (a : j ≤ k) (e : (t : ℕ) → j ≤ t → t < k → num l t 5 + G < num l i 4)
       (q : only p (rowsFrom l (k + 1) (i - (k + 1))) ≡ found) where
     -- .. row k is looked at, and before it those that ended are left out
     back-on : only p (rowsFrom l j (i - j)) ≡ only p (rowPassage l k ∷ rowsFrom l (k + 1) (i - (k + 1)))
@@ -112,25 +109,6 @@ module _ (p : Passage → Bool) (bs l : List ℕ) (n i : ℕ) (r : RowsPlaced bs
       let u : i - 0 ≡ i = omega arith in
       subst (λ (m : ℕ). only p (rowsFrom l 0 m) ≡ found) u (subst (λ (m : ℕ). only p (rowsFrom l m (i - m)) ≡ found) z q)
 
-  -- row k is one of them
-  pub back-any : (k : ℕ) (x : Bool) → k < i → x ≡ p (rowPassage l k) → x ≡ true → any p (rowsOf l i) ≡ true
-  unfolding rowsFrom
-  back-any k x h f t = go 0 i (omega arith) (omega arith)
-    where
-      go : (j m : ℕ) → j ≤ k → k < j + m → any p (rowsFrom l j m) ≡ true
-      go j zero a c = absurd (omega arith)
-      go j (suc m) a c = pick (go (suc j) m) (p (rowPassage l j)) refl
-        where
-          pick : (suc j ≤ k → k < suc j + m → any p (rowsFrom l (suc j) m) ≡ true) → (y : Bool) → p (rowPassage l j) ≡ y → y || any p (rowsFrom l (suc j) m) ≡ true
-          pick ih true g = refl
-          pick ih false g = later (ltb j k) refl
-            where
-              later : (y : Bool) → ltb j k ≡ y → any p (rowsFrom l (suc j) m) ≡ true
-              later true u = ih (omega (arith, ltb-true j k u)) (omega arith)
-              later false u =
-                  let z : j ≡ k = omega (arith, ltb-false j k u) in
-                  clash (sym g ∙ rw z (sym f ∙ t))
-
   -- ## From row i on
 
   -- what was found before row i
@@ -146,8 +124,8 @@ module _ (p : Passage → Bool) (bs l : List ℕ) (n i : ℕ) (r : RowsPlaced bs
       ∙ ap (λ (vs : List Passage). vs ++ only p (rest l n i)) q
       )
 
-  -- the sweep may stop at a row that is entered after row i's end
-  pub swept-stop : (j : ℕ) (found : List Passage) → j < n → num l i 5 < num l j 3 → Swept p l n j found → found ≡ only p (rowsOf l n)
+  -- the sweep may stop at a row that is entered more than G after row i's end
+  pub swept-stop : (j : ℕ) (found : List Passage) → j < n → num l i 5 + G < num l j 3 → Swept p l n j found → found ≡ only p (rowsOf l n)
   swept-stop j found h e q =
       swept-all p l n j found
       (rows-none p l j (n - j) (λ t a c. near .after t (omega (arith, r .order j t a (omega arith), r .row t (omega arith) .early))))

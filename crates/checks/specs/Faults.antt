@@ -27,8 +27,8 @@ pub record RowStands (l : List ℕ) (i : ℕ) : Type 0 where
   pub small : num l i 0 < 8
 
 -- `checked` from question 12 on, and from question 11 on
-abbrev pub from12 : Table → ℕ → List Passage → Answer (List Passage)
-from12 T H S = faultOf 12 (first (crowded T H S) S) (accepted S)
+abbrev pub from12 : ℕ → Table → ℕ → List Passage → Answer (List Passage)
+from12 G T H S = faultOf 12 (first (crowded G T H S) S) (accepted S)
 
-abbrev pub from11 : Table → ℕ → List Passage → Answer (List Passage)
-from11 T H S = faultBy (unheardNumber T S) (first (unheard T H S) S) (from12 T H S)
+abbrev pub from11 : ℕ → Table → ℕ → List Passage → Answer (List Passage)
+from11 G T H S = faultBy (unheardNumber G T S) (first (unheard G T H S) S) (from12 G T H S)

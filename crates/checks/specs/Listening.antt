@@ -8,15 +8,17 @@ use mathlib.Core.Option.{none, some}
 use Prim.Native.Nat.{ℕ, _^_, _≤_, _<_}
 use lib.Bits.{bitOr}
 use lib.Count.{ones}
-use lib.Dec.{eqb, ltb}
+use lib.Dec.{eqb}
 use lib.ListN.{length, getD}
-use Rattle.model.specs.Lists.{first, only}
+use Rattle.model.specs.declared.Hearing.{Hearing}
+use Rattle.model.specs.declared.Hearing.the-variants.{Well}
+use Rattle.model.specs.Lists.{first}
 use Rattle.model.specs.Table.{Table}
 use Rattle.model.specs.Schedule.{Passage}
-use Rattle.model.specs.Checks.{mayHear, heardWell, unheard, crowded}
+use Rattle.model.specs.Checks.{mayHear, heardAs, unheard, crowded}
 use Rattle.rows.specs.Rows.{num, rowPassage, rowsOf}
-use Rattle.checks.specs.declared.SendsHeard.{SendsHeard}
-use Rattle.checks.specs.declared.SendsHeard.the-variants.{Apart, Shared, Unheard}
+use Rattle.checks.specs.declared.unheard.SendsHeard.{SendsHeard}
+use Rattle.checks.specs.declared.unheard.SendsHeard.the-variants.{Apart, Shared, Unheard}
 
 -- those that listen by more than one window, with one more window of component c, whose bit may be set already
 abbrev pub repeatedWith : ℕ → ℕ → ℕ → ℕ
@@ -41,13 +43,14 @@ pub record Noted (l : List ℕ) (n : ℕ) (found : List Passage) (listening repe
   pub masks : Masks l n found listening repeated rows
   pub room : length rows ≡ 8
 
--- one of n rows is the only one that may hear the send of row i, and it starts earlier and ends later; or n
-pub record ListenerIs (T : Table) (l : List ℕ) (n i found : ℕ) : Type 0 where
-  pub well : ltb found n ≡ heardWell (rowPassage l i) (only (λ v. mayHear T v (rowPassage l i)) (rowsOf l n))
-  pub alone : found < n → (j : ℕ) → j < n → mayHear T (rowPassage l j) (rowPassage l i) ≡ true → j ≡ found
+-- how n rows hear the send of row i; where well, that row is one of them, and the only one that may hear it
+pub record HeardIs (G : ℕ) (T : Table) (l : List ℕ) (n i : ℕ) (hearing : Hearing) (row : ℕ) : Type 0 where
+  pub told : hearing ≡ heardAs G T (rowsOf l n) (rowPassage l i)
+  pub there : hearing ≡ Well → row < n
+  pub alone : hearing ≡ Well → (j : ℕ) → j < n → mayHear G T (rowPassage l j) (rowPassage l i) ≡ true → j ≡ row
 
 -- what is told of 11 and 12
-abbrev pub HeardAs : Table → ℕ → List ℕ → ℕ → SendsHeard → Type 0
-HeardAs T H l n Apart = (none ≡ first (unheard T H (rowsOf l n)) (rowsOf l n)) × (none ≡ first (crowded T H (rowsOf l n)) (rowsOf l n))
-HeardAs T H l n Shared = none ≡ first (unheard T H (rowsOf l n)) (rowsOf l n)
-HeardAs T H l n (Unheard i) = (some (rowPassage l i) ≡ first (unheard T H (rowsOf l n)) (rowsOf l n)) × (i < n)
+abbrev pub HeardAs : ℕ → Table → ℕ → List ℕ → ℕ → SendsHeard → Type 0
+HeardAs G T H l n Apart = (none ≡ first (unheard G T H (rowsOf l n)) (rowsOf l n)) × (none ≡ first (crowded G T H (rowsOf l n)) (rowsOf l n))
+HeardAs G T H l n Shared = none ≡ first (unheard G T H (rowsOf l n)) (rowsOf l n)
+HeardAs G T H l n (Unheard i hearing) = (some (rowPassage l i) ≡ first (unheard G T H (rowsOf l n)) (rowsOf l n)) × (i < n) × (hearing ≡ heardAs G T (rowsOf l n) (rowPassage l i))

@@ -1,7 +1,7 @@
 -- A node whose words and variables are what they were is what it was. Assumes nothing.
 use mathlib.Core.Path.{_≡_, sym, ap, ap₂, _∙_}
 use mathlib.Core.List.{List}
-use Prim.Native.Nat.{ℕ, _≤_, _<_}
+use Prim.Native.Nat.{ℕ, _+_, _≤_, _<_}
 use native.Mathlib.Omega.{arith}
 use lib.IntN.{ℤ}
 use Rattle.model.specs.Machine
@@ -39,16 +39,22 @@ module _ {l : List ℕ} {v : List ℤ} {l′ : List ℕ} {v′ : List ℤ} {i : 
         held = rw (reg.same-held s) (a .held);
         within = rw (reg.same-node s) (a .within);
         row = rw (word 20 (omega arith), word 25 (omega arith)) (a .row);
-        due = word 26 (omega arith) ∙ (a .due ∙ sym (ap (λ (q : Rattle.model.specs.Machine.Node). dueTick q (standOf q)) (same-view program)));
+        wakes = rw (word 28 (omega arith)) (a .wakes);
+        due =
+            word 26 (omega arith)
+            ∙ (a .due
+            ∙ sym (ap₂ (λ (q : Rattle.model.specs.Machine.Node) (k : ℕ). dueTick q (standOf q) + k) (same-view program) (word 28 (omega arith))));
         last =
             word 27 (omega arith)
             ∙ (a .last
             ∙ sym
-            (ap₂ (λ (q : Rattle.model.specs.Machine.Node) (k : ℕ). lastTick q (readyAt (rowsOf rows n) k) (standOf q)) (same-view program) (word 25 (omega arith))));
+            (ap₂ (λ (x k : ℕ). x + k)
+            (ap₂ (λ (q : Rattle.model.specs.Machine.Node) (k : ℕ). lastTick q (readyAt (rowsOf rows n) k) (standOf q)) (same-view program) (word 25 (omega arith)))
+            (word 28 (omega arith))));
       }
 
 -- ## A higher bound
 
 pub stands-wider : {program rows : List ℕ} {n : ℕ} {l : List ℕ} {v : List ℤ} {c : ℕ} (m m′ : ℕ) → m ≤ m′ → NodeStands program rows n l v c m → NodeStands program rows n l v c m′
 stands-wider m m′ h a =
-    record { inside = a .inside; short = a .short; part = a .part; held = a .held; within = wider m m′ h (a .within); row = a .row; due = a .due; last = a .last }
+    record { inside = a .inside; short = a .short; part = a .part; held = a .held; within = wider m m′ h (a .within); row = a .row; wakes = a .wakes; due = a .due; last = a .last }

@@ -85,6 +85,11 @@ stands-there st c h = stands-wider 2000000000000000000 3000000000000000000 (omeg
 pub all-inside : {program rows : List ℕ} {n : ℕ} {l : List ℕ} {v : List ℤ} {count : ℕ} → Standing program rows n l v count → (i : ℕ) → i < count → Inside program l i
 all-inside st i h = record { inside = st .each i h .inside; short = st .each i h .short }
 
+-- what is asked of each node that may hear
+pub all-heard : {program rows : List ℕ} {n : ℕ} {l : List ℕ} {v : List ℤ} {count : ℕ} → Standing program rows n l v count → (i : ℕ) → i < count
+    → Inside program l i × (wordIn l i 1 ≤ 4000000000000000000) × (wordIn l i 28 ≤ 1000)
+all-heard st i h = (all-inside st i h, omega (arith, st .each i h .within .t), st .each i h .wakes)
+
 -- the op is what it was where only another node has moved
 pub op-still : (program : List ℕ) {l : List ℕ} {v : List ℤ} {l′ : List ℕ} {v′ : List ℤ} {i : ℕ} (k : ℕ) → SameNode l v l′ v′ i → opOf program l v i ≡ k → opOf program l′ v′ i ≡ k
 op-still program k s e =

@@ -15,7 +15,7 @@ use Rattle.model.specs.Network.{Observation, Work}
 use Rattle.model.specs.Machine.{Node, finish}
 use Rattle.model.specs.Run.{Counts, Setting, readyOfNth, Run, on, moved, finished, choose1, observationBytes}
 use Rattle.rows.specs.Rows.{rowsOf}
-use Rattle.registers.specs.Words.{wordIn, partIn}
+use Rattle.registers.specs.Words.{wordIn, partIn, wakeTickIn}
 use Rattle.machine.specs.declared.Moved.{Moved}
 use Rattle.machine.specs.Running.{countsAt, settingIn, viewIn, NodeStands, Running}
 use Rattle.machine.specs.Chosen.{NodeMoved, After}
@@ -37,11 +37,19 @@ module _ {program rows : List ℕ} {n : ℕ} {l : List ℕ} {v : List ℤ} {c : 
       go true e = rw (eqb-true i c e) (mv .fixed k a b)
       go false e = mv .others i (eqb-false i c e) .words k (omega arith)
 
+  wakes-same : (i : ℕ) → wakeTickIn l′ i ≡ wakeTickIn l i
+  wakes-same i = go (eqb i c) refl
+    where
+      go : (t : Bool) → eqb i c ≡ t → wakeTickIn l′ i ≡ wakeTickIn l i
+      go true e = rw (eqb-true i c e) (mv .wakes)
+      go false e = mv .others i (eqb-false i c e) .words 28 (omega arith)
+
   -- what the run goes by
   pub setting-moved : (H : ℕ) → settingIn program H rows n l′ count ≡ settingIn program H rows n l count
   setting-moved H =
-      ap (λ (ks : List Counts). record { program = program; horizon = H; counts = ks; ready = λ j k. readyOfNth (own j (rowsOf rows n)) k })
+      ap₂ (λ (ks : List Counts) (os : List ℕ). record { program = program; horizon = H; counts = ks; ready = λ j k. readyOfNth (own j (rowsOf rows n)) k; offsets = os })
       (same-below (countsAt l′) (countsAt l) count (λ i h. rw (held-same i 23 (omega arith) (omega arith), held-same i 24 (omega arith) (omega arith))))
+      (same-below (wakeTickIn l′) (wakeTickIn l) count (λ i h. wakes-same i))
 
   -- each stands, within bounds of its own
   pub stands-moved : (i m : ℕ) → NodeStands program rows n l v i m → NodeStands program rows n l′ v′ i (m + 131070)

@@ -44,6 +44,10 @@ module _ (program rows : List ℕ) (n : ℕ) (l : List ℕ) (v : List ℤ) (c : 
   kept : (k : ℕ) → k < 26 → wordIn l₃ c k ≡ wordIn l₁ c k
   kept k m = put-beside l₂ c 27 last b k (λ z. omega arith) ∙ put-beside l₁ c 26 due a k (λ z. omega arith)
 
+  -- when it wakes stays
+  kept-wake : wordIn l₃ c 28 ≡ wordIn l₁ c 28
+  kept-wake = put-beside l₂ c 27 last b 28 (λ z. omega arith) ∙ put-beside l₁ c 26 due a 28 (λ z. omega arith)
+
   node : nodeIn l₃ v₁ c ≡ q
   node = put-node l₂ c 27 last b v₁ (omega arith) ∙ put-node l₁ c 26 due a v₁ (omega arith) ∙ s .node
 
@@ -55,7 +59,8 @@ module _ (program rows : List ℕ) (n : ℕ) (l : List ℕ) (v : List ℤ) (c : 
       ∙ ap (nodeOf (partIn program l₁ c) (heldIn l₁ c)) node
 
   pub node-put : (p : List ℕ) (held : Counts) (next : ℕ) → p ≡ partIn program l₁ c → held ≡ heldIn l₁ c → next ≡ readyAt (rowsOf rows n) (wordIn l₁ c 25)
-      → due ≡ dueTick (nodeOf p held q) (standOf (nodeOf p held q)) → last ≡ lastTick (nodeOf p held q) next (standOf (nodeOf p held q))
+      → due ≡ dueTick (nodeOf p held q) (standOf (nodeOf p held q)) + wordIn l₁ c 28
+      → last ≡ lastTick (nodeOf p held q) next (standOf (nodeOf p held q)) + wordIn l₁ c 28
       → NodePut program rows n l v c q l₃ v₁
   node-put p held next ep eh en ed el =
       let same : nodeOf p held q ≡ viewIn program l₃ v₁ c = ap₂ (λ (x : List ℕ) (y : Counts). nodeOf x y q) ep eh ∙ sym view in
@@ -63,12 +68,13 @@ module _ (program rows : List ℕ) (n : ℕ) (l : List ℕ) (v : List ℤ) (c : 
       record {
         node = node;
         beside = λ k i m. kept k m ∙ s .beside k i (omega arith);
+        wakes = kept-wake ∙ s .beside 28 (omega arith) (omega arith);
         due =
             put-beside l₂ c 27 last b 26 (λ z. omega arith) ∙ put-there l₁ c 26 due a (eight₁ .words) h (omega arith) ∙ ed
-            ∙ ap (λ (x : Rattle.model.specs.Machine.Node). dueTick x (standOf x)) same;
+            ∙ ap₂ (λ (x : Rattle.model.specs.Machine.Node) (k : ℕ). dueTick x (standOf x) + k) same (sym kept-wake);
         last =
             put-there l₂ c 27 last b (eight₂ .words) h (omega arith) ∙ el
-            ∙ ap₂ (λ (x : Rattle.model.specs.Machine.Node) (m : ℕ). lastTick x m (standOf x)) same ready;
+            ∙ ap₂ (λ (x k : ℕ). x + k) (ap₂ (λ (x : Rattle.model.specs.Machine.Node) (m : ℕ). lastTick x m (standOf x)) same ready) (sym kept-wake);
         others = λ i d.
             same-trans (s .others i d)
             (same-trans (put-others l₁ c 26 due a v₁ i d (omega arith)) (put-others l₂ c 27 last b v₁ i d (omega arith)));
@@ -80,9 +86,10 @@ pub node-noted : {program rows : List ℕ} {n : ℕ} {l : List ℕ} {v : List �
     → Eight l v → c < 8 → Stored l v c q l₁ v₁ → p ≡ partIn program l₁ c → Noted p rows n l₁ c l₃ → NodePut program rows n l v c q l₃ v₁
 node-noted {program} {rows} {n} {l} {v} {c} {q} {l₁} {v₁} {l₃} {p} e h s ep w =
     let held = heldIn l₁ c in
-    node-put program rows n l v c q l₁ v₁ (w .due) (w .last) e h s (set l₁ (c * 32 + 26) (w .due)) l₃ refl (w .put) p held (readyAt (rowsOf rows n) (wordIn l₁ c 25)) ep refl refl
-    (w .dues held v₁ ∙ ap (λ (x : Node). dueTick (nodeOf p held x) (standOf (nodeOf p held x))) (s .node))
-    (w .lasts held v₁ ∙ ap (λ (x : Node). lastTick (nodeOf p held x) (readyAt (rowsOf rows n) (wordIn l₁ c 25)) (standOf (nodeOf p held x))) (s .node))
+    let wake = wordIn l₁ c 28 in
+    node-put program rows n l v c q l₁ v₁ (w .due + wake) (w .last + wake) e h s (set l₁ (c * 32 + 26) (w .due + wake)) l₃ refl (w .put) p held (readyAt (rowsOf rows n) (wordIn l₁ c 25)) ep refl refl
+    (ap (λ (x : ℕ). x + wake) (w .dues held v₁ ∙ ap (λ (x : Node). dueTick (nodeOf p held x) (standOf (nodeOf p held x))) (s .node)))
+    (ap (λ (x : ℕ). x + wake) (w .lasts held v₁ ∙ ap (λ (x : Node). lastTick (nodeOf p held x) (readyAt (rowsOf rows n) (wordIn l₁ c 25)) (standOf (nodeOf p held x))) (s .node)))
 
 -- what `note` asks of node c, whose registers are q
 pub place-stored : {l : List ℕ} {v : List ℤ} {c : ℕ} {q : Node} {l₁ : List ℕ} {v₁ : List ℤ} → Stored l v c q l₁ v₁ → q .pc ≡ wordIn l₁ c 0
@@ -90,6 +97,9 @@ place-stored s = sym (ap (λ (x : Node). x .pc) (s .node))
 
 pub time-stored : {l : List ℕ} {v : List ℤ} {c : ℕ} {q : Node} {l₁ : List ℕ} {v₁ : List ℤ} → Stored l v c q l₁ v₁ → Within 4000000000000000000 q → wordIn l₁ c 1 ≤ 4000000000000000000
 time-stored {q = q} s w = let e = ap (λ (x : Node). x .t) (s .node) in omega (arith, e, w .t)
+
+pub wake-stored : {l : List ℕ} {v : List ℤ} {c : ℕ} {q : Node} {l₁ : List ℕ} {v₁ : List ℤ} → Stored l v c q l₁ v₁ → wordIn l c 28 ≤ 1000 → wordIn l₁ c 28 ≤ 1000
+wake-stored s w = rw (s .beside 28 (omega arith) (omega arith)) w
 
 -- ## Moved
 
@@ -116,6 +126,9 @@ module _ (program rows : List ℕ) (n : ℕ) (l : List ℕ) (v : List ℤ) (c : 
   fixed : (k : ℕ) → 21 ≤ k → k < 25 → wordIn l′ c k ≡ wordIn l c k
   fixed k a b = p .beside k a (omega arith) ∙ w .beside k (omega arith) (λ z. omega arith)
 
+  wakes-same : wordIn l′ c 28 ≡ wordIn l c 28
+  wakes-same = p .wakes ∙ w .beside 28 (omega arith) (λ z. omega arith)
+
   held-same : heldIn l′ c ≡ heldIn l c
   held-same = held-alike l l′ c fixed
 
@@ -138,6 +151,7 @@ module _ (program rows : List ℕ) (n : ℕ) (l : List ℕ) (v : List ℤ) (c : 
         held = subst Held (sym held-same) (s .held);
         within = subst (Within (m + 131070)) (sym (p .node)) (g m (s .within));
         row = row-now (s .row);
+        wakes = rw wakes-same (s .wakes);
         due = p .due;
         last = p .last;
       }
@@ -150,6 +164,7 @@ module _ (program rows : List ℕ) (n : ℕ) (l : List ℕ) (v : List ℤ) (c : 
             ∙ ap (nodeOf (partIn program l c) (heldIn l c)) (p .node) ∙ e;
         stands = stands-now;
         fixed = fixed;
+        wakes = wakes-same;
         others = λ i d. same-trans (record { words = λ k b. w .others i k d b; values = λ k b. refl }) (p .others i d);
         eight = p .eight;
       }
@@ -253,6 +268,7 @@ pub record Passed (program l : List ℕ) (v : List ℤ) (c base size op : ℕ) (
   pub within : Within 4000000000000000000 (nodeIn l₁ v c)
   pub addable : Addable (drop (wordIn l₁ c 0) (lent program base size)) (heldIn l₁ c) (nodeIn l₁ v c)
   pub op-is : op ≡ opIn (drop (wordIn l₁ c 0) (lent program base size))
+  pub wakes : wordIn l₁ c 28 ≤ 1000
   -- the registers, the counts and the part are what they were
   pub node : nodeIn l₁ v c ≡ nodeIn l v c
   pub counts : heldIn l₁ c ≡ heldIn l c
@@ -281,6 +297,7 @@ passes program rows n l v c base size op l₁ b z e s o a way =
           (subst (λ (k : Counts). Addable (drop (wordIn l c 0) (partIn program l c)) k (nodeIn l₁ v c)) (sym counts)
           (subst (λ (x : Node). Addable (drop (wordIn l c 0) (partIn program l c)) (heldIn l c) x) (sym node) a)));
       op-is = o ∙ ap₂ (λ (i : ℕ) (x : List ℕ). opIn (drop i x)) (sym at) (sym bytes);
+      wakes = rw (same 28 (omega arith) (λ t. omega arith)) (s .wakes);
       node = node;
       counts = counts;
       part = bytes ∙ sym (part-alike program l l₁ c fixed);

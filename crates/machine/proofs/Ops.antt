@@ -2,18 +2,20 @@
 use mathlib.Core.Path.{_≡_, refl, sym, ap, _∙_}
 use mathlib.Core.Bool.{Bool, true, false}
 use mathlib.Core.List.{List}
-use Prim.Native.Nat.{ℕ}
+use Prim.Native.Nat.{ℕ, _≤_}
+use native.Mathlib.Omega.{arith}
 use borrow.Author.Tests.{eqb-true, eqb-false}
 use lib.Dec.{eqb}
 use lib.ListN.{drop}
 use Rattle.model.specs.Reader.{byte}
-use Rattle.model.specs.Run.{Stand, sleeping, sending, listening, finishing, adding, working, taking, elsewhere, nowhere, standAt, standOf, names}
+use Rattle.model.specs.Machine
+use Rattle.model.specs.Run.{Stand, sleeping, sending, listening, finishing, adding, working, taking, elsewhere, nowhere, standAt, standOf, windowEnd, names}
 use Rattle.model.proofs.Basics.Bools.{clash}
 use Rattle.node.specs.declared.Counts.{Counts}
 use Rattle.node.specs.declared.Node.{Node}
 use Rattle.node.specs.Views.{restAt, opIn, nodeOf, Addable}
 use Rattle.node.proofs.Ops.{stand-op}
-use Rattle.stand.specs.Stands.{mayFinish}
+use Rattle.stand.specs.Stands.{mayFinish, never, dueTick, lastTick}
 use Rattle.stand.proofs.ByOp.{Sort, sleeps, works, adds, ends, sends, listens, takes, between, lost, sort-is, unnamed}
 
 -- it neither sleeps nor sends
@@ -65,3 +67,28 @@ module _ (p : List ℕ) (at : ℕ) where
 pub addable : (p : List ℕ) (held : Counts) (r : Node) (tick : ℕ) → mayFinish tick (nodeOf p held r) (standOf (nodeOf p held r)) ≡ true → Addable (drop (r .pc) p) held r
 addable p held r tick e =
     record { fits = λ o. sym (ap (mayFinish tick (nodeOf p held r)) (stand-op p (r .pc) 2 o)) ∙ e }
+
+-- ## Ticks
+
+-- when a node is due, and when it is late, is no later than never
+pub due-most : (r : Rattle.model.specs.Machine.Node) (x : Stand) → windowEnd r ≤ never → dueTick r x ≤ never
+due-most r sleeping h = omega arith
+due-most r (sending k) h = omega arith
+due-most r (listening qs) h = h
+due-most r finishing h = omega arith
+due-most r (adding v z) h = omega arith
+due-most r working h = omega arith
+due-most r taking h = omega arith
+due-most r elsewhere h = omega arith
+due-most r nowhere h = omega arith
+
+pub last-most : (r : Rattle.model.specs.Machine.Node) (next : ℕ) (x : Stand) → windowEnd r ≤ never → next ≤ never → lastTick r next x ≤ never
+last-most r next sleeping h k = omega arith
+last-most r next (sending a) h k = h
+last-most r next (listening qs) h k = h
+last-most r next finishing h k = h
+last-most r next (adding v z) h k = h
+last-most r next working h k = h
+last-most r next taking h k = k
+last-most r next elsewhere h k = k
+last-most r next nowhere h k = k

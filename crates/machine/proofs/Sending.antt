@@ -13,7 +13,7 @@ use Rattle.model.specs.Reader.{byte}
 use Rattle.model.specs.Machine.{Node, partBytes, finish}
 use Rattle.model.specs.Run.{Setting, Run, on, nodeOf, standOf, listeners, takesMessage, messaged, finished, sent, finishes, choose1}
 use Rattle.model.proofs.Basics.Bools.{clash}
-use Rattle.registers.specs.Words.{wordIn, partIn}
+use Rattle.registers.specs.Words.{wordIn, partIn, wakeTickIn}
 use Rattle.machine.specs.Running.{settingIn, viewIn, NodeStands, Running}
 use Rattle.machine.specs.Chosen.{opOf, NodeMoved, After, Chosen}
 use Rattle.machine.proofs.Numbered.{first-none, first-some}
@@ -23,7 +23,7 @@ use Rattle.machine.proofs.Ops.{stands-sending}
 use Rattle.machine.proofs.Choices.{chosen-node}
 use Rattle.machine.proofs.Hearing.{node-at, all-nodes, Found}
 use Rattle.machine.proofs.Moves.{nodes-moved, setting-moved, stands-moved, finished-is}
-use Rattle.machine.proofs.Alone.{kept-all}
+use Rattle.machine.proofs.Alone.{kept-all, offset-at}
 
 -- two nodes moved, one after the other
 module _ {program rows : List ℕ} {n : ℕ} (H count k : ℕ) {c i : ℕ} {l : List ℕ} {v : List ℤ} {l′ : List ℕ} {v′ : List ℤ} {l″ : List ℕ} {v″ : List ℤ}
@@ -73,22 +73,25 @@ module _ {program rows : List ℕ} {n : ℕ} (H count k : ℕ) {c i : ℕ} {l : 
       }
 
 module _ (program rows : List ℕ) (n H count tick c : ℕ) (l : List ℕ) (v : List ℤ) (out : List ℕ) (written : ℕ) (most : count ≤ 8) (h : c < count)
-    (o : opOf program l v c ≡ 4) (k : ℕ) (on-channel : k ≡ byte (drop (wordIn l c 0) (partIn program l c)) 1) where
-  sends-by : (s : Run) → Running program rows n l v count s → choose1 (settingIn program H rows n l count) s c ≡ sent (settingIn program H rows n l count) s c k (listeners s c k)
-  sends-by s r =
-      chosen-node (settingIn program H rows n l count) s c (omega arith) (omega (arith, all-nodes program l v count s (r .nodes)))
+    (wake : wakeTickIn l c ≤ tick) (o : opOf program l v c ≡ 4) (k : ℕ) (on-channel : k ≡ byte (drop (wordIn l c 0) (partIn program l c)) 1) where
+  abbrev G : Setting
+  G = settingIn program H rows n l count
+
+  sends-by : (s : Run) → Running program rows n l v count s → s .tick ≡ tick → choose1 G s c ≡ sent G s c k (listeners G s c k)
+  sends-by s r t =
+      chosen-node G s c (omega arith) (omega (arith, all-nodes program l v count s (r .nodes))) (omega (arith, t, wake, offset-at program H rows n l count c h))
       ∙ (ap (λ (x : Node). finishes (settingIn program H rows n l count) s c (standOf x)) (node-at program l v count s (r .nodes) c h)
       ∙ (ap (finishes (settingIn program H rows n l count) s c) (stands-sending (partIn program l c) (wordIn l c 0) o)
-      ∙ ap (λ (a : ℕ). sent (settingIn program H rows n l count) s c a (listeners s c a)) (sym on-channel)))
+      ∙ ap (λ (a : ℕ). sent G s c a (listeners G s c a)) (sym on-channel)))
 
   -- no node hears it
   pub unheard : (i : ℕ) → 8 ≤ i → Found program l k count c i → Chosen program rows n H count tick c l v out written (record { allowed = false; written = written }) l v out
   unheard i b f =
       kept-all program rows n H count tick c l v out written
-      (λ s r t. sends-by s r ∙ ap (sent (settingIn program H rows n l count) s c k) (nobody s r))
+      (λ s r t. sends-by s r t ∙ ap (sent (settingIn program H rows n l count) s c k) (nobody s r))
     where
-      nobody : (s : Run) → Running program rows n l v count s → listeners s c k ≡ []
-      nobody s r = first-none _ (length (s .nodes)) i (omega (arith, all-nodes program l v count s (r .nodes))) b (f .0 v s (r .nodes))
+      nobody : (s : Run) → Running program rows n l v count s → listeners G s c k ≡ []
+      nobody s r = first-none _ (length (s .nodes)) i (omega (arith, all-nodes program l v count s (r .nodes))) b (f .0 v G s refl (r .nodes))
 
   -- node i hears it
   pub taken : (i : ℕ) → i < 8 → Found program l k count c i → {l′ : List ℕ} {v′ : List ℤ} {l″ : List ℕ} {v″ : List ℤ}
@@ -100,15 +103,15 @@ module _ (program rows : List ℕ) (n H count tick c : ℕ) (l : List ℕ) (v : 
       record {
         refuses = λ e. clash (sym e);
         keeps = λ e. clash (sym e);
-        allows = λ e s r t. after-message H count k mv hv h (w .0) (w .1) s r out written (goes s r);
+        allows = λ e s r t. after-message H count k mv hv h (w .0) (w .1) s r out written (goes s r t);
         finished = λ e. same-view (hv .others c (λ z. w .1 (sym z))) program ∙ mv .view;
         alone = λ p. absurd (p o);
         two = (i, λ j a d. same-trans (mv .others j a) (hv .others j d));
       }
     where
-      goes : (s : Run) → Running program rows n l v count s
+      goes : (s : Run) → Running program rows n l v count s → s .tick ≡ tick
           → choose1 (settingIn program H rows n l count) s c
           ≡ on (messaged s c (finished (settingIn program H rows n l count) s c) i (takesMessage (partBytes program i) k (nodeOf s i)) k)
-      goes s r =
-          let x = first-some (listeners s c k) i b (f .0 v s (r .nodes)) in
-          sends-by s r ∙ ap (sent (settingIn program H rows n l count) s c k) (x .1)
+      goes s r t =
+          let x = first-some (listeners G s c k) i b (f .0 v G s refl (r .nodes)) in
+          sends-by s r t ∙ ap (sent (settingIn program H rows n l count) s c k) (x .1)

@@ -16,7 +16,7 @@ use Rattle.node.specs.declared.Counts.{Counts}
 use Rattle.node.specs.declared.Node.{Node}
 use Rattle.node.specs.Views.{opIn, nodeOf}
 use Rattle.stand.specs.Stands.{dueTick, lastTick}
-use Rattle.registers.specs.Words.{wordIn, nodeIn, partIn, Eight, SameNode, placeIn, readyTickIn, partStart, partLength, rowIn, dueIn, lastIn}
+use Rattle.registers.specs.Words.{wordIn, nodeIn, partIn, Eight, SameNode, placeIn, readyTickIn, partStart, partLength, rowIn, dueIn, lastIn, wakeTickIn}
 use Rattle.machine.specs.declared.Moved.{Moved}
 use Rattle.machine.specs.Running.{RowIs, readyAt, settingIn, viewIn, NodeStands, Running}
 
@@ -35,14 +35,16 @@ pub record Noted (p rows : List ℕ) (n : ℕ) (l : List ℕ) (c : ℕ) (l′ : 
   pub last : ℕ
   pub dues : (held : Counts) (v : List ℤ) → due ≡ dueTick (nodeOf p held (nodeIn l v c)) (standOf (nodeOf p held (nodeIn l v c)))
   pub lasts : (held : Counts) (v : List ℤ) → last ≡ lastTick (nodeOf p held (nodeIn l v c)) (readyAt (rowsOf rows n) (rowIn l c)) (standOf (nodeOf p held (nodeIn l v c)))
-  pub put : l′ ≡ set (set l (c * 32 + 26) due) (c * 32 + 27) last
+  -- by the common tick
+  pub put : l′ ≡ set (set l (c * 32 + 26) (due + wakeTickIn l c)) (c * 32 + 27) (last + wakeTickIn l c)
 
 -- node c's registers are q, and it is noted when it is due and when it is late; all of any other node is as it was
 pub record NodePut (program rows : List ℕ) (n : ℕ) (l : List ℕ) (v : List ℤ) (c : ℕ) (q : Node) (l′ : List ℕ) (v′ : List ℤ) : Type 0 where
   pub node : nodeIn l′ v′ c ≡ q
   pub beside : (k : ℕ) → 21 ≤ k → k < 26 → wordIn l′ c k ≡ wordIn l c k
-  pub due : dueIn l′ c ≡ dueTick (viewIn program l′ v′ c) (standOf (viewIn program l′ v′ c))
-  pub last : lastIn l′ c ≡ lastTick (viewIn program l′ v′ c) (readyAt (rowsOf rows n) (rowIn l′ c)) (standOf (viewIn program l′ v′ c))
+  pub wakes : wakeTickIn l′ c ≡ wakeTickIn l c
+  pub due : dueIn l′ c ≡ dueTick (viewIn program l′ v′ c) (standOf (viewIn program l′ v′ c)) + wakeTickIn l′ c
+  pub last : lastIn l′ c ≡ lastTick (viewIn program l′ v′ c) (readyAt (rowsOf rows n) (rowIn l′ c)) (standOf (viewIn program l′ v′ c)) + wakeTickIn l′ c
   pub others : (i : ℕ) → (i ≡ c → ⊥) → SameNode l v l′ v′ i
   pub eight : Eight l′ v′
 
@@ -63,10 +65,11 @@ pub record NodeMoved (program rows : List ℕ) (n : ℕ) (l : List ℕ) (v : Lis
   pub view : viewIn program l′ v′ c ≡ q
   pub stands : (m : ℕ) → NodeStands program rows n l v c m → NodeStands program rows n l′ v′ c (m + 131070)
   pub fixed : (k : ℕ) → 21 ≤ k → k < 25 → wordIn l′ c k ≡ wordIn l c k
+  pub wakes : wakeTickIn l′ c ≡ wakeTickIn l c
   pub others : (i : ℕ) → (i ≡ c → ⊥) → SameNode l v l′ v′ i
   pub eight : Eight l′ v′
 
--- node c sleeps until now, so that an observation is written if it goes on
+-- node c sleeps until now, by its own clock, so that an observation is written if it goes on
 abbrev pub observesNow : List ℕ → List ℕ → List ℤ → ℕ → ℕ → Bool
 observesNow program l v c tick = eqb (opOf program l v c) 0 && eqb tick (readyTickIn l c)
 

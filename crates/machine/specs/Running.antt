@@ -14,7 +14,7 @@ use Rattle.model.specs.Run.{Counts, Setting, readyOfNth, Run, standOf}
 use Rattle.rows.specs.Rows.{rowsOf}
 use Rattle.node.specs.Views.{nodeOf, Held, Within}
 use Rattle.stand.specs.Stands.{never, dueTick, lastTick}
-use Rattle.registers.specs.Words.{nodeIn, partIn, heldIn, Eight, partStart, partLength, rowIn, dueIn, lastIn}
+use Rattle.registers.specs.Words.{nodeIn, partIn, heldIn, Eight, partStart, partLength, rowIn, dueIn, lastIn, wakeTickIn}
 
 -- ## Rows of the schedule
 
@@ -46,6 +46,7 @@ settingIn program H rows n l count =
       horizon = H;
       counts = map (countsAt l) (below count);
       ready = λ c k. readyOfNth (own c (rowsOf rows n)) k;
+      offsets = map (wakeTickIn l) (below count);
     }
 
 -- node c
@@ -60,8 +61,10 @@ pub record NodeStands (program rows : List ℕ) (n : ℕ) (l : List ℕ) (v : Li
   pub held : Held (heldIn l c)
   pub within : Within m (nodeIn l v c)
   pub row : RowIs (rowsOf rows n) c (nodeIn l v c .sleeps) (rowIn l c)
-  pub due : dueIn l c ≡ dueTick (viewIn program l v c) (standOf (viewIn program l v c))
-  pub last : lastIn l c ≡ lastTick (viewIn program l v c) (readyAt (rowsOf rows n) (rowIn l c)) (standOf (viewIn program l v c))
+  pub wakes : wakeTickIn l c ≤ 1000
+  -- by the common tick: as much later as the node wakes
+  pub due : dueIn l c ≡ dueTick (viewIn program l v c) (standOf (viewIn program l v c)) + wakeTickIn l c
+  pub last : lastIn l c ≡ lastTick (viewIn program l v c) (readyAt (rowsOf rows n) (rowIn l c)) (standOf (viewIn program l v c)) + wakeTickIn l c
 
 -- the slices hold so many nodes
 pub record Standing (program rows : List ℕ) (n : ℕ) (l : List ℕ) (v : List ℤ) (count : ℕ) : Type 0 where

@@ -3,18 +3,18 @@
 ghost use mathlib.Core.Path.{_≡_};
 ghost use mathlib.Core.Bool.{true, _&&_};
 ghost use mathlib.Core.List.{List, map};
-ghost use Prim.Native.Nat.{ℕ, _+_, _*_, _≤_, _<_};
+ghost use Prim.Native.Nat.{ℕ, _+_, _-_, _*_, _≤_, _<_};
 ghost use lib.Dec.{leb};
 ghost use lib.IntN.{ℤ};
-ghost use lib.ListN.{length, drop};
+ghost use lib.ListN.{length, drop, set};
 ghost use Rattle.model.specs.Lists.{isNone, below};
 ghost use Rattle.model.specs.Schedule.{own};
 ghost use Rattle.model.specs.Machine.{finish};
-ghost use Rattle.model.specs.Run.{Run, standOf, names, listeners, takesMessage};
+ghost use Rattle.model.specs.Run.{Setting, Run, standOf, names, listeners, takesMessage};
 ghost use Rattle.rows.specs.Rows.{num, rowsOf};
 ghost use Rattle.node.specs.Views.{Held, Within, opIn, Addable};
-ghost use Rattle.stand.specs.Stands.{mayFinish};
-ghost use Rattle.registers.specs.Words.{nodeIn, partIn, heldIn, Eight, placeIn, readyTickIn};
+ghost use Rattle.stand.specs.Stands.{never, mayFinish};
+ghost use Rattle.registers.specs.Words.{nodeIn, partIn, heldIn, Eight, placeIn, readyTickIn, wakeTickIn};
 ghost use Rattle.machine.specs.Running.{RowsStand, readyAt, viewIn, NodeStands, Standing};
 ghost use Rattle.machine.specs.Chosen.{opOf, Inside, Noted, NodePut, RowPassed, IsFirst, NodeMoved, observesNow, Chosen};
 use model::op;
@@ -44,7 +44,7 @@ pub fn next_row(rows: &[u32], passages: usize, c: usize, from: usize) -> usize
 // The ready of a row; past the last row a tick that no run reaches.
 fn next_ready(rows: &[u32], passages: usize, row: usize) -> u64
     requires { ⌜ RowsStand (now rows) passages ⌝ }
-    ensures { λ r. ⌜ r ≡ readyAt (rowsOf (now (rows .entry)) passages) row ⌝ }
+    ensures { λ r. ⌜ (r ≡ readyAt (rowsOf (now (rows .entry)) passages) row) × (r ≤ never) ⌝ }
 {
     if row < passages {
         return rows::number(rows, row, rows::READY) as u64;
@@ -52,9 +52,19 @@ fn next_ready(rows: &[u32], passages: usize, row: usize) -> u64
     stand::NEVER
 }
 
+// Puts when node c is due and when it is late, by its own clock, into its words, by the common tick: as much later as it wakes.
+fn put_ticks(words: &mut [u64], c: usize, due: u64, last: u64)
+    requires { ⌜ (256 ≤ length (now words)) × (c < 8) × (wakeTickIn (now words) c ≤ 1000) × (due ≤ never) × (last ≤ never) ⌝ }
+    ensures { λ _. ⌜ now (words .exit) ≡ set (set (now (words .entry)) (c * 32 + 26) (due + wakeTickIn (now (words .entry)) c)) (c * 32 + 27) (last + wakeTickIn (now (words .entry)) c) ⌝ }
+{
+    let wake = registers::word(words, c, registers::WAKE_TICK);
+    registers::put_word(words, c, registers::DUE, due + wake);
+    registers::put_word(words, c, registers::LAST, last + wake);
+}
+
 // Notes when node c is due and when it is late; the part is its own, and its next statement stands at that place.
 fn note(part: &[u8], rows: &[u32], passages: usize, words: &mut [u64], c: usize, pc: usize)
-    requires { ⌜ (256 ≤ length (now words)) × RowsStand (now rows) passages × (c < 8) × (readyTickIn (now words) c ≤ 4000000000000000000) × (pc ≡ placeIn (now words) c) ⌝ }
+    requires { ⌜ (256 ≤ length (now words)) × RowsStand (now rows) passages × (c < 8) × (readyTickIn (now words) c ≤ 4000000000000000000) × (pc ≡ placeIn (now words) c) × (wakeTickIn (now words) c ≤ 1000) ⌝ }
     ensures { λ _. ⌜ Noted (now (part .entry)) (now (rows .entry)) passages (now (words .entry)) c (now (words .exit)) ⌝ }
 {
     let op = node::op_at(part, pc);
@@ -67,8 +77,7 @@ fn note(part: &[u8], rows: &[u32], passages: usize, words: &mut [u64], c: usize,
     );
     let due = stand::due_by(op, ready, window);
     let last = stand::last_by(op, ready, window, next);
-    registers::put_word(words, c, registers::DUE, due);
-    registers::put_word(words, c, registers::LAST, last);
+    put_ticks(words, c, due, last);
 }
 
 // Puts the registers of node c back, and notes when it is due and when it is late.
@@ -81,7 +90,7 @@ pub fn put_node(
     c: usize,
     next: Node,
 )
-    requires { ⌜ Eight (now words) (now values) × RowsStand (now rows) passages × (c < 8) × Inside (now program) (now words) c × Within 4000000000000000000 next ⌝ }
+    requires { ⌜ Eight (now words) (now values) × RowsStand (now rows) passages × (c < 8) × Inside (now program) (now words) c × Within 4000000000000000000 next × (wakeTickIn (now words) c ≤ 1000) ⌝ }
     ensures { λ _. ⌜ NodePut (now (program .entry)) (now (rows .entry)) passages (now (words .entry)) (now (values .entry)) c next (now (words .exit)) (now (values .exit)) ⌝ }
 {
     registers::store(words, values, c, next);
@@ -144,12 +153,21 @@ fn hear(
     put_node(program, rows, passages, words, values, i, next);
 }
 
-// Whether node i stands at a listen that names the channel, has taken nothing, and has listened since that tick or longer.
-fn hears(program: &[u8], words: &[u64], i: usize, ready: u64, channel: u8) -> bool
-    requires { ⌜ (256 ≤ length (now words)) × (i < 8) × Inside (now program) (now words) i ⌝ }
-    ensures { λ r. ⌜ ((values : List ℤ) → r ≡ names channel (standOf (viewIn (now (program .entry)) (now (words .entry)) values i)) && isNone (viewIn (now (program .entry)) (now (words .entry)) values i .goes) && leb (readyTickIn (now (words .entry)) i) ready) ⌝ }
+// The common tick at which the window of node c began.
+fn began(words: &[u64], c: usize) -> u64
+    requires { ⌜ (256 ≤ length (now words)) × (c < 8) × (readyTickIn (now words) c ≤ 4000000000000000000) × (wakeTickIn (now words) c ≤ 1000) ⌝ }
+    ensures { λ r. ⌜ r ≡ readyTickIn (now (words .entry)) c + wakeTickIn (now (words .entry)) c ⌝ }
 {
-    if ready < registers::word(words, i, registers::READY_TICK) {
+    registers::word(words, c, registers::READY_TICK)
+        + registers::word(words, c, registers::WAKE_TICK)
+}
+
+// Whether node i stands at a listen that names the channel, has taken nothing, and has listened since that common tick or longer.
+fn hears(program: &[u8], words: &[u64], i: usize, since: u64, channel: u8) -> bool
+    requires { ⌜ (256 ≤ length (now words)) × (i < 8) × Inside (now program) (now words) i × (readyTickIn (now words) i ≤ 4000000000000000000) × (wakeTickIn (now words) i ≤ 1000) ⌝ }
+    ensures { λ r. ⌜ ((values : List ℤ) → r ≡ names channel (standOf (viewIn (now (program .entry)) (now (words .entry)) values i)) && isNone (viewIn (now (program .entry)) (now (words .entry)) values i .goes) && leb (readyTickIn (now (words .entry)) i + wakeTickIn (now (words .entry)) i) since) ⌝ }
+{
+    if since < began(words, i) {
         return false;
     }
     if registers::word(words, i, registers::TAKEN) == 1 {
@@ -163,14 +181,14 @@ fn hears(program: &[u8], words: &[u64], i: usize, ready: u64, channel: u8) -> bo
 
 // The lowest node that hears a send of node c on the channel, 8 where there is none.
 fn listener(program: &[u8], words: &[u64], count: usize, c: usize, channel: u8) -> usize
-    requires { ⌜ (256 ≤ length (now words)) × (count ≤ 8) × (c < count) × ((i : ℕ) → i < count → Inside (now program) (now words) i) ⌝ }
-    ensures { λ r. ⌜ ((values : List ℤ) (s : Run) → s .nodes ≡ map (viewIn (now (program .entry)) (now (words .entry)) values) (below count) → IsFirst (listeners s c channel) r) × (r < 8 → (r < count) × ((r ≡ c) → ⊥) × (opIn (drop (placeIn (now (words .entry)) r) (partIn (now (program .entry)) (now (words .entry)) r)) ≡ 5)) ⌝ }
+    requires { ⌜ (256 ≤ length (now words)) × (count ≤ 8) × (c < count) × ((i : ℕ) → i < count → Inside (now program) (now words) i × (readyTickIn (now words) i ≤ 4000000000000000000) × (wakeTickIn (now words) i ≤ 1000)) ⌝ }
+    ensures { λ r. ⌜ ((values : List ℤ) (g : Setting) (s : Run) → g .offsets ≡ map (wakeTickIn (now (words .entry))) (below count) → s .nodes ≡ map (viewIn (now (program .entry)) (now (words .entry)) values) (below count) → IsFirst (listeners g s c channel) r) × (r < 8 → (r < count) × ((r ≡ c) → ⊥) × (opIn (drop (placeIn (now (words .entry)) r) (partIn (now (program .entry)) (now (words .entry)) r)) ≡ 5)) ⌝ }
 {
-    let ready = registers::word(words, c, registers::READY_TICK);
+    let since = began(words, c);
     let mut i: usize = 0;
     while i < count {
         if i != c {
-            if hears(program, words, i, ready, channel) {
+            if hears(program, words, i, since, channel) {
                 return i;
             }
         }
@@ -190,7 +208,7 @@ fn send_message(
     c: usize,
 ) -> bool
     requires { ⌜ Standing (now program) (now rows) passages (now words) (now values) count × (c < count) × (opOf (now program) (now words) (now values) c ≡ 4) ⌝ }
-    ensures { λ r. ⌜ ((H tick written : ℕ) (out : List ℕ) → Chosen (now (program .entry)) (now (rows .entry)) passages H count tick c (now (words .entry)) (now (values .entry)) out written (record { allowed = r; written = written }) (now (words .exit)) (now (values .exit)) out) ⌝ }
+    ensures { λ r. ⌜ ((H tick written : ℕ) (out : List ℕ) → wakeTickIn (now (words .entry)) c ≤ tick → Chosen (now (program .entry)) (now (rows .entry)) passages H count tick c (now (words .entry)) (now (values .entry)) out written (record { allowed = r; written = written }) (now (words .exit)) (now (values .exit)) out) ⌝ }
 {
     let base = registers::word(words, c, registers::PART_START) as usize;
     let end = base + registers::word(words, c, registers::PART_LENGTH) as usize;
@@ -225,7 +243,7 @@ fn may_finish(program: &[u8], words: &[u64], values: &[i16], c: usize, op: u8, t
     stand::may_by(op, tick, ready, window, kept, true)
 }
 
-// Node c, which does not stand at a send, finishes its statement if it may; a sleep is observed.
+// Node c, which does not stand at a send, finishes its statement if it may at that tick of its own clock; a sleep is observed.
 fn go_alone(
     program: &[u8],
     rows: &[u32],
@@ -240,7 +258,7 @@ fn go_alone(
     written: usize,
 ) -> Moved
     requires { ⌜ Standing (now program) (now rows) passages (now words) (now values) count × (c < count) × (op ≡ opOf (now program) (now words) (now values) c) × (opOf (now program) (now words) (now values) c ≡ 4 → ⊥) × (observesNow (now program) (now words) (now values) c tick ≡ true → written * 32 + 32 ≤ length (now out)) × (written ≤ 1000000) ⌝ }
-    ensures { λ moved. ⌜ ((H : ℕ) → Chosen (now (program .entry)) (now (rows .entry)) passages H count tick c (now (words .entry)) (now (values .entry)) (now (out .entry)) written moved (now (words .exit)) (now (values .exit)) (now (out .exit))) ⌝ }
+    ensures { λ moved. ⌜ ((H common : ℕ) → wakeTickIn (now (words .entry)) c ≤ common → tick ≡ common - wakeTickIn (now (words .entry)) c → Chosen (now (program .entry)) (now (rows .entry)) passages H count common c (now (words .entry)) (now (values .entry)) (now (out .entry)) written moved (now (words .exit)) (now (values .exit)) (now (out .exit))) ⌝ }
 {
     if !may_finish(program, words, values, c, op, tick) {
         return Moved {
@@ -265,7 +283,7 @@ fn go_alone(
     }
 }
 
-// A choice: a node's number.
+// A choice: a node's number. Until it wakes it isn't allowed.
 pub fn choose_node(
     program: &[u8],
     rows: &[u32],
@@ -278,11 +296,18 @@ pub fn choose_node(
     out: &mut [u8],
     written: usize,
 ) -> Moved
-    requires { ⌜ Standing (now program) (now rows) passages (now words) (now values) count × (choice < 255) × (choice < count → observesNow (now program) (now words) (now values) choice tick ≡ true → written * 32 + 32 ≤ length (now out)) × (written ≤ 1000000) ⌝ }
+    requires { ⌜ Standing (now program) (now rows) passages (now words) (now values) count × (choice < 255) × (choice < count → wakeTickIn (now words) choice ≤ tick → observesNow (now program) (now words) (now values) choice (tick - wakeTickIn (now words) choice) ≡ true → written * 32 + 32 ≤ length (now out)) × (written ≤ 1000000) ⌝ }
     ensures { λ moved. ⌜ ((H : ℕ) → Chosen (now (program .entry)) (now (rows .entry)) passages H count tick choice (now (words .entry)) (now (values .entry)) (now (out .entry)) written moved (now (words .exit)) (now (values .exit)) (now (out .exit))) ⌝ }
 {
     let c = choice as usize;
     if count <= c {
+        return Moved {
+            allowed: false,
+            written,
+        };
+    }
+    let wake = registers::word(words, c, registers::WAKE_TICK);
+    if tick < wake {
         return Moved {
             allowed: false,
             written,
@@ -305,7 +330,7 @@ pub fn choose_node(
         values,
         c,
         op,
-        tick,
+        tick - wake,
         out,
         written,
     )

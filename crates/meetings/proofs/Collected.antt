@@ -19,14 +19,14 @@ use Rattle.meetings.specs.Asked.{metBy}
 
 -- ## The question asked
 
-module _ (T : Table) (H : ℕ) (v w : Passage) {q : Question} (x : Bool) where
-  pub asked-10 : q ≡ Collision → x ≡ meets T H v w → x ≡ metBy q T H v w
+module _ (G : ℕ) (T : Table) (H : ℕ) (v w : Passage) {q : Question} (x : Bool) where
+  pub asked-10 : q ≡ Collision → x ≡ meets G T H v w → x ≡ metBy G q T H v w
   asked-10 e p = rw e p
 
-  pub asked-11 : q ≡ Unheard → x ≡ mayHear T w v → x ≡ metBy q T H v w
+  pub asked-11 : q ≡ Unheard → x ≡ mayHear G T w v → x ≡ metBy G q T H v w
   asked-11 e p = rw e p
 
-  pub asked-12 : (y z : Bool) → q ≡ Crowded → x ≡ y && z → y ≡ isSend T H w → z ≡ mayHear T v w → x ≡ metBy q T H v w
+  pub asked-12 : (y z : Bool) → q ≡ Crowded → x ≡ y && z → y ≡ isSend T H w → z ≡ mayHear G T v w → x ≡ metBy G q T H v w
   asked-12 y z e p a b = rw (e, ← a, ← b) p
 
 -- ## Counted

@@ -5,17 +5,17 @@ use mathlib.Core.List.{List, [], _∷_, _++_, map}
 use mathlib.Core.Option.{Option, none, some, Option·map}
 use Prim.Native.Nat.{ℕ, _*_, _≤_, _<_}
 use native.Mathlib.Omega.{arith}
+use borrow.Author.Tests.{le-ltb}
 use lib.ListN.{length, drop, length-map}
 use Rattle.model.specs.declared.Verdict.{Verdict}
 use Rattle.model.specs.declared.Verdict.the-variants.{Accepted, Refused}
 use Rattle.model.specs.Lists.{first, Answer, accepted, refused, _after_, each}
 use Rattle.model.specs.Table.{Table, Read}
-use Rattle.model.specs.Reader.{readTable}
 use Rattle.model.specs.Places.{Valid, readOf}
 use Rattle.model.specs.Schedule.{Passage, sevenOf, light}
-use Rattle.model.specs.Checks.{isSend, meets, collides, mayHear, unheard, crowded, faultBy, checked, acceptedSchedule, acceptedScheduleOf}
-use Rattle.model.specs.Calls.{Call, verdictOf, laid, acceptedScheduleIn, checkCall}
-use Rattle.model.specs.Meetings.{sendsMet, listenersMet, sendsHeard, withMet, concerned, concernedIn, listOr, meetingsIn, MeetingsCall, about, meetingsCall}
+use Rattle.model.specs.Checks.{isSend, meets, collides, mayHear, unheard, crowded, faultBy, checked, acceptedSchedule, acceptedScheduleAt}
+use Rattle.model.specs.Calls.{Call, verdictOf, laid, spreadFine, readAt, acceptedScheduleInAt, checkCallAt}
+use Rattle.model.specs.Meetings.{sendsMet, listenersMet, sendsHeard, withMet, concerned, concernedAt, listOr, meetingsInAt, MeetingsCall, about, meetingsCallAt}
 use Rattle.model.proofs.Checks.Independence.{only-map}
 use Rattle.model.proofs.Reader.Located.{valid-read}
 use Rattle.table.proofs.Answered.{verdict-refused}
@@ -74,58 +74,61 @@ met-light : (met met′ : Passage → List Passage) → ((v : Passage) → met�
 met-light met met′ same none vs ws e = e
 met-light met met′ same (some v) vs ws e = ap (λ (us : List Passage). light v ∷ us) (same v)
 
-module _ (T : Table) (H : ℕ) (S : List Passage) where
+module _ (G : ℕ) (T : Table) (H : ℕ) (S : List Passage) where
   -- the passages concerned are the same
-  concerned-light : concerned T H (map light S) ≡ map light (concerned T H S)
+  concerned-light : concerned G T H (map light S) ≡ map light (concerned G T H S)
   unfolding concerned
   concerned-light =
       rw (
-        first-map light (collides T H (map light S)) (collides T H S) (collides-light T H S) S,
-        first-map light (unheard T H (map light S)) (unheard T H S) (unheard-light T H S) S,
-        first-map light (crowded T H (map light S)) (crowded T H S) (crowded-light T H S) S,
+        first-map light (collides G T H (map light S)) (collides G T H S) (collides-light G T H S) S,
+        first-map light (unheard G T H (map light S)) (unheard G T H S) (unheard-light G T H S) S,
+        first-map light (crowded G T H (map light S)) (crowded G T H S) (crowded-light G T H S) S,
       )
-      (met-light (sendsMet T H S) (sendsMet T H (map light S)) (λ s. only-map light (meets T H s) S) (first (collides T H S) S) _ _
-      (met-light (listenersMet T S) (listenersMet T (map light S)) (λ s. only-map light (λ r. mayHear T r s) S) (first (unheard T H S) S) _ _
-      (met-light (sendsHeard T H S) (sendsHeard T H (map light S)) (λ r. only-map light (λ s. isSend T H s && mayHear T r s) S) (first (crowded T H S) S) [] [] refl)))
+      (met-light (sendsMet G T H S) (sendsMet G T H (map light S)) (λ s. only-map light (meets G T H s) S) (first (collides G T H S) S) _ _
+      (met-light (listenersMet G T S) (listenersMet G T (map light S)) (λ s. only-map light (λ r. mayHear G T r s) S) (first (unheard G T H S) S) _ _
+      (met-light (sendsHeard G T H S) (sendsHeard G T H (map light S)) (λ r. only-map light (λ s. isSend T H s && mayHear G T r s) S) (first (crowded G T H S) S) [] [] refl)))
 
   -- and so is the call
   pub listing-light : (lent : List ℕ)
-      → listing (verdictOf (checked T H (map light S))) (concerned T H (map light S)) lent ≡ listing (verdictOf (checked T H S)) (concerned T H S) lent
+      → listing (verdictOf (checked G T H (map light S))) (concerned G T H (map light S)) lent ≡ listing (verdictOf (checked G T H S)) (concerned G T H S) lent
   listing-light lent =
-      ap₂ (λ (given : Verdict) (P : List Passage). listing given P lent) (checked-light T H S) concerned-light
-      ∙ ap₂ (λ (k : ℕ) (out : List ℕ). about (verdictOf (checked T H S)) (laid k out lent)) (length-map (concerned T H S) light) (fields-light (concerned T H S))
+      ap₂ (λ (given : Verdict) (P : List Passage). listing given P lent) (checked-light G T H S) concerned-light
+      ∙ ap₂ (λ (k : ℕ) (out : List ℕ). about (verdictOf (checked G T H S)) (laid k out lent)) (length-map (concerned G T H S) light) (fields-light (concerned G T H S))
 
 -- ## A table that was read
 
--- not at all: 1 to 6
-pub read-not : (bs lent : List ℕ) {n c : ℕ} → readTable bs ≡ refused n c → meetingsCall bs lent ≡ listing (Refused n c) [] lent
-unfolding meetingsCall checkCall acceptedScheduleIn meetingsIn
-read-not bs lent e = ap (λ (a : Answer Read). listing (verdictOf (a after acceptedScheduleOf)) (listOr (a after concernedIn)) lent) e
+-- not at all: 1 to 6, and 19
+pub read-not : (G : ℕ) (bs lent : List ℕ) {n c : ℕ} → readAt G bs ≡ refused n c → meetingsCallAt G bs lent ≡ listing (Refused n c) [] lent
+unfolding meetingsCallAt checkCallAt acceptedScheduleInAt meetingsInAt
+read-not G bs lent e = ap (λ (a : Answer Read). listing (verdictOf (a after acceptedScheduleAt G)) (listOr (a after concernedAt G)) lent) e
 
-module _ (bs lent : List ℕ) (v : Valid bs) where
+module _ (G : ℕ) (narrow : G ≤ 1000) (bs lent : List ℕ) (v : Valid bs) where
   planned : Answer (List Passage) → MeetingsCall
   planned a =
-      listing (verdictOf (a after λ S. checked (readOf bs .table) (readOf bs .horizon) S))
-      (listOr (a after λ S. accepted (concerned (readOf bs .table) (readOf bs .horizon) S))) lent
+      listing (verdictOf (a after λ S. checked G (readOf bs .table) (readOf bs .horizon) S))
+      (listOr (a after λ S. accepted (concerned G (readOf bs .table) (readOf bs .horizon) S))) lent
 
-  call-is : meetingsCall bs lent ≡ planned (scheduleOf bs)
-  unfolding meetingsCall checkCall acceptedScheduleIn acceptedSchedule meetingsIn planned
-  call-is = ap (λ (a : Answer Read). listing (verdictOf (a after acceptedScheduleOf)) (listOr (a after concernedIn)) lent) (valid-read bs v)
+  was-read : readAt G bs ≡ accepted (readOf bs)
+  was-read = ap (spreadFine G) (valid-read bs v) ∙ rw (le-ltb 1000 G narrow) refl
+
+  call-is : meetingsCallAt G bs lent ≡ planned (scheduleOf bs)
+  unfolding meetingsCallAt checkCallAt acceptedScheduleInAt acceptedSchedule meetingsInAt planned
+  call-is = ap (λ (a : Answer Read). listing (verdictOf (a after acceptedScheduleAt G)) (listOr (a after concernedAt G)) lent) was-read
 
   module _ (r : Scheduled) (rows : List ℕ) (F : Filled bs (scheduleOf bs) r rows) where
     -- 7 to 9
-    pub scheduled-not : {n c : ℕ} → r .verdict ≡ Refused n c → meetingsCall bs lent ≡ listing (Refused n c) [] lent
+    pub scheduled-not : {n c : ℕ} → r .verdict ≡ Refused n c → meetingsCallAt G bs lent ≡ listing (Refused n c) [] lent
     unfolding planned
     scheduled-not e = call-is ∙ ap planned (verdict-refused (scheduleOf bs) (sym (F .verdict) ∙ e))
 
     -- 10 to 12 are asked of the rows
     pub of-rows : r .verdict ≡ Accepted → (H : ℕ) → H ≡ readOf bs .horizon
-        → listing (verdictOf (checked (readOf bs .table) H (rowsOf rows (r .count)))) (concerned (readOf bs .table) H (rowsOf rows (r .count))) lent ≡ meetingsCall bs lent
+        → listing (verdictOf (checked G (readOf bs .table) H (rowsOf rows (r .count)))) (concerned G (readOf bs .table) H (rowsOf rows (r .count))) lent ≡ meetingsCallAt G bs lent
     unfolding planned
     of-rows e H h =
         let S = was bs r rows F e .0 in
         let q = was bs r rows F e .1 in
         let light-rows : rowsOf rows (r .count) ≡ map light S = ap (rowsOf rows) (F .count S q) ∙ F .rows S q in
-        ap₂ (λ (k : ℕ) (W : List Passage). listing (verdictOf (checked (readOf bs .table) k W)) (concerned (readOf bs .table) k W) lent) h light-rows
-        ∙ listing-light (readOf bs .table) (readOf bs .horizon) S lent
+        ap₂ (λ (k : ℕ) (W : List Passage). listing (verdictOf (checked G (readOf bs .table) k W)) (concerned G (readOf bs .table) k W) lent) h light-rows
+        ∙ listing-light G (readOf bs .table) (readOf bs .horizon) S lent
         ∙ sym (call-is ∙ ap planned q)

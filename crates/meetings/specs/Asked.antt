@@ -16,27 +16,27 @@ use Rattle.meetings.specs.declared.Question.the-variants.{Collision, Unh
 use Rattle.meetings.specs.declared.Listed.{Listed}
 
 -- document 01's number of a question that the passage v fails; where a send is not heard well, the number of its fault (document 02, wish 3)
-abbrev pub numberAsked : Question → Table → List Passage → Passage → ℕ
-numberAsked Collision T S v = 10
-numberAsked Unheard T S v = unheardNumber T S v
-numberAsked Crowded T S v = 12
+abbrev pub numberAsked : ℕ → Question → Table → List Passage → Passage → ℕ
+numberAsked G Collision T S v = 10
+numberAsked G Unheard T S v = unheardNumber G T S v
+numberAsked G Crowded T S v = 12
 
 -- w is one that v, at fault, meets
-abbrev pub metBy : Question → Table → ℕ → Passage → Passage → Bool
-metBy Collision T H v w = meets T H v w
-metBy Unheard T H v w = mayHear T w v
-metBy Crowded T H v w = isSend T H w && mayHear T v w
+abbrev pub metBy : ℕ → Question → Table → ℕ → Passage → Passage → Bool
+metBy G Collision T H v w = meets G T H v w
+metBy G Unheard T H v w = mayHear G T w v
+metBy G Crowded T H v w = isSend T H w && mayHear G T v w
 
 -- the passage at fault, and those that it meets
-abbrev pub foundBy : Question → Table → ℕ → List Passage → Passage → List Passage
-foundBy q T H S v = v ∷ only (metBy q T H v) S
+abbrev pub foundBy : ℕ → Question → Table → ℕ → List Passage → Passage → List Passage
+foundBy G q T H S v = v ∷ only (metBy G q T H v) S
 
 -- `concerned` from question 12 on, and from question 11 on
-abbrev pub concerned12 : Table → ℕ → List Passage → List Passage
-concerned12 T H S = withMet (sendsHeard T H S) (first (crowded T H S) S) []
+abbrev pub concerned12 : ℕ → Table → ℕ → List Passage → List Passage
+concerned12 G T H S = withMet (sendsHeard G T H S) (first (crowded G T H S) S) []
 
-abbrev pub concerned11 : Table → ℕ → List Passage → List Passage
-concerned11 T H S = withMet (listenersMet T S) (first (unheard T H S) S) (concerned12 T H S)
+abbrev pub concerned11 : ℕ → Table → ℕ → List Passage → List Passage
+concerned11 G T H S = withMet (listenersMet G T S) (first (unheard G T H S) S) (concerned12 G T H S)
 
 -- the call that lists these passages of a table with that verdict
 abbrev pub listing : Verdict → List Passage → List ℕ → MeetingsCall

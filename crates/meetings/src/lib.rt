@@ -1,5 +1,5 @@
 // Which windows met: for a table that checks 10 to 12 refuse (15 to 17 stand in the place of 11), the passage at fault and the passages that it
-// meets.
+// meets; at a spread, windows meet that are as close as it or closer.
 // The definition is model's specs/Meetings.antt.
 ghost use mathlib.Core.Path.{_≡_};
 ghost use mathlib.Core.List.{_++_};
@@ -12,7 +12,7 @@ ghost use Rattle.model.specs.Places.{Valid, readOf};
 ghost use Rattle.model.specs.Schedule.{sevenOf};
 ghost use Rattle.model.specs.Checks.{checked};
 ghost use Rattle.model.specs.Calls.{verdictOf};
-ghost use Rattle.model.specs.Meetings.{concerned, meetingsCall};
+ghost use Rattle.model.specs.Meetings.{concerned, meetingsCallAt, meetingsCall};
 ghost use Rattle.table.specs.Directory.{startsOf};
 ghost use Rattle.rows.specs.Rows.{num, rowPassage, rowsOf, RowKnown, RowsPlaced};
 ghost use Rattle.checks.specs.Faults.{from12, from11};
@@ -47,13 +47,20 @@ fn nothing(table: Verdict) -> Listed
 }
 
 // The number of the refusal of row i, at fault by that question.
-fn number_of(table: &[u8], rows: &[u32], count: usize, i: usize, question: Question) -> u8
+fn number_of(
+    table: &[u8],
+    rows: &[u32],
+    count: usize,
+    i: usize,
+    question: Question,
+    spread: u32,
+) -> u8
     requires { ⌜ RowsPlaced (now table) (now rows) count × (i < count) ⌝ }
-    ensures { λ r. ⌜ r ≡ numberAsked question (readOf (now (table .entry)) .table) (rowsOf (now (rows .entry)) count) (rowPassage (now (rows .entry)) i) ⌝ }
+    ensures { λ r. ⌜ r ≡ numberAsked spread question (readOf (now (table .entry)) .table) (rowsOf (now (rows .entry)) count) (rowPassage (now (rows .entry)) i) ⌝ }
 {
     match question {
         Question::Collision => 10,
-        Question::Unheard => checks::unheard::number(table, rows, count, i),
+        Question::Unheard => checks::unheard::number(table, rows, count, i, spread),
         Question::Crowded => 12,
     }
 }
@@ -67,15 +74,30 @@ fn horizon(table: &[u8]) -> u32
 }
 
 // Whether row j is one that row i, at fault by that question, meets.
-fn is_met(table: &[u8], rows: &[u32], i: usize, j: usize, horizon: u32, question: Question) -> bool
+fn is_met(
+    table: &[u8],
+    rows: &[u32],
+    i: usize,
+    j: usize,
+    horizon: u32,
+    question: Question,
+    spread: u32,
+) -> bool
     requires { ⌜ RowKnown (now table) (now rows) i × RowKnown (now table) (now rows) j ⌝ }
-    ensures { λ r. ⌜ r ≡ metBy question (readOf (now (table .entry)) .table) horizon (rowPassage (now (rows .entry)) i) (rowPassage (now (rows .entry)) j) ⌝ }
+    ensures { λ r. ⌜ r ≡ metBy spread question (readOf (now (table .entry)) .table) horizon (rowPassage (now (rows .entry)) i) (rowPassage (now (rows .entry)) j) ⌝ }
 {
     match question {
-        Question::Collision => checks::is_met(table, rows, i, j, horizon),
-        Question::Unheard => checks::may_hear(table, rows, j, i, rows::row_sent(table, rows, i)),
+        Question::Collision => checks::is_met(table, rows, i, j, horizon, spread),
+        Question::Unheard => checks::may_hear(
+            table,
+            rows,
+            j,
+            i,
+            rows::row_sent(table, rows, i),
+            spread,
+        ),
         Question::Crowded => {
-            let heard = checks::may_hear(table, rows, i, j, rows::row_sent(table, rows, j));
+            let heard = checks::may_hear(table, rows, i, j, rows::row_sent(table, rows, j), spread);
             parts::both(checks::is_send(table, rows, j, horizon), heard)
         }
     }
@@ -89,14 +111,15 @@ fn count_met(
     i: usize,
     horizon: u32,
     question: Question,
+    spread: u32,
 ) -> usize
     requires { ⌜ RowsPlaced (now table) (now rows) count × (i < count) ⌝ }
-    ensures { λ r. ⌜ (r ≡ length (only (metBy question (readOf (now (table .entry)) .table) horizon (rowPassage (now (rows .entry)) i)) (rowsOf (now (rows .entry)) count))) × (r ≤ count) ⌝ }
+    ensures { λ r. ⌜ (r ≡ length (only (metBy spread question (readOf (now (table .entry)) .table) horizon (rowPassage (now (rows .entry)) i)) (rowsOf (now (rows .entry)) count))) × (r ≤ count) ⌝ }
 {
     let mut met: usize = 0;
     let mut j: usize = 0;
     while j < count {
-        if is_met(table, rows, i, j, horizon, question) {
+        if is_met(table, rows, i, j, horizon, question, spread) {
             met += 1;
         }
         j += 1;
@@ -113,15 +136,16 @@ fn put_met(
     horizon: u32,
     question: Question,
     list: &mut [u32],
+    spread: u32,
 )
-    requires { ⌜ RowsPlaced (now table) (now rows) count × (i < count) × (length (foundBy question (readOf (now table) .table) horizon (rowsOf (now rows) count) (rowPassage (now rows) i)) * 7 ≤ length (now list)) ⌝ }
-    ensures { λ _. ⌜ now (list .exit) ≡ each sevenOf (foundBy question (readOf (now (table .entry)) .table) horizon (rowsOf (now (rows .entry)) count) (rowPassage (now (rows .entry)) i)) ++ drop (length (foundBy question (readOf (now (table .entry)) .table) horizon (rowsOf (now (rows .entry)) count) (rowPassage (now (rows .entry)) i)) * 7) (now (list .entry)) ⌝ }
+    requires { ⌜ RowsPlaced (now table) (now rows) count × (i < count) × (length (foundBy spread question (readOf (now table) .table) horizon (rowsOf (now rows) count) (rowPassage (now rows) i)) * 7 ≤ length (now list)) ⌝ }
+    ensures { λ _. ⌜ now (list .exit) ≡ each sevenOf (foundBy spread question (readOf (now (table .entry)) .table) horizon (rowsOf (now (rows .entry)) count) (rowPassage (now (rows .entry)) i)) ++ drop (length (foundBy spread question (readOf (now (table .entry)) .table) horizon (rowsOf (now (rows .entry)) count) (rowPassage (now (rows .entry)) i)) * 7) (now (list .entry)) ⌝ }
 {
     schedule::put_seven(rows, i, list, 0);
     let mut k: usize = 1;
     let mut j: usize = 0;
     while j < count {
-        if is_met(table, rows, i, j, horizon, question) {
+        if is_met(table, rows, i, j, horizon, question, spread) {
             schedule::put_seven(rows, j, list, k);
             k += 1;
         }
@@ -138,12 +162,13 @@ fn list_fault(
     horizon: u32,
     question: Question,
     list: &mut [u32],
+    spread: u32,
 ) -> Listed
     requires { ⌜ RowsPlaced (now table) (now rows) count × (i < count) ⌝ }
-    ensures { λ r. ⌜ Says (listing (Refused (numberAsked question (readOf (now (table .entry)) .table) (rowsOf (now (rows .entry)) count) (rowPassage (now (rows .entry)) i)) (num (now (rows .entry)) i 0)) (foundBy question (readOf (now (table .entry)) .table) horizon (rowsOf (now (rows .entry)) count) (rowPassage (now (rows .entry)) i)) (now (list .entry))) r (now (list .exit)) ⌝ }
+    ensures { λ r. ⌜ Says (listing (Refused (numberAsked spread question (readOf (now (table .entry)) .table) (rowsOf (now (rows .entry)) count) (rowPassage (now (rows .entry)) i)) (num (now (rows .entry)) i 0)) (foundBy spread question (readOf (now (table .entry)) .table) horizon (rowsOf (now (rows .entry)) count) (rowPassage (now (rows .entry)) i)) (now (list .entry))) r (now (list .exit)) ⌝ }
 {
-    let size = count_met(table, rows, count, i, horizon, question) + 1;
-    let number = number_of(table, rows, count, i, question);
+    let size = count_met(table, rows, count, i, horizon, question, spread) + 1;
+    let number = number_of(table, rows, count, i, question, spread);
     let refusal = checks::refused(rows, number, i);
     if list.len() < size * layout::PASSAGE_WIDTH {
         return Listed {
@@ -152,7 +177,7 @@ fn list_fault(
             size: 0,
         };
     }
-    put_met(table, rows, count, i, horizon, question, list);
+    put_met(table, rows, count, i, horizon, question, list, spread);
     Listed {
         table: refusal,
         verdict: Verdict::Accepted,
@@ -161,26 +186,58 @@ fn list_fault(
 }
 
 // Question 12.
-fn list_crowded(table: &[u8], rows: &[u32], count: usize, horizon: u32, list: &mut [u32]) -> Listed
+fn list_crowded(
+    table: &[u8],
+    rows: &[u32],
+    count: usize,
+    horizon: u32,
+    list: &mut [u32],
+    spread: u32,
+) -> Listed
     requires { ⌜ RowsPlaced (now table) (now rows) count ⌝ }
-    ensures { λ r. ⌜ Says (listing (verdictOf (from12 (readOf (now (table .entry)) .table) horizon (rowsOf (now (rows .entry)) count))) (concerned12 (readOf (now (table .entry)) .table) horizon (rowsOf (now (rows .entry)) count)) (now (list .entry))) r (now (list .exit)) ⌝ }
+    ensures { λ r. ⌜ Says (listing (verdictOf (from12 spread (readOf (now (table .entry)) .table) horizon (rowsOf (now (rows .entry)) count))) (concerned12 spread (readOf (now (table .entry)) .table) horizon (rowsOf (now (rows .entry)) count)) (now (list .entry))) r (now (list .exit)) ⌝ }
 {
-    let fault = checks::first_crowded(table, rows, count, horizon);
+    let fault = checks::first_crowded(table, rows, count, horizon, spread);
     match fault {
         Fault::Nothing => nothing(Verdict::Accepted),
-        Fault::At(i) => list_fault(table, rows, count, i, horizon, Question::Crowded, list),
+        Fault::At(i) => list_fault(
+            table,
+            rows,
+            count,
+            i,
+            horizon,
+            Question::Crowded,
+            list,
+            spread,
+        ),
     }
 }
 
 // Questions 11 and 12.
-fn list_unheard(table: &[u8], rows: &[u32], count: usize, horizon: u32, list: &mut [u32]) -> Listed
+fn list_unheard(
+    table: &[u8],
+    rows: &[u32],
+    count: usize,
+    horizon: u32,
+    list: &mut [u32],
+    spread: u32,
+) -> Listed
     requires { ⌜ RowsPlaced (now table) (now rows) count ⌝ }
-    ensures { λ r. ⌜ Says (listing (verdictOf (from11 (readOf (now (table .entry)) .table) horizon (rowsOf (now (rows .entry)) count))) (concerned11 (readOf (now (table .entry)) .table) horizon (rowsOf (now (rows .entry)) count)) (now (list .entry))) r (now (list .exit)) ⌝ }
+    ensures { λ r. ⌜ Says (listing (verdictOf (from11 spread (readOf (now (table .entry)) .table) horizon (rowsOf (now (rows .entry)) count))) (concerned11 spread (readOf (now (table .entry)) .table) horizon (rowsOf (now (rows .entry)) count)) (now (list .entry))) r (now (list .exit)) ⌝ }
 {
-    let fault = checks::first_unheard(table, rows, count, horizon);
+    let fault = checks::first_unheard(table, rows, count, horizon, spread);
     match fault {
-        Fault::Nothing => list_crowded(table, rows, count, horizon, list),
-        Fault::At(i) => list_fault(table, rows, count, i, horizon, Question::Unheard, list),
+        Fault::Nothing => list_crowded(table, rows, count, horizon, list, spread),
+        Fault::At(i) => list_fault(
+            table,
+            rows,
+            count,
+            i,
+            horizon,
+            Question::Unheard,
+            list,
+            spread,
+        ),
     }
 }
 
@@ -191,21 +248,31 @@ fn list_concerned(
     count: usize,
     horizon: u32,
     list: &mut [u32],
+    spread: u32,
 ) -> Listed
     requires { ⌜ RowsPlaced (now table) (now rows) count ⌝ }
-    ensures { λ r. ⌜ Says (listing (verdictOf (checked (readOf (now (table .entry)) .table) horizon (rowsOf (now (rows .entry)) count))) (concerned (readOf (now (table .entry)) .table) horizon (rowsOf (now (rows .entry)) count)) (now (list .entry))) r (now (list .exit)) ⌝ }
+    ensures { λ r. ⌜ Says (listing (verdictOf (checked spread (readOf (now (table .entry)) .table) horizon (rowsOf (now (rows .entry)) count))) (concerned spread (readOf (now (table .entry)) .table) horizon (rowsOf (now (rows .entry)) count)) (now (list .entry))) r (now (list .exit)) ⌝ }
 {
-    let fault = checks::first_collision(table, rows, count, horizon);
+    let fault = checks::first_collision(table, rows, count, horizon, spread);
     match fault {
-        Fault::Nothing => list_unheard(table, rows, count, horizon, list),
-        Fault::At(i) => list_fault(table, rows, count, i, horizon, Question::Collision, list),
+        Fault::Nothing => list_unheard(table, rows, count, horizon, list, spread),
+        Fault::At(i) => list_fault(
+            table,
+            rows,
+            count,
+            i,
+            horizon,
+            Question::Collision,
+            list,
+            spread,
+        ),
     }
 }
 
 // The meetings of a table that was read.
-fn list_meetings(table: &[u8], starts: [u16; 8], list: &mut [u32]) -> Listed
-    requires { ⌜ Valid (now table) × (starts ≡ startsOf (now table) (byte (now table) 3)) ⌝ }
-    ensures { λ r. ⌜ Says (meetingsCall (now (table .entry)) (now (list .entry))) r (now (list .exit)) ⌝ }
+fn list_meetings(table: &[u8], starts: [u16; 8], list: &mut [u32], spread: u32) -> Listed
+    requires { ⌜ Valid (now table) × (starts ≡ startsOf (now table) (byte (now table) 3)) × (spread ≤ 1000) ⌝ }
+    ensures { λ r. ⌜ Says (meetingsCallAt spread (now (table .entry)) (now (list .entry))) r (now (list .exit)) ⌝ }
 {
     let mut rows = [0u32; 9216];
     let scheduled = schedule::schedule_rows(table, starts, &mut rows);
@@ -214,23 +281,30 @@ fn list_meetings(table: &[u8], starts: [u16; 8], list: &mut [u32]) -> Listed
         Verdict::Refused(number, component) => nothing(Verdict::Refused(number, component)),
         Verdict::Accepted => {
             let horizon = horizon(table);
-            list_concerned(table, &rows, scheduled.count, horizon, list)
+            list_concerned(table, &rows, scheduled.count, horizon, list, spread)
         }
     }
 }
 
-// The verdict of checks 1 to 12 on the table; after checks 10 to 12 the passage at fault and those that it meets, seven numbers a
-// passage, laid over the front of the list. The call itself is accepted, or refused by 13 where the list is too short.
-pub fn meetings(table: &[u8], list: &mut [u32]) -> Listed
-    ensures { λ r. ⌜ (r .table ≡ meetingsCall (now (table .entry)) (now (list .entry)) .table) × (r .verdict ≡ meetingsCall (now (table .entry)) (now (list .entry)) .verdict) × (r .size ≡ meetingsCall (now (table .entry)) (now (list .entry)) .size) × (now (list .exit) ≡ meetingsCall (now (table .entry)) (now (list .entry)) .lent) ⌝ }
+// The verdict of checks 1 to 12 and 19 on the table at a spread; after checks 10 to 12 the passage at fault and those that it meets, seven
+// numbers a passage, laid over the front of the list. The call itself is accepted, or refused by 13 where the list is too short.
+pub fn meetings_spread(table: &[u8], spread: u32, list: &mut [u32]) -> Listed
+    ensures { λ r. ⌜ (r .table ≡ meetingsCallAt spread (now (table .entry)) (now (list .entry)) .table) × (r .verdict ≡ meetingsCallAt spread (now (table .entry)) (now (list .entry)) .verdict) × (r .size ≡ meetingsCallAt spread (now (table .entry)) (now (list .entry)) .size) × (now (list .exit) ≡ meetingsCallAt spread (now (table .entry)) (now (list .entry)) .lent) ⌝ }
 {
-    let read = table::read(table);
+    let read = table::read_at(table, spread);
     let verdict = read.verdict;
     match verdict {
         Verdict::Refused(number, component) => nothing(Verdict::Refused(number, component)),
         Verdict::Accepted => {
             let starts = read.starts;
-            list_meetings(table, starts, list)
+            list_meetings(table, starts, list, spread)
         }
     }
+}
+
+// The same without a spread: the verdict is that of checks 1 to 12.
+pub fn meetings(table: &[u8], list: &mut [u32]) -> Listed
+    ensures { λ r. ⌜ (r .table ≡ meetingsCall (now (table .entry)) (now (list .entry)) .table) × (r .verdict ≡ meetingsCall (now (table .entry)) (now (list .entry)) .verdict) × (r .size ≡ meetingsCall (now (table .entry)) (now (list .entry)) .size) × (now (list .exit) ≡ meetingsCall (now (table .entry)) (now (list .entry)) .lent) ⌝ }
+{
+    meetings_spread(table, 0, list)
 }

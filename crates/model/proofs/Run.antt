@@ -1,5 +1,6 @@
 -- Nodes and network together: every state of a run is held against the schedule, and so demand 3 holds.
--- To cite: `Promise.promised` (demand 3 for every list of choices), `Tied.Tied` (what holds of each state), `Few.few` (no more observations than passages),
+-- To cite: `Apart.promised-apart` (demand 3 for nodes that wake apart, for every list of choices), `Together.together` and `Promise.promised` (its
+-- case without offsets), `CallsApart` (the calls at a spread, and without), `Tied.Tied` (what holds of each state), `Few.few` (no more observations than passages),
 -- `Ends.end-numbers` (the four ends).
 pub mod Tied
 pub mod Start
@@ -16,3 +17,7 @@ pub mod Choices
 pub mod Promise
 pub mod Few
 pub mod Ends
+pub mod OwnClock
+pub mod Apart
+pub mod Together
+pub mod CallsApart

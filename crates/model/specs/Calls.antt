@@ -1,8 +1,9 @@
 -- The exported calls. Each has one definition, from its inputs and the lent numbers to its answer and the lent numbers afterwards.
 use mathlib.Core.Path.{_≡_}
-use mathlib.Core.Bool.{Bool, true, false, cond}
-use mathlib.Core.List.{List, _++_}
-use Prim.Native.Nat.{ℕ, zero, suc, _*_}
+use mathlib.Core.Logic.{_↔_}
+use mathlib.Core.Bool.{Bool, true, false, cond, _&&_}
+use mathlib.Core.List.{List, [], _∷_, _++_}
+use Prim.Native.Nat.{ℕ, zero, suc, _*_, _≤_}
 use lib.Dec.{leb, ltb}
 use lib.ListN.{length, drop}
 use Rattle.model.specs.declared.End.{End}
@@ -10,13 +11,14 @@ use Rattle.model.specs.declared.End.the-variants.{Horizon, UsedUp, Late,
 use Rattle.model.specs.declared.Verdict.{Verdict}
 use Rattle.model.specs.declared.Verdict.the-variants.{Accepted, Refused}
 use Rattle.model.specs.Lists.{Answer, accepted, refused, _after_, each}
-use Rattle.model.specs.Table.{Read}
+use Rattle.model.specs.Table.{Read, size}
 use Rattle.model.specs.Reader.{readTable}
 use Rattle.model.specs.Schedule.{Passage, sevenOf}
-use Rattle.model.specs.Checks.{acceptedSchedule, acceptedScheduleOf}
+use Rattle.model.specs.Checks.{acceptedSchedule, acceptedScheduleAt, acceptedScheduleOf}
 use Rattle.model.specs.Program.{programBytes}
-use Rattle.model.specs.Run.{Result, settingOf, run, observationBytes}
+use Rattle.model.specs.Run.{Result, settingAt, settingOf, run, observationBytes}
 use Rattle.model.specs.Demand3.{Demand3}
+use Rattle.model.specs.Apart.{Permitted, Demand3Apart}
 
 -- ## Answers
 
@@ -77,6 +79,29 @@ laid size result lent =
     (refusing 13 255 lent)
 
 -- ## The calls
+
+-- 19. "A G above 1,000 is refused with 19 after 3": of the faults of a table only 1 to 3 come before it.
+abbrev pub spreadFine : {A : Type 0} → ℕ → Answer A → Answer A
+spreadFine G (accepted a) = cond (ltb 1000 G) (refused 19 255) (accepted a)
+spreadFine G (refused n c) = cond (ltb 1000 G && ltb 3 n) (refused 19 255) (refused n c)
+
+-- the table that the bytes are, for a spread G
+abbrev pub readAt : ℕ → List ℕ → Answer Read
+readAt G table = spreadFine G (readTable table)
+
+-- checks 1 to 12 and 19: the schedule of a table's bytes
+unfoldable pub acceptedScheduleInAt : ℕ → List ℕ → Answer (List Passage)
+unfolding readTable acceptedSchedule
+acceptedScheduleInAt G table = readAt G table after acceptedScheduleAt G
+
+-- The call `check_spread`: accepted at the spread G
+unfoldable pub checkCallAt : ℕ → List ℕ → Verdict
+unfolding acceptedScheduleInAt
+checkCallAt G table = verdictOf (acceptedScheduleInAt G table)
+
+-- The call `largest_spread`: G is the largest spread at which the table is accepted, for it is accepted exactly at those up to G
+abbrev pub LargestSpread : List ℕ → ℕ → Type 0
+LargestSpread table G = (K : ℕ) → (checkCallAt K table ≡ Accepted) ↔ (K ≤ G)
 
 -- checks 1 to 12: the schedule of a table's bytes
 unfoldable pub acceptedScheduleIn : List ℕ → Answer (List Passage)
@@ -156,6 +181,38 @@ runRead (refused n c) choices lent = notRun n c lent
 unfoldable pub runCall : List ℕ → List ℕ → List ℕ → RunCall
 unfolding acceptedScheduleIn programBytes run observationBytes each
 runCall table choices lent = runRead (readTable table) choices lent
+
+-- ## The run of nodes that wake apart
+
+-- 20. "an offset above G with 20 after 14": of the offsets handed to nodes; those past the last node are not looked at
+unfoldable pub offsetsFine : ℕ → ℕ → List ℕ → Bool
+offsetsFine G zero os = true
+offsetsFine G (suc n) [] = true
+offsetsFine G (suc n) (o ∷ os) = leb o G && offsetsFine G n os
+
+abbrev pub runWithAt : ℕ → Read → List Passage → List ℕ → List ℕ → List ℕ → RunCall
+runWithAt G t S os choices lent =
+    cond (ltb (length lent) (length S * 32)) (notRun 13 255 lent)
+    (cond (ltb 1000000 (length choices)) (notRun 14 255 lent)
+    (cond (offsetsFine G (size (t .table)) os) (ran (run (settingAt t (t .horizon) S os) choices) lent) (notRun 20 255 lent)))
+
+abbrev pub runPlannedAt : ℕ → Read → Answer (List Passage) → List ℕ → List ℕ → List ℕ → RunCall
+runPlannedAt G t (accepted S) os choices lent = runWithAt G t S os choices lent
+runPlannedAt G t (refused n c) os choices lent = notRun n c lent
+
+abbrev pub runReadAt : ℕ → Answer Read → List ℕ → List ℕ → List ℕ → RunCall
+runReadAt G (accepted t) os choices lent = runPlannedAt G t (acceptedScheduleAt G t) os choices lent
+runReadAt G (refused n c) os choices lent = notRun n c lent
+
+-- the call `run_apart`: spread, table, offsets, choices, and the bytes lent for the observations
+unfoldable pub runCallAt : ℕ → List ℕ → List ℕ → List ℕ → List ℕ → RunCall
+unfolding acceptedScheduleInAt offsetsFine programBytes run observationBytes each
+runCallAt G table os choices lent = runReadAt G (readAt G table) os choices lent
+
+-- demand 3 of these bytes, this spread, these offsets and these choices
+abbrev pub Demand3ApartOf : ℕ → List ℕ → List ℕ → List ℕ → Type 0
+Demand3ApartOf G table os choices =
+    (t : Read) (S : List Passage) → readTable table ≡ accepted t → acceptedScheduleAt G t ≡ accepted S → Permitted G (size (t .table)) os → Demand3Apart t (t .horizon) S os choices
 
 -- demand 3, of these bytes and these choices: for the accepted table that the bytes are, if they are one
 abbrev pub Demand3Of : List ℕ → List ℕ → Type 0

@@ -15,7 +15,7 @@ use Rattle.model.specs.Schedule.{Passage, own}
 use Rattle.model.specs.Checks.{acceptedScheduleOf}
 use Rattle.model.specs.Network.{State, Label, Taken, PathPassage, Work, one, two, Observation, start, follow, passagesOn, worksOn, observationsOn}
 use Rattle.model.specs.Machine.{Node}
-use Rattle.model.specs.Run.{Setting, settingTo, Run, Result, Outcome, forbidden, on, over, Stand, sleeping, sending, listening, finishing, adding, working, taking, elsewhere, nowhere, standOf, nodeOf, windowEnd, listeners, run, startRun, choose1}
+use Rattle.model.specs.Run.{Setting, settingTo, Run, Result, Outcome, forbidden, on, over, Stand, sleeping, sending, listening, finishing, adding, working, taking, elsewhere, nowhere, standOf, nodeOf, windowEnd, began, listeners, run, startRun, choose1}
 
 -- ## "passes as the schedule says"
 
@@ -146,16 +146,16 @@ pub data Barred (T : Table) (S : List Passage) (s : Run) (b : ℕ) : Type 0 wher
   pending : b ≡ 255 → (c : ℕ) → c < size T → DueIn (own c S) (s .tick) (nodeOf s c) (standOf (nodeOf s c)) → Barred T S s b
 
 -- a node past its sleep and yet to send: exactly one node stands at a listen that names its channel, has taken nothing, and began earlier
-abbrev pub HasListener : Run → ℕ → Stand → Type 0
-HasListener s c sleeping = Unit {0}
-HasListener s c (sending k) = (i : ℕ) × (listeners s c k ≡ i ∷ []) × (nodeOf s i .t < nodeOf s c .t)
-HasListener s c (listening qs) = Unit {0}
-HasListener s c finishing = Unit {0}
-HasListener s c (adding v z) = Unit {0}
-HasListener s c working = Unit {0}
-HasListener s c taking = Unit {0}
-HasListener s c elsewhere = Unit {0}
-HasListener s c nowhere = Unit {0}
+abbrev pub HasListener : Setting → Run → ℕ → Stand → Type 0
+HasListener g s c sleeping = Unit {0}
+HasListener g s c (sending k) = (i : ℕ) × (listeners g s c k ≡ i ∷ []) × (began g i (nodeOf s i) < began g c (nodeOf s c))
+HasListener g s c (listening qs) = Unit {0}
+HasListener g s c finishing = Unit {0}
+HasListener g s c (adding v z) = Unit {0}
+HasListener g s c working = Unit {0}
+HasListener g s c taking = Unit {0}
+HasListener g s c elsewhere = Unit {0}
+HasListener g s c nowhere = Unit {0}
 
 -- ## The states that a run goes through, after each number of choices carried out
 
@@ -206,8 +206,8 @@ Complete T S result =
 
 -- by the state after k choices carried out
 module _ (T : Table) (S : List Passage) (cs : List ℕ) (result : Result) (stateAfter : ℕ → Run) where
-  abbrev pub Listened : Type 0
-  Listened = (k : ℕ) → k ≤ result .state .used → (c : ℕ) → c < size T → HasListener (stateAfter k) c (standOf (nodeOf (stateAfter k) c))
+  abbrev pub Listened : Setting → Type 0
+  Listened g = (k : ℕ) → k ≤ result .state .used → (c : ℕ) → c < size T → HasListener g (stateAfter k) c (standOf (nodeOf (stateAfter k) c))
 
   -- choice k is a tick that takes node c past its window's end or its next sleep
   abbrev pub TakesLate : ℕ → ℕ → Type 0
@@ -289,7 +289,7 @@ module _ (t : Read) (H : ℕ) (S : List Passage) (cs : List ℕ) where
     pub worked : Worked (t .table) path result
     pub observed : Observed (t .table) S path last result
     pub complete : Complete (t .table) S result
-    pub listener : Listened (t .table) S cs result stateAfter
+    pub listener : Listened (t .table) S cs result stateAfter setting
     pub lateEnds : LateEnds (t .table) S cs result stateAfter
     pub lateIs : LateIs (t .table) S cs result stateAfter
     pub node : NodeOf result

@@ -17,7 +17,7 @@ use Rattle.model.specs.Checks.{acceptedSchedule}
 use Rattle.model.specs.Program.{programBytes, partOf}
 use Rattle.model.specs.Network.{PathPassage, State, Label, tick, stepIn, together, stepOut, onward, follow, passagesOn, Work, one, two, channelNumber, worksOn, Observation, observationsOn}
 use Rattle.model.specs.Machine.{exec}
-use Rattle.model.specs.Run.{noNode, nodeOf, standOf, sending, Outcome, forbidden, on, over, choose1, run}
+use Rattle.model.specs.Run.{settingTo, noNode, nodeOf, standOf, sending, began, Outcome, forbidden, on, over, choose1, run}
 use Rattle.model.specs.Demand3.{PassAs, ticksIn, DueIn, HasListener, states, horizon, usedUp, late, notAllowed, notDue, due}
 use Rattle.model.specs.Demand3.{early, pending}
 use Rattle.model.specs.Demand3.{noNode as absent, absent as noSuchNode}
@@ -311,8 +311,10 @@ wrongs-refuted = (
 )
   where
     -- the listener is hub, and began at 3
-    with-the-sender : HasListener (beganWithIt .after 0) 0 (sending 0) → ⊥
-    with-the-sender x = not-less 3 3 refl (subst (λ (i : ℕ). nodeOf (beganWithIt .after 0) i .t < 3) (ap headOf (sym (x .1))) (x .2))
+    with-the-sender : HasListener (settingTo (beganWithIt .read) (beganWithIt .horizon) (beganWithIt .schedule)) (beganWithIt .after 0) 0 (sending 0) → ⊥
+    with-the-sender x =
+        not-less 3 3 refl
+        (subst (λ (i : ℕ). began (settingTo (beganWithIt .read) (beganWithIt .horizon) (beganWithIt .schedule)) i (nodeOf (beganWithIt .after 0) i) < 3) (ap headOf (sym (x .1))) (x .2))
 
     none-due : (c : ℕ) → c < 2 → IsDue (refusing [] 255) c → ⊥
     none-due zero h d = d

@@ -4,7 +4,7 @@ use mathlib.Core.Path.{_≡_}
 use mathlib.Core.Bool.{true, cond, _&&_}
 use mathlib.Core.List.{List}
 use mathlib.Core.Option.{none}
-use Prim.Native.Nat.{ℕ, _≤_, _<_}
+use Prim.Native.Nat.{ℕ, _+_, _≤_, _<_}
 use lib.Dec.{leb}
 use lib.ListN.{length}
 use Rattle.model.specs.declared.Hearing.{Hearing}
@@ -14,57 +14,78 @@ use Rattle.model.specs.declared.Verdict.the-variants.{Accepted, Refused}
 use Rattle.model.specs.Lists.{first, Answer, accepted, refused, _after_}
 use Rattle.model.specs.Table.{Table, Read}
 use Rattle.model.specs.Reader.{readTable}
-use Rattle.model.specs.Schedule.{Passage, schedule}
-use Rattle.model.specs.Checks.{isSend, collides, unheard, crowded, faultOf, limit, passageAt, Hears, Heard}
+use Rattle.model.specs.Window.{channelOf}
+use Rattle.model.specs.Schedule.{Passage, passageArc, names, others, schedule}
+use Rattle.model.specs.Checks.{isSend, isReceive, collides, unheard, crowded, faultOf, limit, passageAt, InWindow}
 use Rattle.model.specs.Calls.{Call, RunCall, verdictOf}
 use Rattle.model.specs.Meetings.{MeetingsCall}
 
 -- ## The faults, by ticks
 
--- receive window number i alone hears s
-pub record Alone (T : Table) (S : List Passage) (s : Passage) (i : ℕ) : Type 0 where
-  pub there : i < length S
-  pub hears : Hears T (passageAt S i) s
-  pub alone : (j : ℕ) → j < length S → Hears T (passageAt S j) s → j ≡ i
+-- At a spread G "windows closer than or equal to G count as sharing a tick": r is a receive window of another component that names s's channel,
+-- and a tick of its window and a tick of the send window lie at most G apart
+pub record HearsWithin (G : ℕ) (T : Table) (r s : Passage) : Type 0 where
+  pub receive : isReceive T r ≡ true
+  pub other : others r s ≡ true
+  pub named : names (passageArc T r) (channelOf (passageArc T s)) ≡ true
+  pub heardAt : ℕ
+  pub sentAt : ℕ
+  pub inReceive : InWindow heardAt r
+  pub inSend : InWindow sentAt s
+  pub close : (heardAt ≤ sentAt + G) × (sentAt ≤ heardAt + G)
 
--- "starts too late": not earlier than the send, whatever its end
-pub record StartsLate (T : Table) (S : List Passage) (s : Passage) : Type 0 where
-  pub index : ℕ
-  pub single : Alone T S s index
-  pub late : s .ready ≤ passageAt S index .ready
+module _ (G : ℕ) (T : Table) (S : List Passage) (s : Passage) where
+  -- receive window number i alone hears s
+  pub record Alone (i : ℕ) : Type 0 where
+    pub there : i < length S
+    pub hears : HearsWithin G T (passageAt S i) s
+    pub alone : (j : ℕ) → j < length S → HearsWithin G T (passageAt S j) s → j ≡ i
 
--- "starts early enough but ends too soon": earlier, but not later than the send's end
-pub record EndsSoon (T : Table) (S : List Passage) (s : Passage) : Type 0 where
-  pub index : ℕ
-  pub single : Alone T S s index
-  pub early : passageAt S index .ready < s .ready
-  pub soon : passageAt S index .end ≤ s .end
+  -- nothing at fault: it starts more than G earlier and ends more than G later
+  pub record HeardWell : Type 0 where
+    pub index : ℕ
+    pub single : Alone index
+    pub earlier : passageAt S index .ready + G < s .ready
+    pub later : s .end + G < passageAt S index .end
 
--- "Several": two windows, of two components or of one
-pub record HeardTwice (T : Table) (S : List Passage) (s : Passage) : Type 0 where
-  pub one : ℕ
-  pub other : ℕ
-  pub apart : one < other
-  pub there : other < length S
-  pub hearsOne : Hears T (passageAt S one) s
-  pub hearsOther : Hears T (passageAt S other) s
+  -- "starts too late": not more than G earlier than the send, whatever its end
+  pub record StartsLate : Type 0 where
+    pub index : ℕ
+    pub single : Alone index
+    pub late : s .ready ≤ passageAt S index .ready + G
 
--- what is said of the send s: nothing at fault, or one of the four faults
-abbrev pub Says : Table → List Passage → Passage → Hearing → Type 0
-Says T S s Well = Heard T S s
-Says T S s Nobody = (j : ℕ) → j < length S → Hears T (passageAt S j) s → ⊥
-Says T S s Several = HeardTwice T S s
-Says T S s LateStart = StartsLate T S s
-Says T S s EarlyEnd = EndsSoon T S s
+  -- "starts early enough but ends too soon": not more than G later than the send's end
+  pub record EndsSoon : Type 0 where
+    pub index : ℕ
+    pub single : Alone index
+    pub early : passageAt S index .ready + G < s .ready
+    pub soon : passageAt S index .end ≤ s .end + G
+
+  -- "Several": two windows, of two components or of one
+  pub record HeardTwice : Type 0 where
+    pub one : ℕ
+    pub other : ℕ
+    pub apart : one < other
+    pub there : other < length S
+    pub hearsOne : HearsWithin G T (passageAt S one) s
+    pub hearsOther : HearsWithin G T (passageAt S other) s
+
+  -- what is said of the send s: nothing at fault, or one of the four faults
+  abbrev pub Says : Hearing → Type 0
+  Says Well = HeardWell
+  Says Nobody = (j : ℕ) → j < length S → HearsWithin G T (passageAt S j) s → ⊥
+  Says Several = HeardTwice
+  Says LateStart = StartsLate
+  Says EarlyEnd = EndsSoon
 
 -- passage number i is "the first passage in schedule order at fault": 10 finds none, each send before it is heard well, and it is a send with that
 -- fault
-pub record FirstAtFault (T : Table) (H : ℕ) (S : List Passage) (h : Hearing) (i : ℕ) : Type 0 where
-  pub apart : first (collides T H S) S ≡ none
+pub record FirstAtFault (G : ℕ) (T : Table) (H : ℕ) (S : List Passage) (h : Hearing) (i : ℕ) : Type 0 where
+  pub apart : first (collides G T H S) S ≡ none
   pub there : i < length S
-  pub before : (j : ℕ) → j < i → isSend T H (passageAt S j) ≡ true → Heard T S (passageAt S j)
+  pub before : (j : ℕ) → j < i → isSend T H (passageAt S j) ≡ true → HeardWell G T S (passageAt S j)
   pub sends : isSend T H (passageAt S i) ≡ true
-  pub says : Says T S (passageAt S i) h
+  pub says : Says G T S (passageAt S i) h
 
 -- ## In the numbers of before
 
@@ -99,13 +120,13 @@ abbrev pub mergedMeetings : MeetingsCall → MeetingsCall
 mergedMeetings given = record { table = mergedVerdict (given .table); verdict = given .verdict; size = given .size; lent = given .lent }
 
 -- checks 10 to 12 with one number for the four faults, as they stood before wish 3; and with them 1 to 12
-unfoldable pub checkedAs11 : Table → ℕ → List Passage → Answer (List Passage)
-checkedAs11 T H S =
-    faultOf 10 (first (collides T H S) S)
-    (faultOf 11 (first (unheard T H S) S) (faultOf 12 (first (crowded T H S) S) (accepted S)))
+unfoldable pub checkedAs11 : ℕ → Table → ℕ → List Passage → Answer (List Passage)
+checkedAs11 G T H S =
+    faultOf 10 (first (collides G T H S) S)
+    (faultOf 11 (first (unheard G T H S) S) (faultOf 12 (first (crowded G T H S) S) (accepted S)))
 
 abbrev pub acceptedScheduleAs11 : Read → Answer (List Passage)
-acceptedScheduleAs11 t = schedule limit (t .table) (t .horizon) after λ S. checkedAs11 (t .table) (t .horizon) S
+acceptedScheduleAs11 t = schedule limit (t .table) (t .horizon) after λ S. checkedAs11 0 (t .table) (t .horizon) S
 
 unfoldable pub checkCallAs11 : List ℕ → Verdict
 unfolding readTable schedule checkedAs11

@@ -14,6 +14,8 @@ pub mod Program
 pub mod Machine
 pub mod Run
 pub mod Demand3
+pub mod Order
+pub mod Apart
 pub mod Calls
 pub mod Acceptance
 pub mod Observations

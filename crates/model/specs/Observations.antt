@@ -9,10 +9,10 @@ use Rattle.model.specs.Table.{Table, Read, componentOf}
 use Rattle.model.specs.Reader.{byte, word, complement, readTable}
 use Rattle.model.specs.Places.{listAt}
 use Rattle.model.specs.Schedule.{Passage}
-use Rattle.model.specs.Checks.{acceptedScheduleOf}
+use Rattle.model.specs.Checks.{acceptedScheduleAt, acceptedScheduleOf}
 use Rattle.model.specs.Network.{Observation}
-use Rattle.model.specs.Run.{settingOf, run}
-use Rattle.model.specs.Calls.{RunCall, runCall}
+use Rattle.model.specs.Run.{settingAt, settingOf, run}
+use Rattle.model.specs.Calls.{RunCall, runCallAt, runCall}
 
 -- the number in the first four bytes, big-endian
 abbrev pub wide : List ℕ → ℕ
@@ -42,3 +42,10 @@ ObservationsRead table choices lent =
     (t : Read) (S : List Passage) → readTable table ≡ accepted t → acceptedScheduleOf t ≡ accepted S → runCall table choices lent .verdict ≡ Accepted
     → readObservations (t .table) (runCall table choices lent .size) (runCall table choices lent .lent)
     ≡ run (settingOf t S) choices .state .observations
+
+-- The same of the call `run_apart`: the observations of the run with these offsets.
+abbrev pub ObservationsReadAt : ℕ → List ℕ → List ℕ → List ℕ → List ℕ → Type 0
+ObservationsReadAt G table os choices lent =
+    (t : Read) (S : List Passage) → readTable table ≡ accepted t → acceptedScheduleAt G t ≡ accepted S → runCallAt G table os choices lent .verdict ≡ Accepted
+    → readObservations (t .table) (runCallAt G table os choices lent .size) (runCallAt G table os choices lent .lent)
+    ≡ run (settingAt t (t .horizon) S os) choices .state .observations

@@ -4,7 +4,7 @@ use mathlib.Core.Path.{_≡_}
 use mathlib.Core.Bool.{Bool, true}
 use mathlib.Core.List.{List, [], _∷_, _++_, map}
 use mathlib.Core.Option.{none, some}
-use Prim.Native.Nat.{ℕ, pred, _*_, _≤_, _<_}
+use Prim.Native.Nat.{ℕ, pred, _-_, _*_, _≤_, _<_}
 use lib.Dec.{ltb}
 use lib.ListN.{length}
 use Rattle.model.specs.Lists.{only, Bytes, accepted}
@@ -12,11 +12,12 @@ use Rattle.model.specs.Table.{Table, Read, size, componentOf}
 use Rattle.model.specs.Reader.{readTable}
 use Rattle.model.specs.Window.{channelOf}
 use Rattle.model.specs.Schedule.{Passage, passageArc, own}
-use Rattle.model.specs.Checks.{mayHear, acceptedScheduleOf, passageAt}
+use Rattle.model.specs.Checks.{mayHear, acceptedScheduleAt, acceptedScheduleOf, passageAt}
 use Rattle.model.specs.Network.{State, Label, together, passageIn, start, mayJoin, follow, passagesOn, Observation, observation}
-use Rattle.model.specs.Run.{settingTo, settingOf, run}
+use Rattle.model.specs.Run.{settingAt, offsetIn, settingTo, settingOf, run}
 use Rattle.model.specs.Calls.{ran, runCall}
 use Rattle.model.specs.Demand3.{PassAs, SteppedBefore, observationsOf}
+use Rattle.model.specs.Apart.{Permitted}
 
 -- ## Something happens
 
@@ -63,6 +64,33 @@ Answers =
     → (choices : List ℕ) → ReachesBy t (t .horizon) S choices
     → (lent : List ℕ) → length S * 32 ≤ length lent → runCall bytes choices lent ≡ ran (run (settingOf t S) choices) lent
 
+-- ## Something happens where nodes wake apart
+
+-- These choices end with the horizon, at the common tick H, and the observations of each node are those of all its passages that are ready
+-- before its own clock then. Each choice is a byte, and each is carried out.
+pub record ReachesByApart (t : Read) (H : ℕ) (S : List Passage) (os choices : List ℕ) : Type 0 where
+  pub end : run (settingAt t H S os) choices .end ≡ 0
+  pub tick : run (settingAt t H S os) choices .state .tick ≡ H
+  pub shown : (c : ℕ) → c < size (t .table) → observationsOf c (run (settingAt t H S os) choices) ≡ dueOf t S c (H - offsetIn os c)
+  pub bytes : Bytes choices
+  pub used : run (settingAt t H S os) choices .state .used ≡ length choices
+
+abbrev pub ReachesApart : Read → ℕ → List Passage → List ℕ → Type 0
+ReachesApart t H S os = (choices : List ℕ) × ReachesByApart t H S os choices
+
+abbrev pub ContinuesApart : Read → ℕ → List Passage → List ℕ → Type 0
+ContinuesApart t H S os = (choices : List ℕ) → run (settingAt t H S os) choices .end ≡ 1 → (more : List ℕ) × ReachesByApart t H S os (choices ++ more)
+
+abbrev pub UsesAtMostApart : ℕ → Read → ℕ → List Passage → List ℕ → Type 0
+UsesAtMostApart most t H S os = (choices : List ℕ) → run (settingAt t H S os) choices .state .used ≤ most
+
+-- for every spread, every table accepted at it and all permitted offsets
+abbrev pub HappensApart : Type 0
+HappensApart =
+    (G : ℕ) (bytes : List ℕ) (t : Read) (S : List Passage) → readTable bytes ≡ accepted t → acceptedScheduleAt G t ≡ accepted S
+    → (os : List ℕ) → Permitted G (size (t .table)) os
+    → ReachesApart t (t .horizon) S os × ContinuesApart t (t .horizon) S os × UsesAtMostApart 1000000 t (t .horizon) S os
+
 -- ## Acceptance means it
 
 -- the schedule's passage that component c is in at the end of the path: the one beside its last passage on it
@@ -98,7 +126,7 @@ mayMeet T S path s a b = mayJoin T s a (presentOf T S path a .edge) b (presentOf
 pub record OnePartner (T : Table) (S : List Passage) (path : List Label) (s : State) (a : ℕ) : Type 0 where
   pub partner : ℕ
   pub allowed : mayMeet T S path s a partner ≡ true
-  pub hears : mayHear T (presentOf T S path partner) (presentOf T S path a) ≡ true
+  pub hears : mayHear 0 T (presentOf T S path partner) (presentOf T S path a) ≡ true
   -- no other component's scheduled edge may join
   pub alone : (b : ℕ) → mayMeet T S path s a b ≡ true → b ≡ partner
   -- the same by paths: with that step the path keeps to the schedule, and with no other joint step of a, on whatever edges

@@ -2,13 +2,13 @@
 use mathlib.Core.Bool.{Bool, true, false, cond, _&&_, not}
 use mathlib.Core.List.{List, [], _∷_, _++_, map}
 use mathlib.Core.Option.{Option, none, some}
-use Prim.Native.Nat.{ℕ, zero, suc, _+_, _/_, _%_}
+use Prim.Native.Nat.{ℕ, zero, suc, _+_, _-_, _/_, _%_}
 use lib.Dec.{leb, ltb, eqb}
 use lib.IntN.{ℤ, pos, _+ℤ_}
 use lib.ListN.{length, getD, set}
 use Rattle.model.specs.declared.Pair.{Pair}
 use Rattle.model.specs.Lists.{any, only, below, snoc, isNone, each, be16}
-use Rattle.model.specs.Table.{Component, Table, Read}
+use Rattle.model.specs.Table.{Component, Table, Read, size}
 use Rattle.model.specs.Bytes.{unsigned}
 use Rattle.model.specs.Window.{valueAt, inRange, paired}
 use Rattle.model.specs.Schedule.{Passage, own}
@@ -27,6 +27,8 @@ pub record Setting : Type 0 where
   pub horizon : ℕ
   pub counts : List Counts
   pub ready : ℕ → ℕ → Option ℕ
+  -- for each node the common tick at which its clock starts
+  pub offsets : List ℕ
 
 -- the ready of passage k of these
 abbrev pub readyOfNth : List Passage → ℕ → Option ℕ
@@ -34,15 +36,24 @@ readyOfNth [] k = none
 readyOfNth (v ∷ vs) zero = some (v .ready)
 readyOfNth (v ∷ vs) (suc k) = readyOfNth vs k
 
--- "A run is handed a table": its program, counts, and its schedule to a horizon
-abbrev pub settingTo : Read → ℕ → List Passage → Setting
-settingTo t H S =
+-- "the run an offset for each node": 0 where none is handed
+abbrev pub offsetIn : List ℕ → ℕ → ℕ
+offsetIn os c = getD os c 0
+
+-- "A run is handed a table": its program, counts, and its schedule to a horizon; and offsets
+abbrev pub settingAt : Read → ℕ → List Passage → List ℕ → Setting
+settingAt t H S os =
     record {
       program = programBytes t;
       horizon = H;
       counts = map (λ C. record { clocks = C .clocks; variables = C .variables }) (t .table .components);
       ready = λ c k. readyOfNth (own c S) k;
+      offsets = map (offsetIn os) (below (size (t .table)));
     }
+
+-- all nodes start together
+abbrev pub settingTo : Read → ℕ → List Passage → Setting
+settingTo t H S = settingAt t H S []
 
 -- to the table's own horizon
 abbrev pub settingOf : Read → List Passage → Setting
@@ -85,9 +96,16 @@ startNodes program c (k ∷ ks) = startNode (partBytes program c) (k .clocks) (k
 abbrev pub startRun : Setting → Run
 startRun g = record { tick = 0; used = 0; nodes = startNodes (g .program) 0 (g .counts); observations = []; works = [] }
 
--- a node's own tick: the common tick, since all nodes start together
-abbrev pub ownTick : ℕ → ℕ → ℕ
-ownTick c tick = tick
+abbrev pub offsetOf : Setting → ℕ → ℕ
+offsetOf g c = getD (g .offsets) c 0
+
+-- a node's own tick: "until that tick its clock stands at 0"
+abbrev pub ownTick : Setting → ℕ → ℕ → ℕ
+ownTick g c tick = tick - offsetOf g c
+
+-- ".. and choosing it isn't allowed"
+abbrev pub awake : Setting → ℕ → ℕ → Bool
+awake g c tick = leb (offsetOf g c) tick
 
 -- ## What a node stands at
 
@@ -149,12 +167,16 @@ names k taking = false
 names k elsewhere = false
 names k nowhere = false
 
--- "a listener that names its channel, has taken nothing and has listened at least as long"
-abbrev pub hears : ℕ → Node → Node → Bool
-hears k sender r = names k (standOf r) && isNone (r .goes) && leb (r .t) (sender .t)
+-- the common tick at which node c's window began
+abbrev pub began : Setting → ℕ → Node → ℕ
+began g c r = r .t + offsetOf g c
 
-abbrev pub listeners : Run → ℕ → ℕ → List ℕ
-listeners s c k = only (λ i. not (eqb i c) && hears k (nodeOf s c) (nodeOf s i)) (below (length (s .nodes)))
+-- "a listener that names its channel, has taken nothing and has listened at least as long": since that common tick or longer
+abbrev pub hears : Setting → ℕ → ℕ → ℕ → Node → Bool
+hears g k since i r = names k (standOf r) && isNone (r .goes) && leb (began g i r) since
+
+abbrev pub listeners : Setting → Run → ℕ → ℕ → List ℕ
+listeners g s c k = only (λ i. not (eqb i c) && hears g k (began g c (nodeOf s c)) i (nodeOf s i)) (below (length (s .nodes)))
 
 abbrev pub pairsAt : Stand → List Pair
 pairsAt sleeping = []
@@ -224,10 +246,10 @@ module _ (g : Setting) where
   -- window ends now; a send without a listener .."; and an addition out of range, which no accepted table's program meets.
   abbrev pub finishes : Run → ℕ → Stand → Outcome
   finishes s c sleeping =
-      cond (eqb (ownTick c (s .tick)) (nodeOf s c .t)) (on (moved s c (finished s c) (observes c (ownTick c (s .tick)) (nodeOf s c) ∷ []) [])) forbidden
-  finishes s c (sending k) = sent s c k (listeners s c k)
+      cond (eqb (ownTick g c (s .tick)) (nodeOf s c .t)) (on (moved s c (finished s c) (observes c (ownTick g c (s .tick)) (nodeOf s c) ∷ []) [])) forbidden
+  finishes s c (sending k) = sent s c k (listeners g s c k)
   finishes s c (listening qs) =
-      cond (eqb (ownTick c (s .tick)) (windowEnd (nodeOf s c))) (on (moved s c (finished s c) [] (one c (s .tick) ∷ []))) forbidden
+      cond (eqb (ownTick g c (s .tick)) (windowEnd (nodeOf s c))) (on (moved s c (finished s c) [] (one c (s .tick) ∷ []))) forbidden
   finishes s c finishing = on (moved s c (finished s c) [] (one c (s .tick) ∷ []))
   finishes s c (adding v z) = cond (inRange (valueAt (nodeOf s c .values) v +ℤ z)) (on (moved s c (finished s c) [] [])) forbidden
   finishes s c working = on (moved s c (finished s c) [] [])
@@ -249,7 +271,7 @@ module _ (g : Setting) where
 
   unfoldable pub someDue : ℕ → ℕ → List Node → Bool
   someDue now c [] = false
-  someDue now c (r ∷ rs) = cond (due (ownTick c now) r (standOf r)) true (someDue now (suc c) rs)
+  someDue now c (r ∷ rs) = cond (awake g c now && due (ownTick g c now) r (standOf r)) true (someDue now (suc c) rs)
 
   -- the ready of its next passage lies before now; no next passage: never
   abbrev pub overdue : Option ℕ → ℕ → Bool
@@ -271,7 +293,7 @@ module _ (g : Setting) where
   -- the late nodes, lowest first
   unfoldable pub lateNodes : ℕ → ℕ → List Node → List ℕ
   lateNodes now c [] = []
-  lateNodes now c (r ∷ rs) = let rest = lateNodes now (suc c) rs in cond (late (ownTick c now) c r (standOf r)) (c ∷ rest) rest
+  lateNodes now c (r ∷ rs) = let rest = lateNodes now (suc c) rs in cond (late (ownTick g c now) c r (standOf r)) (c ∷ rest) rest
 
   -- "2 late (lowest node)"; "0 horizon (tick H ..)"; "late before horizon". "A late tick has passed and is counted."
   abbrev pub afterTick : Run → List ℕ → Outcome
@@ -283,7 +305,7 @@ module _ (g : Setting) where
   unfolding someDue lateNodes exec
   choose1 s b =
       let tick = cond (someDue (s .tick) 0 (s .nodes)) forbidden (afterTick (ticked s) (lateNodes (suc (s .tick)) 0 (s .nodes))) in
-      let node = cond (ltb b (length (s .nodes))) (finishes s b (standOf (nodeOf s b))) forbidden in
+      let node = cond (ltb b (length (s .nodes)) && awake g b (s .tick)) (finishes s b (standOf (nodeOf s b))) forbidden in
       cond (eqb b 255) tick node
 
 -- ## The whole list

@@ -1,23 +1,23 @@
--- Document 01 as it stood before document 02's wishes 2 and 3, kept to say what tables of version 1 got: their reader, checks 10 to 12, schedule,
+-- Document 01 as it stood before document 02's wishes 2, 3 and 6, kept to say what tables of version 1 got: their reader, checks 10 to 12, schedule,
 -- program and calls, not defined through those of today. What a table of version 1 got then, it gets now, with 15 to 17 read as 11 (the laws are in
 -- proofs/Reader/Versions.antt).
--- Where document 01's definition still stands as it was (a component's parts, the passages, what 11 and 12 ask, a node's bytes, the run's
--- statements), it is used.
-use mathlib.Core.Bool.{Bool, cond, _&&_}
+-- Where document 01's definition still stands as it was (a component's parts, the passages, a node's bytes, the run's statements), it is used.
+use mathlib.Core.Bool.{Bool, false, cond, _&&_, not}
 use mathlib.Core.List.{List, [], _∷_, _++_, map}
 use Prim.Native.Nat.{ℕ, _+_, _*_}
-use lib.Dec.{ltb, eqb}
+use lib.Dec.{leb, ltb, eqb}
 use lib.ListN.{length, drop, replicate}
 use Rattle.model.specs.declared.Verdict.{Verdict}
-use Rattle.model.specs.Lists.{any, only, first, be16, each, Answer, accepted, refused, _after_}
+use Rattle.model.specs.Lists.{any, only, below, first, be16, each, Answer, accepted, refused, _after_}
 use Rattle.model.specs.Table.{Component, Table, Read, size}
 use Rattle.model.specs.Reader.{byte, word, readComponents, lengthFine, countFine}
-use Rattle.model.specs.Schedule.{Passage, own, others, schedule, sevenOf}
-use Rattle.model.specs.Checks.{shareTick, isSend, unheard, crowded, faultOf, limit}
+use Rattle.model.specs.Window.{channelOf}
+use Rattle.model.specs.Schedule.{Passage, passageArc, names, own, others, schedule, sevenOf}
+use Rattle.model.specs.Checks.{isSend, isReceive, two, faultOf, limit}
 use Rattle.model.specs.Program.{nodeBytes}
 use Rattle.model.specs.Run.{Setting, readyOfNth, run, observationBytes}
 use Rattle.model.specs.Calls.{Call, RunCall, laid, verdictOf, scheduleWith, bytesWith, notRun, ran}
-use Rattle.model.specs.Meetings.{MeetingsCall, listenersMet, sendsHeard, withMet, listOr, about}
+use Rattle.model.specs.Meetings.{MeetingsCall, withMet, listOr, about}
 use Rattle.model.specs.Chart.{chart}
 
 -- ## 1 to 6
@@ -42,6 +42,10 @@ readTable01 bs =
 
 -- ## 7 to 12
 
+-- "share a tick"
+abbrev pub shareTick : Passage → Passage → Bool
+shareTick v w = leb (v .ready) (w .end) && leb (w .ready) (v .end)
+
 -- 10. "Do no two send windows of different components share a tick?", whatever their channels
 abbrev pub meets01 : Table → ℕ → Passage → Passage → Bool
 meets01 T H s o = isSend T H o && others o s && shareTick s o
@@ -49,10 +53,27 @@ meets01 T H s o = isSend T H o && others o s && shareTick s o
 abbrev pub collides01 : Table → ℕ → List Passage → Passage → Bool
 collides01 T H S s = isSend T H s && any (meets01 T H s) S
 
+-- 11. "Is there exactly one receive window of another component, naming the channel, that shares a tick with the send window, and does it start
+-- earlier and end later?"
+abbrev pub mayHear01 : Table → Passage → Passage → Bool
+mayHear01 T r s = isReceive T r && others r s && names (passageArc T r) (channelOf (passageArc T s)) && shareTick r s
+
+abbrev pub heardWell01 : Passage → List Passage → Bool
+heardWell01 s [] = false
+heardWell01 s (r ∷ []) = ltb (r .ready) (s .ready) && ltb (s .end) (r .end)
+heardWell01 s (r ∷ q ∷ rs) = false
+
+abbrev pub unheard01 : Table → ℕ → List Passage → Passage → Bool
+unheard01 T H S s = isSend T H s && not (heardWell01 s (only (λ r. mayHear01 T r s) S))
+
+-- 12. "Does no receive window share a tick with two send windows of other components on its channels?"
+abbrev pub crowded01 : Table → ℕ → List Passage → Passage → Bool
+crowded01 T H S r = isReceive T r && two (only (λ s. isSend T H s && mayHear01 T r s) S)
+
 unfoldable pub checked01 : Table → ℕ → List Passage → Answer (List Passage)
 checked01 T H S =
     faultOf 10 (first (collides01 T H S) S)
-    (faultOf 11 (first (unheard T H S) S) (faultOf 12 (first (crowded T H S) S) (accepted S)))
+    (faultOf 11 (first (unheard01 T H S) S) (faultOf 12 (first (crowded01 T H S) S) (accepted S)))
 
 abbrev pub acceptedScheduleOf01 : Read → Answer (List Passage)
 acceptedScheduleOf01 t = schedule limit (t .table) (t .horizon) after λ S. checked01 (t .table) (t .horizon) S
@@ -93,6 +114,8 @@ settingOf01 t S =
       horizon = t .horizon;
       counts = map (λ C. record { clocks = C .clocks; variables = C .variables }) (t .table .components);
       ready = λ c k. readyOfNth (own c S) k;
+      -- "All nodes start together at tick 0"
+      offsets = map (λ c. 0) (below (size (t .table)));
     }
 
 abbrev pub runWith01 : Read → List ℕ → List ℕ → Answer (List Passage) → RunCall
@@ -113,7 +136,8 @@ runCall01 table choices lent = runRead01 choices lent (readTable01 table)
 unfoldable pub concerned01 : Table → ℕ → List Passage → List Passage
 concerned01 T H S =
     withMet (λ s. only (meets01 T H s) S) (first (collides01 T H S) S)
-    (withMet (listenersMet T S) (first (unheard T H S) S) (withMet (sendsHeard T H S) (first (crowded T H S) S) []))
+    (withMet (λ s. only (λ r. mayHear01 T r s) S) (first (unheard01 T H S) S)
+    (withMet (λ r. only (λ s. isSend T H s && mayHear01 T r s) S) (first (crowded01 T H S) S) []))
 
 abbrev pub meetingsIn01 : List ℕ → List Passage
 meetingsIn01 table =

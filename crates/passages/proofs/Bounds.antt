@@ -78,7 +78,7 @@ pub record SmallPassage (v : Passage) : Type 0 where
   pub message : orElse (v .message) 255 < 256
   pub channel : Channel (v .message)
 
-module _ (t : Read) (S : List Passage) (G : Given t (t .horizon) S) where
+module _ (t : Read) (S : List Passage) (G : Given t (t .horizon) S []) where
   arc-sends : (v : Passage) → Sends (passageArc (t .table) v)
   arc-sends v =
       any-at AllSend noComponent (λ e. tt) (components-send (G .limits .channels) (G .limits .components)) (v .component) (v .edge)
@@ -115,11 +115,11 @@ module _ (bs : List ℕ) (b : Bytes bs) (S : List Passage) (e : acceptedSchedule
   unfolding acceptedScheduleIn
   its-read = after-ok (readTable bs) acceptedScheduleOf e
 
-  its-given : Given (its-read .0) (its-read .0 .horizon) S
+  its-given : Given (its-read .0) (its-read .0 .horizon) S []
   its-given = given (its-read .0) S (written-read bs (its-read .0) b (its-read .1) .0) (its-read .2)
 
   pub all-small : All SmallPassage S
   all-small = small-passages (its-read .0) S its-given
 
   pub few-passages : length S ≤ 1024
-  few-passages = schedule-at (its-read .0 .table) (its-read .0 .horizon) limit S (its-read .2) .0 .few
+  few-passages = schedule-at 0 (its-read .0 .table) (its-read .0 .horizon) limit S (its-read .2) .0 .few

@@ -6,42 +6,15 @@ use libc::STDERR_FILENO;
 use libc::STDOUT_FILENO;
 use model::Verdict;
 use slot_plan::Slots;
+use text::Number;
 
-// What does not fit 32 bits counts as the greatest number that does, which is out of every range of a plan; so does a byte that is no digit.
-fn with_digit(value: u32, byte: u8) -> u32 {
-    if byte < 48 {
-        return 4294967295;
+// The number that an argument is. What is none counts as the greatest one, which is out of every range of a plan.
+fn value(i: usize) -> u32 {
+    let number = arguments::argument(i);
+    match number {
+        Number::Read(n) => n,
+        Number::Unreadable => 4294967295,
     }
-    if 57 < byte {
-        return 4294967295;
-    }
-    let next = (value as u64) * 10 + (byte - 48) as u64;
-    if next < 4294967295 {
-        next as u32
-    } else {
-        4294967295
-    }
-}
-
-fn value_of(word: &[u8]) -> u32 {
-    let mut value: u32 = 0;
-    let mut i: usize = 0;
-    while i < word.len() {
-        value = with_digit(value, word[i]);
-        i += 1;
-    }
-    value
-}
-
-// The number that an argument is.
-fn argument(i: usize) -> u32 {
-    let mut word = io::buffer();
-    let n = os::arg(i, &mut word);
-    if os::errno() != 0 {
-        os::fail(b"argument");
-        return 4294967295;
-    }
-    value_of(&word[..n])
 }
 
 fn write_table(table: &[u8], size: usize) {
@@ -69,10 +42,10 @@ fn main() {
         return;
     }
     let slots = Slots {
-        probes: argument(1),
-        slot: argument(2),
-        guard: argument(3),
-        period: argument(4),
+        probes: value(1),
+        slot: value(2),
+        guard: value(3),
+        period: value(4),
     };
     // No plan is longer.
     let mut table = [0u8; 414];

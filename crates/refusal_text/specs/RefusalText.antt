@@ -10,7 +10,7 @@ abbrev pub noQuestion : List ℕ
 noQuestion = ascii "Does a question have this number?\n"
 
 -- "Checks, in this order": the questions by their numbers. 11 and 15 to 17 are its question 11 in parts, as document 02's wish 3 tells them apart;
--- 18 is of its wish 4.
+-- 18 is of its wish 4, 19 and 20 of its wish 6: "A G above 1,000 is refused with 19 after 3, an offset above G with 20 after 14."
 abbrev pub questions : List (List ℕ)
 questions =
     noQuestion ∷ ascii "Is the first byte 1 or 2?\n"
@@ -31,6 +31,8 @@ questions =
     ∷ ascii "Does the one receive window that meets the send start earlier than it?\n"
     ∷ ascii "Does the one receive window that meets the send end later than it?\n"
     ∷ ascii "Are the numbers in range and probes x (slot + 2 x guard) below the period?\n"
+    ∷ ascii "Is the spread at most 1,000 ticks?\n"
+    ∷ ascii "Is no offset above the spread?\n"
     ∷ []
 
 unfoldable pub question : ℕ → List ℕ

@@ -115,8 +115,8 @@ fn put_question_on_listener(out: &mut [u8], at: usize, number: u8) -> usize
     }
 }
 
-// The question about a plan's numbers; a number past it has none.
-fn put_question_on_plan(out: &mut [u8], at: usize, number: u8) -> usize
+// The questions about numbers handed in: a plan's, the spread, the offsets. A number past them has none.
+fn put_question_on_numbers(out: &mut [u8], at: usize, number: u8) -> usize
     requires { ⌜ (at + 80 ≤ length (now out)) × (18 ≤ number) ⌝ }
     ensures { λ r. ⌜ Added (now (out .entry)) at (question number) (now (out .exit)) r × (r ≤ at + 80) ⌝ }
 {
@@ -126,6 +126,8 @@ fn put_question_on_plan(out: &mut [u8], at: usize, number: u8) -> usize
             at,
             b"Are the numbers in range and probes x (slot + 2 x guard) below the period?\n",
         ),
+        19 => put(out, at, b"Is the spread at most 1,000 ticks?\n"),
+        20 => put(out, at, b"Is no offset above the spread?\n"),
         _ => put(out, at, b"Does a question have this number?\n"),
     }
 }
@@ -143,7 +145,7 @@ fn put_question(out: &mut [u8], at: usize, number: u8) -> usize
     } else if number < 18 {
         put_question_on_listener(out, at, number)
     } else {
-        put_question_on_plan(out, at, number)
+        put_question_on_numbers(out, at, number)
     }
 }
 

@@ -47,6 +47,10 @@ dueIn l c = wordIn l c 26
 abbrev pub lastIn : List ℕ → ℕ → ℕ
 lastIn l c = wordIn l c 27
 
+-- the common tick at which the node's clock starts, its offset; it never changes
+abbrev pub wakeTickIn : List ℕ → ℕ → ℕ
+wakeTickIn l c = wordIn l c 28
+
 -- the word of a boolean: 1 for true
 abbrev pub flagOf : Bool → ℕ
 flagOf true = 1

@@ -16,7 +16,7 @@ use node::Kept;
 use node::Node;
 use node::Trial;
 
-// The words of a node, each by its number. Words 0 to 20 are the registers, 21 to 24 never change, 25 to 27 serve the ticks.
+// The words of a node, each by its number. Words 0 to 20 are the registers, 21 to 24 and 28 never change, 25 to 27 serve the ticks.
 pub const PLACE: usize = 0;
 
 pub const READY_TICK: usize = 1;
@@ -66,6 +66,8 @@ pub const ROW: usize = 25;
 pub const DUE: usize = 26;
 
 pub const LAST: usize = 27;
+
+pub const WAKE_TICK: usize = 28;
 
 pub fn small(number: u64) -> u8
     ensures { λ r. ⌜ r ≡ number % 256 ⌝ }

@@ -32,9 +32,9 @@ use Rattle.run.specs.Ends.{WordsPut, NodeStarted}
 
 -- ## The words beside its registers
 
-module _ (l : List ℕ) (c start long clocks variables row : ℕ) {l₁ l₂ l₃ l₄ l₅ : List ℕ} (h : 256 ≤ length l) (few : c < 8) (e₁ : l₁ ≡ set l (c * 32 + 21) start)
+module _ (l : List ℕ) (c start long clocks variables row wake : ℕ) {l₁ l₂ l₃ l₄ l₅ l₆ : List ℕ} (h : 256 ≤ length l) (few : c < 8) (e₁ : l₁ ≡ set l (c * 32 + 21) start)
     (e₂ : l₂ ≡ set l₁ (c * 32 + 22) long) (e₃ : l₃ ≡ set l₂ (c * 32 + 23) clocks) (e₄ : l₄ ≡ set l₃ (c * 32 + 24) variables)
-    (e₅ : l₅ ≡ set l₄ (c * 32 + 25) row) where
+    (e₅ : l₅ ≡ set l₄ (c * 32 + 25) row) (e₆ : l₆ ≡ set l₅ (c * 32 + 28) wake) where
   h₁ : 256 ≤ length l₁
   h₁ = omega (arith, put-length l c 21 start e₁)
 
@@ -47,38 +47,45 @@ module _ (l : List ℕ) (c start long clocks variables row : ℕ) {l₁ l₂ l�
   h₄ : 256 ≤ length l₄
   h₄ = omega (arith, h₃, put-length l₃ c 24 variables e₄)
 
+  h₅ : 256 ≤ length l₅
+  h₅ = omega (arith, h₄, put-length l₄ c 25 row e₅)
+
   -- what the words put later leave
-  last₁ : (k : ℕ) → (k ≡ 25 → ⊥) → wordIn l₅ c k ≡ wordIn l₄ c k
-  last₁ k d = put-beside l₄ c 25 row e₅ k d
+  last₀ : (k : ℕ) → k < 26 → wordIn l₆ c k ≡ wordIn l₅ c k
+  last₀ k d = put-beside l₅ c 28 wake e₆ k (λ p. omega arith)
 
-  last₂ : (k : ℕ) → k < 24 → wordIn l₅ c k ≡ wordIn l₃ c k
-  last₂ k d = last₁ k (λ p. omega arith) ∙ put-beside l₃ c 24 variables e₄ k (λ p. omega arith)
+  last₁ : (k : ℕ) → k < 25 → wordIn l₆ c k ≡ wordIn l₄ c k
+  last₁ k d = last₀ k (omega arith) ∙ put-beside l₄ c 25 row e₅ k (λ p. omega arith)
 
-  last₃ : (k : ℕ) → k < 23 → wordIn l₅ c k ≡ wordIn l₂ c k
+  last₂ : (k : ℕ) → k < 24 → wordIn l₆ c k ≡ wordIn l₃ c k
+  last₂ k d = last₁ k (omega arith) ∙ put-beside l₃ c 24 variables e₄ k (λ p. omega arith)
+
+  last₃ : (k : ℕ) → k < 23 → wordIn l₆ c k ≡ wordIn l₂ c k
   last₃ k d = last₂ k (omega arith) ∙ put-beside l₂ c 23 clocks e₃ k (λ p. omega arith)
 
-  last₄ : (k : ℕ) → k < 22 → wordIn l₅ c k ≡ wordIn l₁ c k
+  last₄ : (k : ℕ) → k < 22 → wordIn l₆ c k ≡ wordIn l₁ c k
   last₄ k d = last₃ k (omega arith) ∙ put-beside l₁ c 22 long e₂ k (λ p. omega arith)
 
   -- the other nodes
-  apart : (i : ℕ) → (i ≡ c → ⊥) → SameNode l [] l₅ [] i
+  apart : (i : ℕ) → (i ≡ c → ⊥) → SameNode l [] l₆ [] i
   apart i d =
       same-trans (put-others l c 21 start e₁ [] i d (omega arith))
       (same-trans (put-others l₁ c 22 long e₂ [] i d (omega arith))
       (same-trans (put-others l₂ c 23 clocks e₃ [] i d (omega arith))
-      (same-trans (put-others l₃ c 24 variables e₄ [] i d (omega arith)) (put-others l₄ c 25 row e₅ [] i d (omega arith)))))
+      (same-trans (put-others l₃ c 24 variables e₄ [] i d (omega arith)) (same-trans (put-others l₄ c 25 row e₅ [] i d (omega arith)) (put-others l₅ c 28 wake e₆ [] i d (omega arith))))))
 
-  pub words-put : WordsPut l c start long clocks variables row l₅
+  pub words-put : WordsPut l c start long clocks variables row wake l₆
   words-put =
       record {
         begins = last₄ 21 (omega arith) ∙ put-there l c 21 start e₁ h few (omega arith);
         lasts = last₃ 22 (omega arith) ∙ put-there l₁ c 22 long e₂ h₁ few (omega arith);
         ages = last₂ 23 (omega arith) ∙ put-there l₂ c 23 clocks e₃ h₂ few (omega arith);
-        holds = last₁ 24 (λ p. omega arith) ∙ put-there l₃ c 24 variables e₄ h₃ few (omega arith);
-        passes = put-there l₄ c 25 row e₅ h₄ few (omega arith);
+        holds = last₁ 24 (omega arith) ∙ put-there l₃ c 24 variables e₄ h₃ few (omega arith);
+        passes = last₀ 25 (omega arith) ∙ put-there l₄ c 25 row e₅ h₄ few (omega arith);
+        wakes = put-there l₅ c 28 wake e₆ h₅ few (omega arith);
         others = λ i k d b. apart i d .words k b;
         same =
-            put-length l₄ c 25 row e₅ ∙ put-length l₃ c 24 variables e₄ ∙ put-length l₂ c 23 clocks e₃ ∙ put-length l₁ c 22 long e₂
+            put-length l₅ c 28 wake e₆ ∙ put-length l₄ c 25 row e₅ ∙ put-length l₃ c 24 variables e₄ ∙ put-length l₂ c 23 clocks e₃ ∙ put-length l₁ c 22 long e₂
             ∙ put-length l c 21 start e₁;
       }
 
@@ -138,8 +145,8 @@ first-row rows n c r h e t =
 further : {m : ℕ} {q : Node} → Within 0 q → Within m q
 further w = record { t = omega (arith, w .t); clocks = all-then (λ x h. omega arith) (w .clocks); sleeps = omega (arith, w .sleeps) }
 
-module _ (program : List ℕ) (b : (i : ℕ) → Fits w8 (getD program i 0)) {c : ℕ} {s : Span} (at : Spans program s (partOf program c)) {l l₁ : List ℕ} {clocks variables r : ℕ}
-    (w : WordsPut l c (s .start) (s .long) clocks variables r l₁) where
+module _ (program : List ℕ) (b : (i : ℕ) → Fits w8 (getD program i 0)) {c : ℕ} {s : Span} (at : Spans program s (partOf program c)) {l l₁ : List ℕ} {clocks variables r wake : ℕ}
+    (w : WordsPut l c (s .start) (s .long) clocks variables r wake l₁) where
   -- its part lies in the program
   pub put-inside : Inside program l₁ c
   put-inside =
@@ -159,7 +166,10 @@ module _ (program : List ℕ) (b : (i : ℕ) → Fits w8 (getD program i 0)) {c 
   pub begun-within : {m : ℕ} {q : Node} → Begun q → Within m q
   begun-within {q = q} e = further (starts (take (s .start + s .long - s .start) (drop (s .start) program)) q e .1)
 
-  module _ (rows : List ℕ) (n : ℕ) (few : clocks ≤ 4) (small : variables ≤ 4) {q : Node}
+  pub put-wake : wake ≤ 1000 → wordIn l₁ c 28 ≤ 1000
+  put-wake h = rw (w .wakes) h
+
+  module _ (rows : List ℕ) (n : ℕ) (few : clocks ≤ 4) (small : variables ≤ 4) (soon : wake ≤ 1000) {q : Node}
       (begun : Begun q)
       (first : (r ≤ n) × (own c (drop r (rowsOf rows n)) ≡ own c (drop 0 (rowsOf rows n))) × (r < n → num rows r 0 ≡ c))
       {v : List ℤ} {l′ : List ℕ} {v′ : List ℤ} (x : NodePut program rows n l₁ v c q l′ v′) where
@@ -189,7 +199,7 @@ module _ (program : List ℕ) (b : (i : ℕ) → Fits w8 (getD program i 0)) {c 
         let e : nodeIn l′ v′ c .sleeps ≡ 0 = ap (λ (y : Node). y .sleeps) (x .node) ∙ z in
         rw (e, x .beside 25 (omega arith) (omega arith), w .passes) (first-row rows n c r (first .0) (first .1) (first .2))
 
-    pub node-started : NodeStarted program rows n clocks variables l v c l′ v′
+    pub node-started : NodeStarted program rows n clocks variables wake l v c l′ v′
     node-started =
         record {
           stands =
@@ -200,6 +210,7 @@ module _ (program : List ℕ) (b : (i : ℕ) → Fits w8 (getD program i 0)) {c 
                 held = rw held-is fits;
                 within = rw (x .node) (begun-within begun);
                 row = row-is;
+                wakes = rw (x .wakes) (put-wake soon);
                 due = x .due;
                 last = x .last;
               };
@@ -209,6 +220,7 @@ module _ (program : List ℕ) (b : (i : ℕ) → Fits w8 (getD program i 0)) {c 
               ∙ ap (nodeOf (partBytes program c) held) (x .node)
               ∙ begins;
           counts = ap (λ (k : Counts). record { clocks = k .clocks; variables = k .variables }) held-is;
+          wakes = x .wakes ∙ w .wakes;
           others = λ i d. same-trans (record { words = λ k h. w .others i k d h; values = λ k h. refl }) (x .others i d);
           eight = x .eight;
         }

@@ -12,12 +12,12 @@ use Rattle.model.specs.Reader.{byte}
 use Rattle.model.specs.Places.{startOf, Valid, readOf, componentIn, ComponentAt}
 use Rattle.model.specs.Limits.{ComponentIn}
 use Rattle.model.specs.Machine.{Node, startNode, partBytes}
-use Rattle.model.specs.Run.{Counts, startNodes, standOf}
+use Rattle.model.specs.Run.{Counts, offsetIn, startNodes, standOf}
 use Rattle.model.proofs.Reader.Located.{valid-located, valid-in}
 use Rattle.model.proofs.Basics.Sums.{by-number}
 use Rattle.rows.specs.Rows.{rowsOf}
 use Rattle.translator.proofs.Standing.{valid-count, few-nodes}
-use Rattle.registers.specs.Words.{nodeIn, partIn, heldIn, Eight, SameNode}
+use Rattle.registers.specs.Words.{nodeIn, partIn, heldIn, Eight, SameNode, wakeTickIn}
 use Rattle.registers.proofs.Frames.{same-node, same-part, same-held}
 use Rattle.node.specs.declared.Counts.{Counts as Held}
 use Rattle.node.specs.Views.{nodeOf}
@@ -63,23 +63,36 @@ module _ {l : List ℕ} {v : List ℤ} {l′ : List ℕ} {v′ : List ℤ} {i : 
         held = rw (same-held s) (g .held);
         within = rw (same-node s) (g .within);
         row = rw (s .words 20 (omega arith), s .words 25 (omega arith)) (g .row);
-        due = s .words 26 (omega arith) ∙ g .due ∙ ap (λ (x : Node). dueTick x (standOf x)) (sym same-view);
+        wakes = rw (s .words 28 (omega arith)) (g .wakes);
+        due =
+            s .words 26 (omega arith) ∙ g .due
+            ∙ ap₂ (λ (x : Node) (k : ℕ). dueTick x (standOf x) + k) (sym same-view) (sym (s .words 28 (omega arith)));
         last =
             s .words 27 (omega arith) ∙ g .last
-            ∙ ap₂ (λ (x : Node) (k : ℕ). lastTick x (readyAt (rowsOf rows n) k) (standOf x)) (sym same-view) (sym (s .words 25 (omega arith)));
+            ∙ ap₂ (λ (x k : ℕ). x + k)
+            (ap₂ (λ (x : Node) (k : ℕ). lastTick x (readyAt (rowsOf rows n) k) (standOf x)) (sym same-view) (sym (s .words 25 (omega arith))))
+            (sym (s .words 28 (omega arith)));
       }
 
 -- ## The nodes one after the other
 
--- the first k nodes of the table stand at their programs' start
-pub record StartedTo (table program rows : List ℕ) (n : ℕ) (l : List ℕ) (v : List ℤ) (k : ℕ) : Type 0 where
+-- the first k nodes of the table stand at their programs' start, with these offsets
+pub record StartedTo (table program rows : List ℕ) (n : ℕ) (os l : List ℕ) (v : List ℤ) (k : ℕ) : Type 0 where
   pub eight : Eight l v
   pub stands : (c : ℕ) → c < k → NodeStands program rows n l v c 0
   pub view : (c : ℕ) → c < k → viewIn program l v c ≡ startNode (partBytes program c) (componentIn table c .clocks) (componentIn table c .variables)
   pub counts : (c : ℕ) → c < k → countsAt l c ≡ countsOf (componentIn table c)
+  pub wakes : (c : ℕ) → c < k → wakeTickIn l c ≡ offsetIn os c
 
-pub none-started : {table program rows : List ℕ} {n : ℕ} {l : List ℕ} {v : List ℤ} → Eight l v → StartedTo table program rows n l v 0
-none-started g = record { eight = g; stands = λ c h. absurd (omega arith); view = λ c h. absurd (omega arith); counts = λ c h. absurd (omega arith) }
+pub none-started : {table program rows : List ℕ} {n : ℕ} {os l : List ℕ} {v : List ℤ} → Eight l v → StartedTo table program rows n os l v 0
+none-started g =
+    record {
+      eight = g;
+      stands = λ c h. absurd (omega arith);
+      view = λ c h. absurd (omega arith);
+      counts = λ c h. absurd (omega arith);
+      wakes = λ c h. absurd (omega arith);
+    }
 
 module _ (table : List ℕ) (b : Bytes table) (valid : Valid table) where
   module _ (c : ℕ) (h : c < byte table 3) (start : ℕ) (e : start ≡ startOf table c) where
@@ -99,38 +112,42 @@ module _ (table : List ℕ) (b : Bytes table) (valid : Valid table) where
     few-variables = omega (arith, there .variables, limits .variables)
 
     -- one node more
-    module _ {program rows : List ℕ} {n : ℕ} {l l′ : List ℕ} {v v′ : List ℤ} (s : StartedTo table program rows n l v c)
-        (x : NodeStarted program rows n (byte table (start + 4)) (byte table (start + 5)) l v c l′ v′) where
+    module _ {program rows : List ℕ} {n : ℕ} {os l l′ : List ℕ} {v v′ : List ℤ} (s : StartedTo table program rows n os l v c) {wake : ℕ}
+        (x : NodeStarted program rows n (byte table (start + 4)) (byte table (start + 5)) wake l v c l′ v′) (w : wake ≡ offsetIn os c) where
       view-here : viewIn program l′ v′ c ≡ startNode (partBytes program c) (componentIn table c .clocks) (componentIn table c .variables)
       view-here = x .view ∙ ap₂ (startNode (partBytes program c)) (there .clocks) (there .variables)
 
       counts-here : countsAt l′ c ≡ countsOf (componentIn table c)
       counts-here = x .counts ∙ ap₂ (λ (j k : ℕ). record { clocks = j; variables = k }) (there .clocks) (there .variables)
 
-      pub one-started : StartedTo table program rows n l′ v′ (c + 1)
+      pub one-started : StartedTo table program rows n os l′ v′ (c + 1)
       one-started =
           record {
             eight = x .eight;
             stands = below-more (λ i. NodeStands program rows n l′ v′ i 0) c (λ i k. same-stands (x .others i (λ p. omega arith)) program (s .stands i k)) (x .stands);
             view = below-more (λ i. viewIn program l′ v′ i ≡ startNode (partBytes program i) (componentIn table i .clocks) (componentIn table i .variables)) c (λ i k. same-view (x .others i (λ p. omega arith)) program ∙ s .view i k) view-here;
             counts = below-more (λ i. countsAt l′ i ≡ countsOf (componentIn table i)) c (λ i k. same-counts (x .others i (λ p. omega arith)) program ∙ s .counts i k) counts-here;
+            wakes = below-more (λ i. wakeTickIn l′ i ≡ offsetIn os i) c (λ i k. x .others i (λ p. omega arith) .words 28 (omega arith) ∙ s .wakes i k) (x .wakes ∙ w);
           }
 
   -- all of them
-  module _ {program rows : List ℕ} {n : ℕ} (listed : RowsStand rows n) {l : List ℕ} {v : List ℤ} {c : ℕ} (s : StartedTo table program rows n l v c) (all : byte table 3 ≤ c) where
+  module _ {program rows : List ℕ} {n : ℕ} (listed : RowsStand rows n) {os l : List ℕ} {v : List ℤ} {c : ℕ} (s : StartedTo table program rows n os l v c) (all : byte table 3 ≤ c) where
     nodes-are : startNodes program 0 (map (countsAt l) (below (byte table 3))) ≡ map (viewIn program l v) (below (byte table 3))
     nodes-are =
         started-from program (countsAt l) 0 (byte table 3)
         ∙ same-below (λ i. startNode (partBytes program i) (countsAt l i .clocks) (countsAt l i .variables)) (viewIn program l v) (byte table 3)
         (λ i h. ap (λ (k : Counts). startNode (partBytes program i) (k .clocks) (k .variables)) (s .counts i (omega arith)) ∙ sym (s .view i (omega arith)))
 
-    pub all-started : Started table program rows n l v
+    pub all-started : Started table program rows n os l v
     all-started =
         record {
           counts =
               same-below (countsAt l) (λ i. countsOf (componentIn table i)) (byte table 3) (λ i h. s .counts i (omega arith))
               ∙ ap (λ (k : ℕ). map (λ i. countsOf (componentIn table i)) (below k)) (valid-count table b valid)
               ∙ by-number countsOf noComponent (readOf table .table .components);
+          offsets =
+              same-below (wakeTickIn l) (offsetIn os) (byte table 3) (λ i h. s .wakes i (omega arith))
+              ∙ ap (λ (k : ℕ). map (offsetIn os) (below k)) (valid-count table b valid);
           running =
               λ H.
               record {

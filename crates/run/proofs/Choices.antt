@@ -1,10 +1,10 @@
 -- One choice by the definitions: a tick, a sleep that ends, and how many observations a choice adds. Assumes nothing.
 use mathlib.Core.Path.{_≡_, refl, ap, subst, _∙_}
-use mathlib.Core.Bool.{Bool, true, false, cond}
+use mathlib.Core.Bool.{Bool, true, false, cond, _&&_}
 use mathlib.Core.List.{List, [], _∷_, _++_, map}
 use Prim.Native.Nat.{ℕ, zero, suc, _+_, _≤_, _<_}
 use native.Mathlib.Omega.{arith}
-use borrow.Author.Tests.{lt-ltb, eq-eqb, ne-eqb}
+use borrow.Author.Tests.{lt-ltb, le-leb, eq-eqb, ne-eqb}
 use lib.Dec.{ltb, eqb}
 use lib.IntN.{_+ℤ_}
 use lib.ListN.{length, getD, length-append}
@@ -12,7 +12,8 @@ use Rattle.model.specs.Lists.{from, below, isNone}
 use Rattle.model.specs.Window.{valueAt, inRange}
 use Rattle.model.specs.Network.{Observation, Work, one}
 use Rattle.model.specs.Machine.{Node}
-use Rattle.model.specs.Run.{Setting, Run, noNode, nodeOf, Stand, windowEnd, sleeping, sending, listening, finishing, adding, working, taking, elsewhere, nowhere, standOf}
+use Rattle.model.specs.Run.{awake as up}
+use Rattle.model.specs.Run.{Setting, offsetOf, ownTick, Run, noNode, nodeOf, Stand, windowEnd, sleeping, sending, listening, finishing, adding, working, taking, elsewhere, nowhere, standOf}
 use Rattle.model.specs.Run.{Outcome, forbidden, on, over, observes, moved, ticked, finished, sent, listeners, finishes, someDue, lateNodes, afterTick, choose1}
 
 -- ## Nodes by number
@@ -40,11 +41,13 @@ module _ (g : Setting) (s : Run) where
 
   -- the state after it
   abbrev pub awake : ℕ → Run
-  awake b = moved s b (finished g s b) (observes b (s .tick) (nodeOf s b) ∷ []) []
+  awake b = moved s b (finished g s b) (observes b (ownTick g b (s .tick)) (nodeOf s b) ∷ []) []
 
-  pub sleep-ends : (b : ℕ) → (b ≡ 255 → ⊥) → b < length (s .nodes) → standOf (nodeOf s b) ≡ sleeping → s .tick ≡ nodeOf s b .t → choose1 g s b ≡ on (awake b)
+  pub sleep-ends : (b : ℕ) → (b ≡ 255 → ⊥) → b < length (s .nodes) → offsetOf g b ≤ s .tick → standOf (nodeOf s b) ≡ sleeping → ownTick g b (s .tick) ≡ nodeOf s b .t
+      → choose1 g s b ≡ on (awake b)
   unfolding choose1
-  sleep-ends b n h a e = rw (ne-eqb b 255 n, lt-ltb b (length (s .nodes)) h, a, eq-eqb (s .tick) (nodeOf s b .t) e)
+  sleep-ends b n h w a e =
+      rw (ne-eqb b 255 n, lt-ltb b (length (s .nodes)) h, le-leb (offsetOf g b) (s .tick) w, a, eq-eqb (ownTick g b (s .tick)) (nodeOf s b .t) e)
 
   -- ## Observations
 
@@ -86,9 +89,9 @@ module _ (g : Setting) (s : Run) where
   plain c ws = moved s c (finished g s c) [] ws
 
   few-finishes : (c : ℕ) (x : Stand) → Few (finishes g s c x)
-  few-finishes c sleeping = few-either (eqb (s .tick) (nodeOf s c .t)) (on (awake c)) forbidden (few-one (awake c) (observes c (s .tick) (nodeOf s c)) refl) few-forbidden
-  few-finishes c (sending k) = few-sent c k (listeners s c k)
-  few-finishes c (listening qs) = few-either (eqb (s .tick) (windowEnd (nodeOf s c))) (on (plain c (one c (s .tick) ∷ []))) forbidden (few-none (plain c (one c (s .tick) ∷ [])) refl) few-forbidden
+  few-finishes c sleeping = few-either (eqb (ownTick g c (s .tick)) (nodeOf s c .t)) (on (awake c)) forbidden (few-one (awake c) (observes c (ownTick g c (s .tick)) (nodeOf s c)) refl) few-forbidden
+  few-finishes c (sending k) = few-sent c k (listeners g s c k)
+  few-finishes c (listening qs) = few-either (eqb (ownTick g c (s .tick)) (windowEnd (nodeOf s c))) (on (plain c (one c (s .tick) ∷ []))) forbidden (few-none (plain c (one c (s .tick) ∷ [])) refl) few-forbidden
   few-finishes c finishing = few-none (plain c (one c (s .tick) ∷ [])) refl
   few-finishes c (adding v z) = few-either (inRange (valueAt (nodeOf s c .values) v +ℤ z)) (on (plain c [])) forbidden (few-none (plain c []) refl) few-forbidden
   few-finishes c working = few-none (plain c []) refl
@@ -106,7 +109,7 @@ module _ (g : Setting) (s : Run) where
       let tick = afterTick g (ticked s) (lateNodes g (suc (s .tick)) 0 (s .nodes)) in
       let node = finishes g s b (standOf (nodeOf s b)) in
       let due = someDue g (s .tick) 0 (s .nodes) in
-      let there = ltb b (length (s .nodes)) in
+      let there = ltb b (length (s .nodes)) && up g b (s .tick) in
       few-either (eqb b 255) (cond due forbidden tick) (cond there node forbidden)
       (few-either due forbidden tick few-forbidden (few-after (lateNodes g (suc (s .tick)) 0 (s .nodes))))
       (few-either there node forbidden (few-finishes b (standOf (nodeOf s b))) few-forbidden)

@@ -2,25 +2,29 @@
 use mathlib.Core.Path.{_≡_, refl, sym, ap, ap₂, subst, fun-ext, _∙_}
 use mathlib.Core.List.{List, [], _∷_, _++_, map}
 use mathlib.Core.Option.{Option}
-use Prim.Native.Nat.{ℕ, zero, suc, _*_, _≤_}
+use Prim.Native.Nat.{ℕ, zero, suc, _*_, _≤_, _<_}
 use native.Mathlib.Omega.{arith}
 use lib.Dec.{eqb}
 use lib.IntN.{ℤ}
 use lib.ListN.{length, take, length-append}
 use lib.Seq.{take-at}
 use Rattle.model.specs.Lists.{below, Bytes, Answer, accepted, refused}
+use Rattle.model.specs.Table.{Read}
 use Rattle.model.specs.Reader.{byte, word}
 use Rattle.model.specs.Places.{Valid, readOf}
 use Rattle.model.specs.Schedule.{Passage, own, light}
-use Rattle.model.specs.Checks.{acceptedScheduleOf}
+use Rattle.model.specs.Checks.{acceptedScheduleAt}
 use Rattle.model.specs.Program.{programBytes}
-use Rattle.model.specs.Run.{Counts, Setting, readyOfNth, settingOf, run}
+use Rattle.model.specs.Run.{Counts, Setting, readyOfNth, settingAt, offsetIn, run}
 use Rattle.model.proofs.Checks.Independence.{only-map}
 use Rattle.model.proofs.Reader.Located.{valid-read, valid-located}
-use Rattle.model.proofs.Run.Few.{few}
+use Rattle.model.proofs.Run.Few.{few-apart}
+use Rattle.model.proofs.Checks.Lower.{plan-lower}
 use Rattle.rows.specs.Rows.{rowsOf}
+use Rattle.translator.proofs.Standing.{valid-count}
+use Rattle.registers.specs.Words.{wakeTickIn}
 use Rattle.machine.specs.Running.{countsAt, settingIn}
-use Rattle.run.specs.Ends.{Roomy, EndsAs, Started, Planned}
+use Rattle.run.specs.Ends.{Roomy, EndsAs, Started, PlannedApart}
 use Rattle.run.specs.declared.Ended.{Ended}
 
 -- what the rows keep of the passages has their readies
@@ -40,8 +44,16 @@ passagesIn (refused n c) = []
 same-plan : {a : Answer (List Passage)} {S U : List Passage} → a ≡ accepted S → a ≡ accepted U → S ≡ U
 same-plan d e = ap passagesIn (sym d ∙ e)
 
-abbrev settingWith : List ℕ → ℕ → List Counts → (ℕ → ℕ → Option ℕ) → Setting
-settingWith program H counts ready = record { program = program; horizon = H; counts = counts; ready = ready }
+-- whatever the spread
+same-at : (t : Read) (G K : ℕ) {S U : List Passage} → acceptedScheduleAt G t ≡ accepted S → acceptedScheduleAt K t ≡ accepted U → S ≡ U
+same-at t G K {S} {U} d e = same-plan (plan-lower G 0 (omega arith) t S d) (plan-lower K 0 (omega arith) t U e)
+
+abbrev settingWith : List ℕ → ℕ → List Counts → List ℕ → (ℕ → ℕ → Option ℕ) → Setting
+settingWith program H counts offsets ready = record { program = program; horizon = H; counts = counts; ready = ready; offsets = offsets }
+
+-- no offset of a node is above 1,000
+pub small-offsets : (table : List ℕ) (b : Bytes table) → Valid table → {rows : List ℕ} {n : ℕ} {os : List ℕ} → PlannedApart table rows n os → (c : ℕ) → c < byte table 3 → offsetIn os c ≤ 1000
+small-offsets table b valid p c h = omega (arith, p .permitted c (omega (arith, valid-count table b valid)), p .plan .small)
 
 -- what stands at the front of bytes is no longer than they are
 pub front-fits : (front back : List ℕ) {k : ℕ} {bytes : List ℕ} → k ≡ length front → bytes ≡ front ++ back → k ≤ length bytes
@@ -51,27 +63,31 @@ front-fits front back {k} {bytes} e w = omega (arith, e, ap length w, length-app
 pub front-is : (p q : List ℕ) {long : ℕ} {written : List ℕ} → long ≡ length p → written ≡ p ++ q → take long written ≡ p
 front-is p q {long} d e = ap (take long) e ∙ take-at p q long (sym d)
 
-module _ (table : List ℕ) (b : Bytes table) (valid : Valid table) {program rows : List ℕ} {n : ℕ} (translated : program ≡ programBytes (readOf table)) (p : Planned table rows n) {l : List ℕ} {v : List ℤ}
-    (s : Started table program rows n l v) {H : ℕ} (h : H ≡ word table 5) where
-  ready-is : _≡_ {A = ℕ → ℕ → Option ℕ} (λ c k. readyOfNth (own c (rowsOf rows n)) k) (λ c k. readyOfNth (own c (p .passages)) k)
-  ready-is = fun-ext (λ c. fun-ext (λ k. ap (λ (vs : List Passage). readyOfNth (own c vs) k) (p .listed) ∙ ready-rows (p .passages) c k))
+module _ (table : List ℕ) (b : Bytes table) (valid : Valid table) {program rows : List ℕ} {n : ℕ} (translated : program ≡ programBytes (readOf table)) {os : List ℕ} (p : PlannedApart table rows n os) {l : List ℕ} {v : List ℤ}
+    (s : Started table program rows n os l v) {H : ℕ} (h : H ≡ word table 5) where
+  ready-is : _≡_ {A = ℕ → ℕ → Option ℕ} (λ c k. readyOfNth (own c (rowsOf rows n)) k) (λ c k. readyOfNth (own c (p .plan .passages)) k)
+  ready-is = fun-ext (λ c. fun-ext (λ k. ap (λ (vs : List Passage). readyOfNth (own c vs) k) (p .plan .listed) ∙ ready-rows (p .plan .passages) c k))
 
-  planned-setting : settingIn program H rows n l (byte table 3) ≡ settingOf (readOf table) (p .passages)
+  planned-setting : settingIn program H rows n l (byte table 3) ≡ settingAt (readOf table) (readOf table .horizon) (p .plan .passages) os
   planned-setting =
-      ap₂ (λ (x : List ℕ) (y : ℕ). settingWith x y (map (countsAt l) (below (byte table 3))) (λ c k. readyOfNth (own c (rowsOf rows n)) k)) translated (h ∙ valid-located table b valid .horizon)
-      ∙ ap₂ (settingWith (programBytes (readOf table)) (readOf table .horizon)) (s .counts) ready-is
+      ap₂ (λ (x : List ℕ) (y : ℕ). settingWith x y (map (countsAt l) (below (byte table 3))) (map (wakeTickIn l) (below (byte table 3))) (λ c k. readyOfNth (own c (rowsOf rows n)) k)) translated (h ∙ valid-located table b valid .horizon)
+      ∙ (ap₂ (λ (ks : List Counts) (ws : List ℕ). settingWith (programBytes (readOf table)) (readOf table .horizon) ks ws (λ c k. readyOfNth (own c (rowsOf rows n)) k)) (s .counts) (s .offsets)
+      ∙ ap (settingWith (programBytes (readOf table)) (readOf table .horizon) _ _) ready-is)
 
   -- the setting is that of the table and its schedule
-  setting-is : (S : List Passage) → acceptedScheduleOf (readOf table) ≡ accepted S → settingIn program H rows n l (byte table 3) ≡ settingOf (readOf table) S
-  setting-is S e = planned-setting ∙ ap (settingOf (readOf table)) (same-plan (p .acceptedSchedule) e)
+  setting-is : (G : ℕ) (S : List Passage) → acceptedScheduleAt G (readOf table) ≡ accepted S
+      → settingIn program H rows n l (byte table 3) ≡ settingAt (readOf table) (readOf table .horizon) S os
+  setting-is G S e =
+      planned-setting
+      ∙ ap (λ (vs : List Passage). settingAt (readOf table) (readOf table .horizon) vs os) (same-at (readOf table) (p .spread) G (p .plan .acceptedSchedule) e)
 
   -- the rows have an observation each
   pub room-enough : (choices : List ℕ) (room : ℕ) → n * 32 ≤ room → Roomy (settingIn program H rows n l (byte table 3)) choices room
   room-enough choices room r k =
       subst (λ (g : Setting). length (run g (take k choices) .state .observations) * 32 ≤ room) (sym planned-setting)
-      (omega (arith, p .count, few table (readOf table) (p .passages) (valid-read table valid) (p .acceptedSchedule) (take k choices)))
+      (omega (arith, p .plan .count, few-apart (p .spread) table (readOf table) (p .plan .passages) (valid-read table valid) (p .plan .acceptedSchedule) os (p .permitted) (take k choices)))
 
   -- so the run ends as that of the table and its schedule
   pub ends-so : {choices out out′ : List ℕ} {e : Ended} → EndsAs (settingIn program H rows n l (byte table 3)) choices out e out′
-      → (S : List Passage) → acceptedScheduleOf (readOf table) ≡ accepted S → EndsAs (settingOf (readOf table) S) choices out e out′
-  ends-so {choices} {out} {out′} {e} x S q = subst (λ (g : Setting). EndsAs g choices out e out′) (setting-is S q) x
+      → (G : ℕ) (S : List Passage) → acceptedScheduleAt G (readOf table) ≡ accepted S → EndsAs (settingAt (readOf table) (readOf table .horizon) S os) choices out e out′
+  ends-so {choices} {out} {out′} {e} x G S q = subst (λ (g : Setting). EndsAs g choices out e out′) (setting-is G S q) x

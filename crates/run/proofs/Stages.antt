@@ -2,7 +2,7 @@
 use mathlib.Core.Path.{_≡_, refl, sym, ap, subst, _∙_}
 use mathlib.Core.Bool.{Bool, true, false, cond}
 use mathlib.Core.List.{List, [], _∷_, _++_}
-use Prim.Native.Nat.{ℕ, suc, _+_, _*_, _≤_, _<_}
+use Prim.Native.Nat.{ℕ, suc, _+_, _-_, _*_, _≤_, _<_}
 use native.Mathlib.Omega.{arith}
 use borrow.Author.Tests.{eqb-true, eq-eqb, ne-eqb}
 use lib.Dec.{eqb}
@@ -11,12 +11,13 @@ use lib.ListN.{length, getD, length-append}
 use lib.Seq.{sets}
 use Rattle.model.specs.Lists.{any, each, below}
 use Rattle.model.specs.Network.{Observation}
-use Rattle.model.specs.Run.{Setting, Run, startRun, forbidden, on, over, nodeOf, standOf, sleeping, observes, ticked, afterTick, lateNodes, choose1, noNode, ends, run, observationBytes}
+use Rattle.model.specs.Run.{Setting, offsetOf, ownTick, Run, startRun, forbidden, on, over, nodeOf, standOf, sleeping, observes, ticked, afterTick, lateNodes, choose1, noNode, ends, run, observationBytes}
 use Rattle.model.proofs.Basics.Bools.{and-is}
 use Rattle.model.proofs.Schedule.Own.{all-then}
 use Rattle.node.specs.declared.Node.{Node}
 use Rattle.node.specs.Views.{Within}
-use Rattle.registers.specs.Words.{wordIn, nodeIn, partIn}
+use Rattle.registers.specs.Words.{wordIn, nodeIn, partIn, wakeTickIn}
+use Rattle.machine.proofs.Alone.{offset-at}
 use Rattle.machine.specs.declared.Moved.{Moved}
 use Rattle.machine.specs.Running.{settingIn, viewIn, NodeStands, Standing, Running}
 use Rattle.machine.specs.Chosen.{opOf, observesNow, Chosen}
@@ -46,6 +47,7 @@ stands-more program rows n l v c m k h N =
       held = N .held;
       within = within-more m k (nodeIn l v c) h (N .within);
       row = N .row;
+      wakes = N .wakes;
       due = N .due;
       last = N .last;
     }
@@ -132,7 +134,7 @@ module _ {program : List ℕ} {H : ℕ} {rows : List ℕ} {n count : ℕ} {l₀ 
       tick-by {d} e =
           tick-choice g s b is
           ∙ ap (λ (t : Bool). cond t forbidden (afterTick g (ticked s) (lateNodes g (suc (s .tick)) 0 (s .nodes))))
-          (due-said program H rows n l₀ l v count s (St .running) (s .tick) (omega (arith, St .tick, St .early))
+          (due-said program H rows n l₀ l v count s (St .running) (St .same) (s .tick) (omega (arith, St .tick, St .early))
           ∙ subst (λ (t : ℕ). any (λ (c : ℕ). eqb (wordIn l c 26) t) (below count) ≡ d) (sym (St .tick)) e)
 
       -- somebody is due
@@ -155,12 +157,12 @@ module _ {program : List ℕ} {H : ℕ} {rows : List ℕ} {n count : ℕ} {l₀ 
         -- a node is late
         pub tick-late : {e : Ended} → r < count → Says e 2 r (now + 1) (k + 1) w → EndsAs g choices out₀ e out
         tick-late h x =
-            let m = late-some program H rows n l₀ l v count s (St .running) (suc (s .tick)) (omega (arith, St .tick, St .early)) F′ h in
+            let m = late-some program H rows n l₀ l v count s (St .running) (St .same) (suc (s .tick)) (omega (arith, St .tick, St .early)) F′ h in
             ends-then x (tick-by d ∙ ap (afterTick g (ticked s)) (m .1))
 
         passes : count ≤ r → choose1 g s b ≡ cond (eqb (suc (s .tick)) H) (over (ticked s) 0 255) (on (ticked s))
         passes h =
-            tick-by d ∙ ap (afterTick g (ticked s)) (late-none program H rows n l₀ l v count s (St .running) (suc (s .tick)) (omega (arith, St .tick, St .early)) F′ h)
+            tick-by d ∙ ap (afterTick g (ticked s)) (late-none program H rows n l₀ l v count s (St .running) (St .same) (suc (s .tick)) (omega (arith, St .tick, St .early)) F′ h)
 
         -- the horizon is reached
         pub tick-horizon : {e : Ended} → count ≤ r → now + 1 ≡ H → Says e 0 255 (now + 1) (k + 1) w → EndsAs g choices out₀ e out
@@ -196,15 +198,18 @@ module _ {program : List ℕ} {H : ℕ} {rows : List ℕ} {n count : ℕ} {l₀ 
     -- ## A node
 
     -- there is room for the observation that is written if it sleeps until now
-    pub room : Roomy g choices (length out₀) → (b ≡ 255 → ⊥) → b < count → observesNow program l v b now ≡ true → w * 32 + 32 ≤ length out
-    room R not h o =
-        let both = and-is (eqb (opOf program l v b) 0) (eqb now (wordIn l b 1)) .0 o in
+    pub room : Roomy g choices (length out₀) → (b ≡ 255 → ⊥) → b < count → wakeTickIn l b ≤ now → observesNow program l v b (now - wakeTickIn l b) ≡ true → w * 32 + 32 ≤ length out
+    room R not h up o =
+        let both = and-is (eqb (opOf program l v b) 0) (eqb (now - wakeTickIn l b) (wordIn l b 1)) .0 o in
+        let offset : offsetOf g b ≡ wakeTickIn l b = ap (λ (q : Setting). offsetOf q b) (sym (St .same)) ∙ offset-at program H rows n l count b h in
+        let wake : offsetOf g b ≤ s .tick = omega (arith, St .tick, offset, up) in
+        let clock : ownTick g b (s .tick) ≡ now - wakeTickIn l b = omega (arith, St .tick, offset) in
         let node : nodeOf s b ≡ viewIn program l v b = ap (λ (ns : List Rattle.model.specs.Machine.Node). getD ns b noNode) (St .running .nodes) ∙ numbered-below (viewIn program l v) count b h in
         let there : b < length (s .nodes) = omega (arith, ap length (St .running .nodes), as-many (viewIn program l v) 0 count) in
         let sleeps : standOf (nodeOf s b) ≡ sleeping = ap standOf node ∙ stand-op (partIn program l b) (wordIn l b 0) 0 (eqb-true (opOf program l v b) 0 (both .0)) in
-        let due : s .tick ≡ nodeOf s b .t = St .tick ∙ eqb-true now (wordIn l b 1) (both .1) ∙ sym (ap (λ (r : Rattle.model.specs.Machine.Node). r .t) node) in
-        let fits = roomy-at g choices (k + 1) (awake g s b) (reaches-next g choices k s (St .reaches) more (sleep-ends g s b not there sleeps due)) (length out₀) R in
-        let longer = length-append (s .observations) (observes b (s .tick) (nodeOf s b) ∷ []) in
+        let due : ownTick g b (s .tick) ≡ nodeOf s b .t = clock ∙ eqb-true (now - wakeTickIn l b) (wordIn l b 1) (both .1) ∙ sym (ap (λ (r : Rattle.model.specs.Machine.Node). r .t) node) in
+        let fits = roomy-at g choices (k + 1) (awake g s b) (reaches-next g choices k s (St .reaches) more (sleep-ends g s b not there wake sleeps due)) (length out₀) R in
+        let longer = length-append (s .observations) (observes b (ownTick g b (s .tick)) (nodeOf s b) ∷ []) in
         let long : length out ≡ length out₀ = over-length (s .observations) out₀ out (St .bytes) (roomy-at g choices k s (St .reaches) (length out₀) R) in
         omega (arith, St .written)
 

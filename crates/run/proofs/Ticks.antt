@@ -1,14 +1,14 @@
 -- A tick by the words that the slices keep: whether a node is due, and which is the first late one. Assumes nothing.
 use mathlib.Core.Path.{_≡_, refl, sym, ap, _∙_}
-use mathlib.Core.Bool.{Bool, true, false, cond, _||_}
+use mathlib.Core.Bool.{Bool, true, false, cond, _&&_, _||_}
 use mathlib.Core.List.{List, [], _∷_, map}
 use mathlib.Core.Logic.{by-cases}
 use mathlib.Core.Option.{Option, none, some}
-use Prim.Native.Nat.{ℕ, zero, suc, _+_, _≤_, _<_}
+use Prim.Native.Nat.{ℕ, zero, suc, _+_, _-_, _≤_, _<_}
 use native.Mathlib.Omega.{arith}
 use native.Mathlib.Decide.{ℕ-discrete}
 use borrow.Author.Tests.{ltb-true, ltb-false, lt-ltb, le-ltb, eq-eqb, ne-eqb}
-use lib.Dec.{ltb, eqb}
+use lib.Dec.{leb, ltb, eqb}
 use lib.IntN.{ℤ}
 use lib.ListN.{length, drop, drop-of-length-le}
 use lib.Seq.{drop-cons, drop-nil}
@@ -16,8 +16,10 @@ use Rattle.model.specs.Lists.{any, from, below}
 use Rattle.model.specs.Schedule.{Passage, own}
 use Rattle.model.specs.Checks.{noPassage, passageAt}
 use Rattle.model.specs.Machine.{Node}
-use Rattle.model.specs.Run.{Setting, readyOfNth, Run, Stand, sleeping, sending, listening, finishing, adding, working, taking, elsewhere, nowhere, standOf, due, someDue, overdue, late, lateNodes}
+use Rattle.model.specs.Run.{Setting, offsetOf, ownTick, awake, readyOfNth, Run, Stand, sleeping, sending, listening, finishing, adding, working, taking, elsewhere, nowhere, standOf, due, someDue, overdue, late, lateNodes}
 use Rattle.model.proofs.Schedule.Own.{own-here}
+use Rattle.model.proofs.Run.OwnClock.{due-shifted, late-shifted}
+use Rattle.machine.proofs.Alone.{offset-at}
 use Rattle.rows.specs.Rows.{rowsOf}
 use Rattle.stand.specs.Stands.{never, dueTick, lastTick}
 use Rattle.registers.specs.Words.{wordIn}
@@ -93,10 +95,10 @@ row-overdue g now S c k row R h =
 module _ (g : Setting) (now : ℕ) (f : ℕ → Node) where
   -- whether node k is due, is late
   abbrev dueOf : ℕ → Bool
-  dueOf k = due g now (f k) (standOf (f k))
+  dueOf k = awake g k now && due g (ownTick g k now) (f k) (standOf (f k))
 
   abbrev lateOf : ℕ → Bool
-  lateOf k = late g now k (f k) (standOf (f k))
+  lateOf k = late g (ownTick g k now) k (f k) (standOf (f k))
 
   any-due : (w : ℕ → Bool) (i n : ℕ) → ((k : ℕ) → i ≤ k → k < i + n → dueOf k ≡ w k) → someDue g now i (map f (from i n)) ≡ any w (from i n)
   unfolding someDue
@@ -130,7 +132,8 @@ module _ (g : Setting) (now : ℕ) (f : ℕ → Node) where
 
 -- ## The nodes in the slices
 
-module _ (program : List ℕ) (H : ℕ) (rows : List ℕ) (n : ℕ) (l₀ l : List ℕ) (v : List ℤ) (count : ℕ) (s : Run) (R : Running program rows n l v count s) (now : ℕ) (early : now < never) where
+module _ (program : List ℕ) (H : ℕ) (rows : List ℕ) (n : ℕ) (l₀ l : List ℕ) (v : List ℤ) (count : ℕ) (s : Run) (R : Running program rows n l v count s)
+    (same : settingIn program H rows n l count ≡ settingIn program H rows n l₀ count) (now : ℕ) (early : now < never) where
   -- what the run goes by
   abbrev g : Setting
   g = settingIn program H rows n l₀ count
@@ -138,18 +141,35 @@ module _ (program : List ℕ) (H : ℕ) (rows : List ℕ) (n : ℕ) (l₀ l : Li
   abbrev view : ℕ → Node
   view c = viewIn program l v c
 
+  offset-is : (c : ℕ) → c < count → offsetOf g c ≡ wordIn l c 28
+  offset-is c h = ap (λ (q : Setting). offsetOf q c) (sym same) ∙ offset-at program H rows n l count c h
+
+  -- a node is due, by its own clock, exactly if its word says so
+  node-due : (c : ℕ) → c < count → (awake g c now && due g (ownTick g c now) (view c) (standOf (view c))) ≡ eqb (wordIn l c 26) now
+  node-due c h =
+      let o = offsetOf g c in
+      let tick = dueTick (view c) (standOf (view c)) in
+      ap (λ (x : Bool). leb o now && x) (due-at g (now - o) (view c) (standOf (view c)) (omega arith) ∙ turned tick (now - o))
+      ∙ (sym (due-shifted o tick now)
+      ∙ (ap (λ (k : ℕ). eqb (tick + k) now) (offset-is c h) ∙ ap (λ (w : ℕ). eqb w now) (sym (R .each c h .due))))
+
   -- somebody is due exactly if the word of one says so
   pub due-said : someDue g now 0 (s .nodes) ≡ any (λ (c : ℕ). eqb (wordIn l c 26) now) (below count)
   due-said =
       ap (someDue g now 0) (R .nodes)
       ∙ any-due g now view (λ (c : ℕ). eqb (wordIn l c 26) now) 0 count
-      (λ c a b. due-at g now (view c) (standOf (view c)) early ∙ ap (λ (w : ℕ). eqb w now) (sym (R .each c (omega arith) .due)))
+      (λ c a b. node-due c (omega arith))
 
-  late-said : (c : ℕ) → c < count → late g now c (view c) (standOf (view c)) ≡ ltb (wordIn l c 27) now
+  late-said : (c : ℕ) → c < count → late g (ownTick g c now) c (view c) (standOf (view c)) ≡ ltb (wordIn l c 27) now
   late-said c h =
       let N = R .each c h in
-      late-at g now (view c) c (readyAt (rowsOf rows n) (wordIn l c 25)) (standOf (view c)) early (row-overdue g now (rowsOf rows n) c (view c .sleeps) (wordIn l c 25) (N .row) early)
-      ∙ ap (λ (w : ℕ). ltb w now) (sym (N .last))
+      let o = offsetOf g c in
+      let next = readyAt (rowsOf rows n) (wordIn l c 25) in
+      let last = lastTick (view c) next (standOf (view c)) in
+      let before : now - o < never = omega arith in
+      late-at g (now - o) (view c) c next (standOf (view c)) before (row-overdue g (now - o) (rowsOf rows n) c (view c .sleeps) (wordIn l c 25) (N .row) before)
+      ∙ (sym (late-shifted o last now)
+      ∙ (ap (λ (k : ℕ). ltb (last + k) now) (offset-is c h) ∙ ap (λ (w : ℕ). ltb w now) (sym (N .last))))
 
   -- nobody is late
   pub late-none : {r : ℕ} → FirstLate l count now r → count ≤ r → lateNodes g now 0 (s .nodes) ≡ []

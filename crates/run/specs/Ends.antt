@@ -5,15 +5,16 @@ use Prim.Native.Nat.{ℕ, _*_, _-_, _≤_, _<_}
 use lib.IntN.{ℤ}
 use lib.ListN.{length, getD, take, drop}
 use Rattle.model.specs.Lists.{each, below, accepted}
-use Rattle.model.specs.Table.{Component}
+use Rattle.model.specs.Table.{Component, size}
 use Rattle.model.specs.Reader.{byte}
 use Rattle.model.specs.Places.{readOf}
 use Rattle.model.specs.Schedule.{Passage, light}
-use Rattle.model.specs.Checks.{acceptedScheduleOf}
+use Rattle.model.specs.Checks.{acceptedScheduleAt}
 use Rattle.model.specs.Machine.{startNode, partBytes}
-use Rattle.model.specs.Run.{Counts, Setting, startRun, run, observationBytes}
+use Rattle.model.specs.Run.{Counts, Setting, offsetIn, startRun, run, observationBytes}
+use Rattle.model.specs.Apart.{Permitted}
 use Rattle.rows.specs.Rows.{rowsOf}
-use Rattle.registers.specs.Words.{wordIn, Eight, SameNode, partStart, partLength, clockCount, variableCount, rowIn, dueIn, lastIn}
+use Rattle.registers.specs.Words.{wordIn, Eight, SameNode, partStart, partLength, clockCount, variableCount, rowIn, dueIn, lastIn, wakeTickIn}
 use Rattle.machine.specs.Running.{RowsStand, countsAt, settingIn, viewIn, NodeStands, Running}
 use Rattle.run.specs.declared.Ended.{Ended}
 
@@ -48,36 +49,46 @@ Ticks choices from end = (i : ℕ) → from ≤ i → i < end → getD choices i
 
 -- ## The start
 
--- words 21 to 25 of node c are these numbers; the words of any other node are as they were
-pub record WordsPut (l : List ℕ) (c start long clocks variables row : ℕ) (l′ : List ℕ) : Type 0 where
+-- words 21 to 25 and 28 of node c are these numbers; the words of any other node are as they were
+pub record WordsPut (l : List ℕ) (c start long clocks variables row wake : ℕ) (l′ : List ℕ) : Type 0 where
   pub begins : partStart l′ c ≡ start
   pub lasts : partLength l′ c ≡ long
   pub ages : clockCount l′ c ≡ clocks
   pub holds : variableCount l′ c ≡ variables
   pub passes : rowIn l′ c ≡ row
+  pub wakes : wakeTickIn l′ c ≡ wake
   pub others : (i k : ℕ) → (i ≡ c → ⊥) → k < 32 → wordIn l′ i k ≡ wordIn l i k
   pub same : length l′ ≡ length l
 
--- node c stands at its program's start, with so many clocks and variables; all of any other node is as it was
-pub record NodeStarted (program rows : List ℕ) (n clocks variables : ℕ) (l : List ℕ) (v : List ℤ) (c : ℕ) (l′ : List ℕ) (v′ : List ℤ) : Type 0 where
+-- node c stands at its program's start, with so many clocks and variables, and wakes at that tick; all of any other node is as it was
+pub record NodeStarted (program rows : List ℕ) (n clocks variables wake : ℕ) (l : List ℕ) (v : List ℤ) (c : ℕ) (l′ : List ℕ) (v′ : List ℤ) : Type 0 where
   pub stands : NodeStands program rows n l′ v′ c 0
   pub view : viewIn program l′ v′ c ≡ startNode (partBytes program c) clocks variables
   pub counts : countsAt l′ c ≡ record { clocks = clocks; variables = variables }
+  pub wakes : wakeTickIn l′ c ≡ wake
   pub others : (i : ℕ) → (i ≡ c → ⊥) → SameNode l v l′ v′ i
   pub eight : Eight l′ v′
 
 abbrev pub countsOf : Component → Counts
 countsOf C = record { clocks = C .clocks; variables = C .variables }
 
--- the slices hold the nodes of the table at their programs' start
-pub record Started (table program rows : List ℕ) (n : ℕ) (l : List ℕ) (v : List ℤ) : Type 0 where
+-- the slices hold the nodes of the table at their programs' start, with these offsets
+pub record Started (table program rows : List ℕ) (n : ℕ) (handed l : List ℕ) (v : List ℤ) : Type 0 where
   pub counts : map (countsAt l) (below (byte table 3)) ≡ map countsOf (readOf table .table .components)
+  pub offsets : map (wakeTickIn l) (below (byte table 3)) ≡ map (offsetIn handed) (below (size (readOf table .table)))
   pub running : (H : ℕ) → Running program rows n l v (byte table 3) (startRun (settingIn program H rows n l (byte table 3)))
 
--- the rows are the schedule of an accepted table
-pub record Planned (table rows : List ℕ) (n : ℕ) : Type 0 where
+-- the rows are the schedule of a table accepted at a spread
+pub record Planned (spread : ℕ) (table rows : List ℕ) (n : ℕ) : Type 0 where
+  pub small : spread ≤ 1000
   pub passages : List Passage
-  pub acceptedSchedule : acceptedScheduleOf (readOf table) ≡ accepted passages
+  pub acceptedSchedule : acceptedScheduleAt spread (readOf table) ≡ accepted passages
   pub count : n ≡ length passages
   pub listed : rowsOf rows n ≡ map light passages
   pub stand : RowsStand rows n
+
+-- and the offsets lie in the spread
+pub record PlannedApart (table rows : List ℕ) (n : ℕ) (offsets : List ℕ) : Type 0 where
+  pub spread : ℕ
+  pub plan : Planned spread table rows n
+  pub permitted : Permitted spread (size (readOf table .table)) offsets

@@ -8,13 +8,13 @@ ghost use Rattle.model.specs.Lists.{any, below, accepted};
 ghost use Rattle.model.specs.Reader.{byte};
 ghost use Rattle.model.specs.Places.{Valid, readOf};
 ghost use Rattle.model.specs.Schedule.{Passage};
-ghost use Rattle.model.specs.Checks.{acceptedScheduleOf};
+ghost use Rattle.model.specs.Checks.{acceptedScheduleAt};
 ghost use Rattle.model.specs.Program.{programBytes};
-ghost use Rattle.model.specs.Run.{settingOf, startRun};
+ghost use Rattle.model.specs.Run.{settingAt, offsetIn, startRun};
 ghost use Rattle.table.specs.Directory.{startsOf};
 ghost use Rattle.registers.specs.Words.{Eight, dueIn};
 ghost use Rattle.machine.specs.Running.{RowsStand, settingIn, Running};
-ghost use Rattle.run.specs.Ends.{Roomy, EndsAs, FirstLate, Calm, Ticks, WordsPut, NodeStarted, Started, Planned};
+ghost use Rattle.run.specs.Ends.{Roomy, EndsAs, FirstLate, Calm, Ticks, WordsPut, NodeStarted, Started, PlannedApart};
 
 // How a run ended: document 01's number of the end, the node, the tick, the choices used, the observations written.
 pub struct Ended {
@@ -204,7 +204,7 @@ fn carry_out(
     end_of(1, 255, tick, used, written)
 }
 
-// Words 21 to 25 of node c: its part, its counts, its row.
+// Words 21 to 25 and 28 of node c: its part, its counts, its row, and the tick at which it wakes.
 fn put_fixed(
     words: &mut [u64],
     c: usize,
@@ -213,18 +213,20 @@ fn put_fixed(
     clocks: u8,
     variables: u8,
     row: usize,
+    wake: u32,
 )
     requires { ⌜ (256 ≤ length (now words)) × (c < 8) ⌝ }
-    ensures { λ _. ⌜ WordsPut (now (words .entry)) c start long clocks variables row (now (words .exit)) ⌝ }
+    ensures { λ _. ⌜ WordsPut (now (words .entry)) c start long clocks variables row wake (now (words .exit)) ⌝ }
 {
     registers::put_word(words, c, registers::PART_START, start as u64);
     registers::put_word(words, c, registers::PART_LENGTH, long as u64);
     registers::put_word(words, c, registers::CLOCK_COUNT, clocks as u64);
     registers::put_word(words, c, registers::VARIABLE_COUNT, variables as u64);
     registers::put_word(words, c, registers::ROW, row as u64);
+    registers::put_word(words, c, registers::WAKE_TICK, wake as u64);
 }
 
-// Node c at its program's start; its component stands at that place of the table.
+// Node c at its program's start; its component stands at that place of the table, and it wakes at that tick.
 fn start_node(
     table: &[u8],
     at: usize,
@@ -234,17 +236,34 @@ fn start_node(
     words: &mut [u64],
     values: &mut [i16],
     c: usize,
+    wake: u32,
 )
-    requires { ⌜ Eight (now words) (now values) × RowsStand (now rows) passages × (c < 8) × (at + 6 ≤ length (now table)) × (byte (now table) (at + 4) ≤ 4) × (byte (now table) (at + 5) ≤ 4) ⌝ }
-    ensures { λ _. ⌜ NodeStarted (now (program .entry)) (now (rows .entry)) passages (byte (now (table .entry)) (at + 4)) (byte (now (table .entry)) (at + 5)) (now (words .entry)) (now (values .entry)) c (now (words .exit)) (now (values .exit)) ⌝ }
+    requires { ⌜ Eight (now words) (now values) × RowsStand (now rows) passages × (c < 8) × (at + 6 ≤ length (now table)) × (byte (now table) (at + 4) ≤ 4) × (byte (now table) (at + 5) ≤ 4) × (wake ≤ 1000) ⌝ }
+    ensures { λ _. ⌜ NodeStarted (now (program .entry)) (now (rows .entry)) passages (byte (now (table .entry)) (at + 4)) (byte (now (table .entry)) (at + 5)) wake (now (words .entry)) (now (values .entry)) c (now (words .exit)) (now (values .exit)) ⌝ }
 {
     let span = program::span_of(program, c as u8);
     let start = span.start;
     let long = span.long;
     let row = machine::next_row(rows, passages, c, 0);
-    put_fixed(words, c, start, long, table[at + 4], table[at + 5], row);
+    put_fixed(
+        words,
+        c,
+        start,
+        long,
+        table[at + 4],
+        table[at + 5],
+        row,
+        wake,
+    );
     let begun = stand::start_node(&program[start..start + long]);
     machine::put_node(program, rows, passages, words, values, c, begun);
+}
+
+// The offset of node c, 0 where none is handed.
+fn offset_of(offsets: &[u32], c: usize) -> u32
+    ensures { λ r. ⌜ r ≡ offsetIn (now (offsets .entry)) c ⌝ }
+{
+    if c < offsets.len() { offsets[c] } else { 0 }
 }
 
 // All nodes at their programs' start.
@@ -254,11 +273,12 @@ fn start(
     program: &[u8],
     rows: &[u32],
     passages: usize,
+    offsets: &[u32],
     words: &mut [u64],
     values: &mut [i16],
 )
-    requires { ⌜ Valid (now table) × (starts ≡ startsOf (now table) (byte (now table) 3)) × Eight (now words) (now values) × RowsStand (now rows) passages ⌝ }
-    ensures { λ _. ⌜ Started (now (table .entry)) (now (program .entry)) (now (rows .entry)) passages (now (words .exit)) (now (values .exit)) ⌝ }
+    requires { ⌜ Valid (now table) × (starts ≡ startsOf (now table) (byte (now table) 3)) × Eight (now words) (now values) × RowsStand (now rows) passages × ((c : ℕ) → c < byte (now table) 3 → offsetIn (now offsets) c ≤ 1000) ⌝ }
+    ensures { λ _. ⌜ Started (now (table .entry)) (now (program .entry)) (now (rows .entry)) passages (now (offsets .entry)) (now (words .exit)) (now (values .exit)) ⌝ }
 {
     let count = table[3] as usize;
     let mut c: usize = 0;
@@ -272,6 +292,7 @@ fn start(
             words,
             values,
             c,
+            offset_of(offsets, c),
         );
         c += 1;
     }
@@ -284,11 +305,12 @@ fn run_program(
     program: &[u8],
     rows: &[u32],
     passages: usize,
+    offsets: &[u32],
     choices: &[u8],
     out: &mut [u8],
 ) -> Ended
-    requires { ⌜ Valid (now table) × (starts ≡ startsOf (now table) (byte (now table) 3)) × (now program ≡ programBytes (readOf (now table))) × Planned (now table) (now rows) passages × (passages * 32 ≤ length (now out)) × (length (now choices) ≤ 1000000) ⌝ }
-    ensures { λ e. ⌜ ((S : List Passage) → acceptedScheduleOf (readOf (now (table .entry))) ≡ accepted S → EndsAs (settingOf (readOf (now (table .entry))) S) (now (choices .entry)) (now (out .entry)) e (now (out .exit))) ⌝ }
+    requires { ⌜ Valid (now table) × (starts ≡ startsOf (now table) (byte (now table) 3)) × (now program ≡ programBytes (readOf (now table))) × PlannedApart (now table) (now rows) passages (now offsets) × (passages * 32 ≤ length (now out)) × (length (now choices) ≤ 1000000) ⌝ }
+    ensures { λ e. ⌜ ((G : ℕ) (S : List Passage) → acceptedScheduleAt G (readOf (now (table .entry))) ≡ accepted S → EndsAs (settingAt (readOf (now (table .entry))) (readOf (now (table .entry)) .horizon) S (now (offsets .entry))) (now (choices .entry)) (now (out .entry)) e (now (out .exit))) ⌝ }
 {
     let mut words = [0u64; 256];
     let mut values = [0i16; 32];
@@ -298,6 +320,7 @@ fn run_program(
         program,
         rows,
         passages,
+        offsets,
         &mut words,
         &mut values,
     );
@@ -323,11 +346,12 @@ fn run_in(
     program: &mut [u8],
     rows: &[u32],
     passages: usize,
+    offsets: &[u32],
     choices: &[u8],
     out: &mut [u8],
 ) -> Ended
-    requires { ⌜ Valid (now table) × (starts ≡ startsOf (now table) (byte (now table) 3)) × (length (programBytes (readOf (now table))) ≤ length (now program)) × Planned (now table) (now rows) passages × (passages * 32 ≤ length (now out)) × (length (now choices) ≤ 1000000) ⌝ }
-    ensures { λ e. ⌜ ((S : List Passage) → acceptedScheduleOf (readOf (now (table .entry))) ≡ accepted S → EndsAs (settingOf (readOf (now (table .entry))) S) (now (choices .entry)) (now (out .entry)) e (now (out .exit))) ⌝ }
+    requires { ⌜ Valid (now table) × (starts ≡ startsOf (now table) (byte (now table) 3)) × (length (programBytes (readOf (now table))) ≤ length (now program)) × PlannedApart (now table) (now rows) passages (now offsets) × (passages * 32 ≤ length (now out)) × (length (now choices) ≤ 1000000) ⌝ }
+    ensures { λ e. ⌜ ((G : ℕ) (S : List Passage) → acceptedScheduleAt G (readOf (now (table .entry))) ≡ accepted S → EndsAs (settingAt (readOf (now (table .entry))) (readOf (now (table .entry)) .horizon) S (now (offsets .entry))) (now (choices .entry)) (now (out .entry)) e (now (out .exit))) ⌝ }
 {
     let long = translator::write_program(table, starts, program);
     run_program(
@@ -336,27 +360,47 @@ fn run_in(
         &program[..long],
         rows,
         passages,
+        offsets,
         choices,
         out,
     )
 }
 
-// Runs the programs of an accepted table whose schedule stands in the rows.
+// Runs the programs of a table accepted at a spread, whose schedule stands in the rows, with offsets up to the spread.
 pub fn run_table(
     table: &[u8],
     starts: [u16; 8],
     rows: &[u32],
     passages: usize,
+    offsets: &[u32],
     choices: &[u8],
     out: &mut [u8],
 ) -> Ended
-    requires { ⌜ Valid (now table) × (starts ≡ startsOf (now table) (byte (now table) 3)) × Planned (now table) (now rows) passages × (passages * 32 ≤ length (now out)) × (length (now choices) ≤ 1000000) ⌝ }
-    ensures { λ e. ⌜ ((S : List Passage) → acceptedScheduleOf (readOf (now (table .entry))) ≡ accepted S → EndsAs (settingOf (readOf (now (table .entry))) S) (now (choices .entry)) (now (out .entry)) e (now (out .exit))) ⌝ }
+    requires { ⌜ Valid (now table) × (starts ≡ startsOf (now table) (byte (now table) 3)) × PlannedApart (now table) (now rows) passages (now offsets) × (passages * 32 ≤ length (now out)) × (length (now choices) ≤ 1000000) ⌝ }
+    ensures { λ e. ⌜ ((G : ℕ) (S : List Passage) → acceptedScheduleAt G (readOf (now (table .entry))) ≡ accepted S → EndsAs (settingAt (readOf (now (table .entry))) (readOf (now (table .entry)) .horizon) S (now (offsets .entry))) (now (choices .entry)) (now (out .entry)) e (now (out .exit))) ⌝ }
 {
     if translator::program_length(table, starts) <= 2048 {
         let mut program = [0u8; 2048];
-        return run_in(table, starts, &mut program, rows, passages, choices, out);
+        return run_in(
+            table,
+            starts,
+            &mut program,
+            rows,
+            passages,
+            offsets,
+            choices,
+            out,
+        );
     }
     let mut program = [0u8; 24576];
-    run_in(table, starts, &mut program, rows, passages, choices, out)
+    run_in(
+        table,
+        starts,
+        &mut program,
+        rows,
+        passages,
+        offsets,
+        choices,
+        out,
+    )
 }

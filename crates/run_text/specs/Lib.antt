@@ -1,1 +1,2 @@
 pub mod RunText
+pub mod Cases

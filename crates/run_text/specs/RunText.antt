@@ -1,6 +1,6 @@
--- A run in words: how it ended, the tick and the choices used, and the observations as a table.
+-- A run in words: how it ended, the tick and the choices used, and the observations as a table; of nodes that wake apart also their offsets.
 use mathlib.Core.Bool.{cond}
-use mathlib.Core.List.{List, [], _++_}
+use mathlib.Core.List.{List, [], _∷_, _++_, map}
 use Prim.Native.Nat.{ℕ, _+_, _*_}
 use lib.Dec.{ltb}
 use lib.ListN.{length, getD}
@@ -8,8 +8,10 @@ use Rattle.model.specs.declared.End.{End}
 use Rattle.model.specs.declared.End.the-variants.{Horizon, UsedUp, Late, NotAllowed}
 use Rattle.model.specs.declared.Verdict.{Verdict}
 use Rattle.model.specs.declared.Verdict.the-variants.{Accepted, Refused}
-use Rattle.model.specs.Lists.{each}
-use Rattle.model.specs.Calls.{RunCall, runCall}
+use Rattle.model.specs.Lists.{each, below}
+use Rattle.model.specs.Reader.{byte}
+use Rattle.model.specs.Run.{offsetIn}
+use Rattle.model.specs.Calls.{RunCall, runCall, offsetsFine, runCallAt}
 use Rattle.text.specs.Words.{ascii, decimal, field, told}
 use Rattle.text.specs.Columns.{column, signedText}
 use Rattle.refusal_text.specs.RefusalText.{refusalText}
@@ -76,3 +78,31 @@ ranText Accepted r choices =
 unfoldable pub runText : List ℕ → List ℕ → List ℕ → List ℕ
 unfolding runCall decimal refusalText observationLines
 runText table choices lent = ranText (runCall table choices lent .verdict) (runCall table choices lent) choices
+
+-- ## The run of nodes that wake apart
+
+-- numbers with commas between
+abbrev pub listed : List ℕ → List ℕ
+listed [] = []
+listed (n ∷ ns) = decimal n ++ each (field ", ") ns
+
+-- Document 02, wish 6: the run takes "an offset for each node", 0 where none is handed in, and "Observations carry the node's own clock". So the
+-- offsets are told where one of them is above 0.
+unfoldable pub offsetsText : ℕ → List ℕ → List ℕ
+unfolding offsetsFine decimal each
+offsetsText nodes offsets =
+    cond (offsetsFine 0 nodes offsets) []
+    (ascii "offsets: " ++ listed (map (offsetIn offsets) (below nodes)) ++ ascii " (a node's tick is by its own clock, which starts at its offset)\n")
+
+abbrev pub ranTextAt : ℕ → List ℕ → Verdict → RunCall → List ℕ → List ℕ
+ranTextAt nodes offsets (Refused number component) r choices = refusalText number component
+ranTextAt nodes offsets Accepted r choices =
+    endText (r .end) choices (r .used) ++ countsText (r .tick) (r .used) (r .size) ++ offsetsText nodes offsets ++ firstLine
+    ++ observationLines (r .lent) (r .size)
+
+-- The same at a spread G: one offset is told for each node of the table, whose number is its byte 3. Without a spread and without offsets it is the
+-- text above (the law `text-together` in proofs/Together.antt).
+unfoldable pub runTextAt : ℕ → List ℕ → List ℕ → List ℕ → List ℕ → List ℕ
+unfolding runCallAt decimal refusalText observationLines offsetsText
+runTextAt G table offsets choices lent =
+    ranTextAt (byte table 3) offsets (runCallAt G table offsets choices lent .verdict) (runCallAt G table offsets choices lent) choices

@@ -1,4 +1,7 @@
 // A run in words, and its observations as a table.
+mod offsets;
+
+pub use offsets::put_offsets;
 ghost use mathlib.Core.Path.{_≡_};
 ghost use mathlib.Core.List.{List};
 ghost use Prim.Native.Nat.{ℕ, _+_, _*_, _≤_, _<_};

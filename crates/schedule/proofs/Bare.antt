@@ -69,15 +69,15 @@ first-map f p q e (x ∷ S) = rw (e x, first-map f p q e S) (go (q x))
     go true = refl
     go false = refl
 
-heard-light : (s : Passage) (rs : List Passage) → heardWell (light s) (map light rs) ≡ heardWell s rs
-heard-light s [] = refl
-heard-light s (r ∷ []) = refl
-heard-light s (r ∷ q ∷ rs) = refl
+heard-light : (G : ℕ) (s : Passage) (rs : List Passage) → heardWell G (light s) (map light rs) ≡ heardWell G s rs
+heard-light G s [] = refl
+heard-light G s (r ∷ []) = refl
+heard-light G s (r ∷ q ∷ rs) = refl
 
-hearing-light : (s : Passage) (rs : List Passage) → hearingOf (light s) (map light rs) ≡ hearingOf s rs
-hearing-light s [] = refl
-hearing-light s (r ∷ []) = refl
-hearing-light s (r ∷ q ∷ rs) = refl
+hearing-light : (G : ℕ) (s : Passage) (rs : List Passage) → hearingOf G (light s) (map light rs) ≡ hearingOf G s rs
+hearing-light G s [] = refl
+hearing-light G s (r ∷ []) = refl
+hearing-light G s (r ∷ q ∷ rs) = refl
 
 two-light : (ss : List Passage) → two (map light ss) ≡ two ss
 two-light [] = refl
@@ -89,33 +89,33 @@ fault-light : (number number′ : Passage → ℕ) → ((v : Passage) → number
 fault-light number number′ same none a b e = e
 fault-light number number′ same (some v) a b e = ap (λ (n : ℕ). Refused n (v .component)) (same v)
 
-module _ (T : Table) (H : ℕ) (S : List Passage) where
-  pub collides-light : (s : Passage) → collides T H (map light S) (light s) ≡ collides T H S s
-  collides-light s = ap (λ b. isSend T H s && b) (any-map light (meets T H s) S)
+module _ (G : ℕ) (T : Table) (H : ℕ) (S : List Passage) where
+  pub collides-light : (s : Passage) → collides G T H (map light S) (light s) ≡ collides G T H S s
+  collides-light s = ap (λ b. isSend T H s && b) (any-map light (meets G T H s) S)
 
-  pub unheard-light : (s : Passage) → unheard T H (map light S) (light s) ≡ unheard T H S s
+  pub unheard-light : (s : Passage) → unheard G T H (map light S) (light s) ≡ unheard G T H S s
   unheard-light s =
       ap (λ b. isSend T H s && not b)
-      (ap (heardWell (light s)) (only-map light (λ r. mayHear T r s) S) ∙ heard-light s (only (λ r. mayHear T r s) S))
+      (ap (heardWell G (light s)) (only-map light (λ r. mayHear G T r s) S) ∙ heard-light G s (only (λ r. mayHear G T r s) S))
 
-  pub number-light : (s : Passage) → unheardNumber T (map light S) (light s) ≡ unheardNumber T S s
+  pub number-light : (s : Passage) → unheardNumber G T (map light S) (light s) ≡ unheardNumber G T S s
   number-light s =
-      ap hearingNumber (ap (hearingOf (light s)) (only-map light (λ r. mayHear T r s) S) ∙ hearing-light s (only (λ r. mayHear T r s) S))
+      ap hearingNumber (ap (hearingOf G (light s)) (only-map light (λ r. mayHear G T r s) S) ∙ hearing-light G s (only (λ r. mayHear G T r s) S))
 
-  pub crowded-light : (r : Passage) → crowded T H (map light S) (light r) ≡ crowded T H S r
+  pub crowded-light : (r : Passage) → crowded G T H (map light S) (light r) ≡ crowded G T H S r
   crowded-light r =
       ap (λ b. isReceive T r && b)
-      (ap two (only-map light (λ s. isSend T H s && mayHear T r s) S) ∙ two-light (only (λ s. isSend T H s && mayHear T r s) S))
+      (ap two (only-map light (λ s. isSend T H s && mayHear G T r s) S) ∙ two-light (only (λ s. isSend T H s && mayHear G T r s) S))
 
   -- the verdict of checks 10 to 12 is the same
-  pub checked-light : verdictOf (checked T H (map light S)) ≡ verdictOf (checked T H S)
+  pub checked-light : verdictOf (checked G T H (map light S)) ≡ verdictOf (checked G T H S)
   unfolding checked
   checked-light =
       rw (
-        first-map light (collides T H (map light S)) (collides T H S) collides-light S,
-        first-map light (unheard T H (map light S)) (unheard T H S) unheard-light S,
-        first-map light (crowded T H (map light S)) (crowded T H S) crowded-light S,
+        first-map light (collides G T H (map light S)) (collides G T H S) collides-light S,
+        first-map light (unheard G T H (map light S)) (unheard G T H S) unheard-light S,
+        first-map light (crowded G T H (map light S)) (crowded G T H S) crowded-light S,
       )
-      (fault-light (λ v. 10) (λ v. 10) (λ v. refl) (first (collides T H S) S) _ _
-      (fault-light (unheardNumber T S) (unheardNumber T (map light S)) number-light (first (unheard T H S) S) _ _
-      (fault-light (λ v. 12) (λ v. 12) (λ v. refl) (first (crowded T H S) S) (accepted (map light S)) (accepted S) refl)))
+      (fault-light (λ v. 10) (λ v. 10) (λ v. refl) (first (collides G T H S) S) _ _
+      (fault-light (unheardNumber G T S) (unheardNumber G T (map light S)) number-light (first (unheard G T H S) S) _ _
+      (fault-light (λ v. 12) (λ v. 12) (λ v. refl) (first (crowded G T H S) S) (accepted (map light S)) (accepted S) refl)))

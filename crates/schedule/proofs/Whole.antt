@@ -104,14 +104,14 @@ module _ (bs : List ℕ) where
 
 module _ (bs : List ℕ) (r : Scheduled) (l : List ℕ) (f : Filled bs (scheduleOf bs) r l) where
   -- 7 to 9
-  pub plan-refused : {k c : ℕ} → r .verdict ≡ Refused k c → Filled bs (acceptedScheduleIn bs) r l
+  pub plan-refused : (G : ℕ) {k c : ℕ} → r .verdict ≡ Refused k c → Filled bs (acceptedScheduleIn G bs) r l
   unfolding acceptedSchedule
-  plan-refused {k} {c} v = go (scheduleOf bs) refl
+  plan-refused G {k} {c} v = go (scheduleOf bs) refl
     where
-      go : (a : Answer (List Passage)) → scheduleOf bs ≡ a → Filled bs (acceptedScheduleIn bs) r l
+      go : (a : Answer (List Passage)) → scheduleOf bs ≡ a → Filled bs (acceptedScheduleIn G bs) r l
       go (accepted S) e = let q : Accepted ≡ Refused k c = sym (f .verdict ∙ ap verdictOf e) ∙ v in let z : _≡_ {A = ℕ} 0 1 = cc in absurd (omega arith)
       go (refused m d) e =
-          filled-refused bs r l m d (ap (λ a. a after λ S. checked (readOf bs .table) (readOf bs .horizon) S) e) (f .verdict ∙ ap verdictOf e) (f .none m d e)
+          filled-refused bs r l m d (ap (λ a. a after λ S. checked G (readOf bs .table) (readOf bs .horizon) S) e) (f .verdict ∙ ap verdictOf e) (f .none m d e)
 
   module _ (v : r .verdict ≡ Accepted) where
     -- what was accepted
@@ -122,32 +122,32 @@ module _ (bs : List ℕ) (r : Scheduled) (l : List ℕ) (f : Filled bs (schedule
     pub rows-placed : RowsPlaced bs l (r .count)
     rows-placed = subst (RowsPlaced bs l) (sym (f .count (was .0) (was .1))) (f .placed (was .0) (was .1))
 
-    module _ (H : ℕ) (h : H ≡ readOf bs .horizon) (w : Verdict) (e : w ≡ verdictOf (checked (readOf bs .table) H (rowsOf l (r .count)))) where
+    module _ (G H : ℕ) (h : H ≡ readOf bs .horizon) (w : Verdict) (e : w ≡ verdictOf (checked G (readOf bs .table) H (rowsOf l (r .count)))) where
       -- the verdict is that of the passages
-      verdict-is : w ≡ verdictOf (checked (readOf bs .table) (readOf bs .horizon) (was .0))
+      verdict-is : w ≡ verdictOf (checked G (readOf bs .table) (readOf bs .horizon) (was .0))
       verdict-is =
-          e ∙ ap (λ k. verdictOf (checked (readOf bs .table) k (rowsOf l (r .count)))) h
-          ∙ ap (λ vs. verdictOf (checked (readOf bs .table) (readOf bs .horizon) vs)) (ap (rowsOf l) (f .count (was .0) (was .1)) ∙ f .rows (was .0) (was .1))
-          ∙ checked-light (readOf bs .table) (readOf bs .horizon) (was .0)
+          e ∙ ap (λ k. verdictOf (checked G (readOf bs .table) k (rowsOf l (r .count)))) h
+          ∙ ap (λ vs. verdictOf (checked G (readOf bs .table) (readOf bs .horizon) vs)) (ap (rowsOf l) (f .count (was .0) (was .1)) ∙ f .rows (was .0) (was .1))
+          ∙ checked-light G (readOf bs .table) (readOf bs .horizon) (was .0)
 
-      plan-is : acceptedScheduleIn bs ≡ checked (readOf bs .table) (readOf bs .horizon) (was .0)
+      plan-is : acceptedScheduleIn G bs ≡ checked G (readOf bs .table) (readOf bs .horizon) (was .0)
       unfolding acceptedSchedule
-      plan-is = ap (λ a. a after λ S. checked (readOf bs .table) (readOf bs .horizon) S) (was .1)
+      plan-is = ap (λ a. a after λ S. checked G (readOf bs .table) (readOf bs .horizon) S) (was .1)
 
       -- 10 to 12
-      pub plan-faulty : {k c : ℕ} → w ≡ Refused k c → Filled bs (acceptedScheduleIn bs) (record { verdict = Refused k c; count = 0 }) l
-      plan-faulty {k} {c} q = go (checked (readOf bs .table) (readOf bs .horizon) (was .0)) refl
+      pub plan-faulty : {k c : ℕ} → w ≡ Refused k c → Filled bs (acceptedScheduleIn G bs) (record { verdict = Refused k c; count = 0 }) l
+      plan-faulty {k} {c} q = go (checked G (readOf bs .table) (readOf bs .horizon) (was .0)) refl
         where
-          go : (a : Answer (List Passage)) → checked (readOf bs .table) (readOf bs .horizon) (was .0) ≡ a → Filled bs (acceptedScheduleIn bs) (record { verdict = Refused k c; count = 0 }) l
+          go : (a : Answer (List Passage)) → checked G (readOf bs .table) (readOf bs .horizon) (was .0) ≡ a → Filled bs (acceptedScheduleIn G bs) (record { verdict = Refused k c; count = 0 }) l
           go (accepted S) p = let x : Accepted ≡ Refused k c = sym (verdict-is ∙ ap verdictOf p) ∙ q in let z : _≡_ {A = ℕ} 0 1 = cc in absurd (omega arith)
           go (refused m d) p = filled-refused bs (record { verdict = Refused k c; count = 0 }) l m d (plan-is ∙ p) (sym q ∙ verdict-is ∙ ap verdictOf p) refl
 
       -- all passed
-      pub plan-accepted : w ≡ Accepted → Filled bs (acceptedScheduleIn bs) r l
-      plan-accepted q = go (checked (readOf bs .table) (readOf bs .horizon) (was .0)) refl
+      pub plan-accepted : w ≡ Accepted → Filled bs (acceptedScheduleIn G bs) r l
+      plan-accepted q = go (checked G (readOf bs .table) (readOf bs .horizon) (was .0)) refl
         where
-          go : (a : Answer (List Passage)) → checked (readOf bs .table) (readOf bs .horizon) (was .0) ≡ a → Filled bs (acceptedScheduleIn bs) r l
+          go : (a : Answer (List Passage)) → checked G (readOf bs .table) (readOf bs .horizon) (was .0) ≡ a → Filled bs (acceptedScheduleIn G bs) r l
           go (refused m d) p = let x : Accepted ≡ Refused m d = sym q ∙ verdict-is ∙ ap verdictOf p in let z : _≡_ {A = ℕ} 0 1 = cc in absurd (omega arith)
           go (accepted S) p =
-              let s : was .0 ≡ S = checked-is (readOf bs .table) (readOf bs .horizon) (was .0) S .0 p .0 in
+              let s : was .0 ≡ S = checked-is G (readOf bs .table) (readOf bs .horizon) (was .0) S .0 p .0 in
               subst (λ a. Filled bs a r l) (was .1 ∙ ap accepted s ∙ sym (plan-is ∙ p)) f

@@ -19,9 +19,9 @@ pub record Filled (bs : List ℕ) (a : Answer (List Passage)) (r : Scheduled) (a
   pub placed : (S : List Passage) → a ≡ accepted S → RowsPlaced bs after (length S)
   pub none : (k c : ℕ) → a ≡ refused k c → r .count ≡ 0
 
--- the schedule, and the schedule with checks 10 to 12
+-- the schedule, and the schedule with checks 10 to 12 at a spread
 abbrev pub scheduleOf : List ℕ → Answer (List Passage)
 scheduleOf bs = schedule limit (readOf bs .table) (readOf bs .horizon)
 
-abbrev pub acceptedScheduleIn : List ℕ → Answer (List Passage)
-acceptedScheduleIn bs = acceptedSchedule limit (readOf bs .table) (readOf bs .horizon)
+abbrev pub acceptedScheduleIn : ℕ → List ℕ → Answer (List Passage)
+acceptedScheduleIn G bs = acceptedSchedule limit G (readOf bs .table) (readOf bs .horizon)

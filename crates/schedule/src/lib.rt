@@ -312,10 +312,10 @@ pub fn schedule_rows(table: &[u8], starts: [u16; 8], rows: &mut [u32]) -> Schedu
     }
 }
 
-// The same with checks 10 to 12.
-pub fn plan_rows(table: &[u8], starts: [u16; 8], rows: &mut [u32]) -> Scheduled
+// The same with checks 10 to 12 at a spread.
+pub fn plan_rows(table: &[u8], starts: [u16; 8], rows: &mut [u32], spread: u32) -> Scheduled
     requires { ⌜ Valid (now table) × (starts ≡ startsOf (now table) (byte (now table) 3)) × (9216 ≤ length (now rows)) ⌝ }
-    ensures { λ r. ⌜ Filled (now (table .entry)) (acceptedScheduleIn (now (table .entry))) r (now (rows .exit)) ⌝ }
+    ensures { λ r. ⌜ Filled (now (table .entry)) (acceptedScheduleIn spread (now (table .entry))) r (now (rows .exit)) ⌝ }
 {
     let r = schedule_rows(table, starts, rows);
     let verdict = r.verdict;
@@ -327,6 +327,7 @@ pub fn plan_rows(table: &[u8], starts: [u16; 8], rows: &mut [u32]) -> Scheduled
                 rows,
                 r.count,
                 parts::word32(parts::word_at(table, layout::TABLE_HORIZON)),
+                spread,
             );
             match checked {
                 Verdict::Refused(number, component) => Scheduled {

@@ -13,7 +13,7 @@ use Rattle.model.specs.Lists.{from, below, _∈_, here, there, All, accepted, _
 use Rattle.model.specs.Table.{Arc, Component, Table, size, componentOf}
 use Rattle.model.specs.Window.{channelOf, listens}
 use Rattle.model.specs.Schedule.{Passage, passageArc, names, others, own, messageIn, heardBy, earliest, carried, schedule}
-use Rattle.model.specs.Checks.{checked, acceptedSchedule, acceptedScheduleOf, limit, noPassage, passageAt}
+use Rattle.model.specs.Checks.{checked, acceptedSchedule, acceptedScheduleAt, acceptedScheduleOf, limit, noPassage, passageAt}
 use Rattle.model.specs.Chains.{Chained, IsSchedule}
 use Rattle.model.proofs.Basics.Bools.{clash}
 use Rattle.model.proofs.Basics.Members.{not-in, number-of, earliest-some}
@@ -84,7 +84,7 @@ module _ (slots : Slots) (f : Fits slots) where
     heard-in : (q i : ℕ) → q ∈ from 0 (suc K) → i < slots .probes → heardBy T H (hubStays slots (q * slots .period) i) (sends slots (q * slots .period) i) ≡ true
     heard-in q i m h =
         let z = steps (slots .period) q (suc K) (let r = in-from (suc K) 0 m in omega (arith, r .1)) in
-        heard-is T H (hubStays slots (q * slots .period) i) (sends slots (q * slots .period) i) .1 (
+        heard-is 0 T H (hubStays slots (q * slots .period) i) (sends slots (q * slots .period) i) .1 (
           ap₂ names (slot-arc slots f (q * slots .period) i h) (ap channelOf (send-arc slots f (q * slots .period) i h)) ∙ rw (eq-eqb i i refl),
           others-is (hubStays slots (q * slots .period) i) (sends slots (q * slots .period) i) .1 (λ e. omega (arith, e)),
           omega (arith, low-is slots f i h, f .leastGuard),
@@ -111,7 +111,7 @@ module _ (slots : Slots) (f : Fits slots) where
           where
             from-one : (none ≡ some s) ⊎ ((s ∈ S) × (heardBy T H v s ≡ true)) → channelOf (passageArc T s) ≡ some i
             from-one (inl x) = let y : _≡_ {A = ℕ} 0 1 = cc in absurd (omega arith)
-            from-one (inr x) = channel (channelOf (passageArc T s)) (heard-is T H v s .0 (x .1) .0)
+            from-one (inr x) = channel (channelOf (passageArc T s)) (heard-is 0 T H v s .0 (x .1) .0)
 
     messages : (v : Passage) → v ∈ S → v .message ≡ messageIn T H S v
     unfolding messageIn
@@ -190,9 +190,12 @@ module _ (slots : Slots) (f : Fits slots) where
       let z = plan-length K (suc q) in let y = period-length (q * slots .period) in
       length-append (periodAt slots (q * slots .period)) (periods slots (from (suc q) K)) ∙ omega (arith, z, y)
 
-  -- checks 7 to 12 pass, and the schedule is the one in closed form
-  pub plan-accepted : acceptedScheduleOf (planTable slots) ≡ accepted (planPassages slots)
+  -- checks 7 to 12 pass at every spread below the guard, and the schedule is the one in closed form
+  pub plan-accepted-at : (G : ℕ) → G < slots .guard → acceptedScheduleAt G (planTable slots) ≡ accepted (planPassages slots)
   unfolding acceptedSchedule planPassages
-  plan-accepted =
-      ap (λ x. x after λ S. checked T (2 * slots .period) S) (is-accepted limit T (2 * slots .period) (periods slots (below 2)) (plan-schedule 1 limit (let z = plan-length 2 0 in omega (arith, z, f .mostProbes))))
-      ∙ independent T (2 * slots .period) (periods slots (below 2)) (windows (below 2)) .1 (plan-independent slots f (below 2) (plan-ordered slots f 2 0) (2 * slots .period))
+  plan-accepted-at G less =
+      ap (λ x. x after λ S. checked G T (2 * slots .period) S) (is-accepted limit T (2 * slots .period) (periods slots (below 2)) (plan-schedule 1 limit (let z = plan-length 2 0 in omega (arith, z, f .mostProbes))))
+      ∙ independent G T (2 * slots .period) (periods slots (below 2)) (windows (below 2)) .1 (plan-independent slots f G less (below 2) (plan-ordered slots f 2 0) (2 * slots .period))
+
+  pub plan-accepted : acceptedScheduleOf (planTable slots) ≡ accepted (planPassages slots)
+  plan-accepted = plan-accepted-at 0 (f .leastGuard)

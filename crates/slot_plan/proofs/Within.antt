@@ -5,24 +5,25 @@ use mathlib.Core.Bool.{Bool, true, false, cond}
 use mathlib.Core.List.{List, [], _∷_, _++_, map}
 use Prim.Native.Nat.{ℕ, zero, suc, _+_, _-_, _*_, _^_, _≤_, _<_}
 use native.Mathlib.Omega.{arith}
+use borrow.Author.Tests.{le-ltb}
 use lib.ListN.{length, replicate, length-map, length-append, length-replicate}
 use Rattle.model.specs.declared.Location.{Location}
 use Rattle.model.specs.declared.Verdict.the-variants.{Accepted}
-use Rattle.model.specs.Lists.{from, below, All, empty, more, each, accepted, _after_}
+use Rattle.model.specs.Lists.{from, below, All, empty, more, each, Answer, accepted, _after_}
 use Rattle.model.specs.Table.{Arc, Component, Read, sizesOf}
 use Rattle.model.specs.Bytes.{locationBytes, arcBytes, itemBytes, bodyBytes, componentBytes, tableBytes}
 use Rattle.model.specs.Limits.{LocationIn, ArcIn, ComponentIn, BandsIn, InLimits, Distinct}
 use Rattle.model.specs.Limits.{none as no-pair, more as one-pair}
 use Rattle.model.specs.Reader.{readTable}
-use Rattle.model.specs.Checks.{acceptedScheduleOf, acceptedSchedule}
-use Rattle.model.specs.Calls.{acceptedScheduleIn, checkCall, verdictOf}
+use Rattle.model.specs.Checks.{acceptedScheduleAt, acceptedScheduleOf, acceptedSchedule}
+use Rattle.model.specs.Calls.{spreadFine, acceptedScheduleInAt, checkCallAt, acceptedScheduleIn, checkCall, verdictOf}
 use Rattle.model.proofs.Reader.RoundTrip.{read-written}
 use Rattle.slot_plan.specs.declared.Slots.{Slots}
 use Rattle.slot_plan.specs.Plan.{Fits, width, begins, sendFrom, sendTo, hearTo, until, sendArc, hearArc, restArc, probe, hub, planTable}
 use Rattle.slot_plan.specs.PlanSchedule.{planPassages}
 use Rattle.slot_plan.proofs.Apart.{steps, slot-in}
 use Rattle.slot_plan.proofs.Parts.{length-from}
-use Rattle.slot_plan.proofs.Accepted.{size-is, plan-accepted}
+use Rattle.slot_plan.proofs.Accepted.{size-is, plan-accepted-at, plan-accepted}
 
 -- what holds of each of a row of images, and of one behind them
 all-last : {A : Type 0} {P : A → Type 0} (f : ℕ → A) (x : A) (n a : ℕ) → ((i : ℕ) → a ≤ i → i < a + n → P (f i)) → P x → All P (map f (from a n) ++ (x ∷ []))
@@ -169,3 +170,9 @@ module _ (slots : Slots) (f : Fits slots) where
   pub plan-checked : checkCall (tableBytes (planTable slots)) ≡ Accepted
   unfolding checkCall
   plan-checked = ap verdictOf plan-scheduled
+
+  pub plan-spread : (G : ℕ) → G < slots .guard → checkCallAt G (tableBytes (planTable slots)) ≡ Accepted
+  unfolding checkCallAt acceptedScheduleInAt
+  plan-spread G h =
+      ap (λ (a : Answer Read). verdictOf (spreadFine G a after acceptedScheduleAt G)) (read-written (planTable slots) plan-in)
+      ∙ rw (le-ltb 1000 G (omega (arith, f .mostGuard, h))) (ap verdictOf (plan-accepted-at slots f G h))

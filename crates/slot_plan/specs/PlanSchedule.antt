@@ -4,13 +4,13 @@ use mathlib.Core.Path.{_≡_}
 use mathlib.Core.Bool.{cond}
 use mathlib.Core.List.{List, [], _∷_, _++_, map}
 use mathlib.Core.Option.{Option, none, some}
-use Prim.Native.Nat.{ℕ, suc, _+_, _-_, _*_}
+use Prim.Native.Nat.{ℕ, suc, _+_, _-_, _*_, _<_}
 use lib.Dec.{ltb}
 use Rattle.model.specs.declared.Verdict.the-variants.{Accepted}
 use Rattle.model.specs.Lists.{below, accepted}
 use Rattle.model.specs.Window.{Entry}
 use Rattle.model.specs.Schedule.{Passage}
-use Rattle.model.specs.Calls.{acceptedScheduleIn, checkCall}
+use Rattle.model.specs.Calls.{acceptedScheduleIn, checkCallAt, checkCall}
 use Rattle.slot_plan.specs.declared.Slots.{Slots}
 use Rattle.slot_plan.specs.Plan.{begins, sendFrom, sendTo, hearTo}
 
@@ -72,3 +72,5 @@ module _ (slots : Slots) where
   pub record PlanAccepted (table : List ℕ) : Type 0 where
     pub checked : checkCall table ≡ Accepted
     pub schedule : acceptedScheduleIn table ≡ accepted planPassages
+    -- "A plan with guard g is proved accepted for every G below g."
+    pub spread : (G : ℕ) → G < slots .guard → checkCallAt G table ≡ Accepted

@@ -30,9 +30,9 @@ abbrev pub addFits : List ℕ → Counts → Rattle.node.specs.declared.Node.No
 addFits p held r =
     inRange (valueAt (take (held .variables) (r .values)) (byte (drop (r .pc) p) 1) +ℤ complement (word (drop (r .pc) p) 2))
 
--- a tick that no run reaches
+-- a tick that no run reaches, nor one that lies later by an offset
 abbrev pub never : ℕ
-never = 18446744073709551615
+never = 9223372036854775807
 
 -- the tick at which a tick may not pass
 abbrev pub dueTick : Node → Stand → ℕ

@@ -23,8 +23,8 @@ use node::Kept;
 use node::Node;
 use node::Trial;
 
-// A tick that no run reaches.
-pub const NEVER: u64 = 18446744073709551615;
+// A tick that no run reaches, nor one that lies later by an offset.
+pub const NEVER: u64 = 9223372036854775807;
 
 // Whether one of so many pairs from a place on has that channel.
 fn lists_channel(part: &[u8], from: usize, count: u8, channel: u8) -> bool

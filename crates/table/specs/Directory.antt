@@ -6,7 +6,7 @@ use lib.ListN.{set, replicate}
 use Rattle.model.specs.Lists.{Answer, accepted, refused}
 use Rattle.model.specs.Reader.{byte, Parsed, ok, fault, versionFine, lengthFine, countFine, bandsFine, readTable}
 use Rattle.model.specs.Places.{startOf}
-use Rattle.model.specs.Calls.{verdictOf}
+use Rattle.model.specs.Calls.{verdictOf, readAt}
 use Rattle.model.specs.declared.Verdict.the-variants.{Refused}
 use Rattle.table.specs.declared.Reading.{Reading}
 use Rattle.table.specs.declared.Tried.{Tried}
@@ -42,3 +42,7 @@ headerOf bs = cond (versionFine bs) (cond (lengthFine bs) (cond (countFine bs &&
 -- the answer of the reader, for any bytes
 abbrev pub readingOf : List ℕ → Reading
 readingOf bs = readingFrom bs (byte bs 3) (readTable bs)
+
+-- the same at a spread of the nodes' starts: 19 after 3 and before 4
+abbrev pub readingAt : ℕ → List ℕ → Reading
+readingAt spread bs = readingFrom bs (byte bs 3) (readAt spread bs)

@@ -3,7 +3,7 @@ ghost use mathlib.Core.Path.{_≡_};
 ghost use Prim.Native.Nat.{ℕ, _+_, _≤_, _<_};
 ghost use lib.ListN.{length, drop, getD};
 ghost use Rattle.model.specs.Reader.{headFine, readBody, readComponent, readComponents, lengthFine, countFine, bodyStart, bandsFine};
-ghost use Rattle.table.specs.Directory.{triedOf, refusal, headerOf, readingFrom, readingOf};
+ghost use Rattle.table.specs.Directory.{triedOf, refusal, headerOf, readingFrom, readingOf, readingAt};
 use model::Sizes;
 use model::Verdict;
 use model::layout;
@@ -230,4 +230,25 @@ pub fn read(table: &[u8]) -> Reading
         table[layout::TABLE_CHANNELS],
         body_start(table),
     )
+}
+
+// Reads a table for a spread of the nodes' starts: 19 for one above 1,000, after check 3 and before check 4.
+pub fn read_at(table: &[u8], spread: u32) -> Reading
+    ensures { λ r. ⌜ r ≡ readingAt spread (now (table .entry)) ⌝ }
+{
+    let r = read(table);
+    if spread <= 1000 {
+        return r;
+    }
+    let v = r.verdict;
+    match v {
+        Verdict::Accepted => refused(19, 255),
+        Verdict::Refused(number, component) => {
+            if number <= 3 {
+                refused(number, component)
+            } else {
+                refused(19, 255)
+            }
+        }
+    }
 }

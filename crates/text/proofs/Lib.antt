@@ -2,3 +2,4 @@ pub mod Appended
 pub mod Numerals
 pub mod Lines
 pub mod Blanks
+pub mod Reading

@@ -23,8 +23,8 @@ grows : (j i : ℕ) → 10 ^ j ≤ 10 ^ (j + i)
 grows j zero = rw add-zero (le-refl (10 ^ j))
 grows j (suc i) = rw (add-suc, pow-suc) (omega (arith, grows j i))
 
--- a number of 32 bits has at most ten digits
-pub at-most-ten : (n k : ℕ) → n < 4294967296 → Fewest 10 1 n k → k ≤ 10
+-- a number below 10,000,000,000, as every one of 33 bits is, has at most ten digits
+pub at-most-ten : (n k : ℕ) → n < 10000000000 → Fewest 10 1 n k → k ≤ 10
 at-most-ten n k small f = pick (leb k 10) refl
   where
     pick : (t : Bool) → leb k 10 ≡ t → k ≤ 10
@@ -55,6 +55,6 @@ numeral-is (suc room) (suc (suc k)) n h (one, below, least) =
     rw (le-ltb n 10 many)
     (ap₂ _++_ (numeral-is room (suc k) (n / 10) (omega arith) rest) (glyph-is (n % 10) (omega arith)))
 
-pub decimal-is : (n k : ℕ) → n < 4294967296 → Fewest 10 1 n k → digits 10 k n ≡ decimal n
+pub decimal-is : (n k : ℕ) → n < 10000000000 → Fewest 10 1 n k → digits 10 k n ≡ decimal n
 unfolding decimal
 decimal-is n k h f = let few : k ≤ 10 = at-most-ten n k h f in numeral-is 20 k n (omega (arith, few)) f

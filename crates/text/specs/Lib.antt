@@ -1,3 +1,4 @@
 pub mod Words
 pub mod Columns
+pub mod Numbers
 pub mod Cases

@@ -1,9 +1,12 @@
 // Words, numbers and columns, written into a lent slice: each function adds its words after those that stand there, and answers
-// where they end.
+// where they end. And numbers, read from their digits.
 mod columns;
+mod numbers;
 
 pub use columns::put_column;
 pub use columns::put_signed_column;
+pub use numbers::Number;
+pub use numbers::number_of;
 ghost use mathlib.Core.Path.{_≡_};
 ghost use mathlib.Core.List.{List, _++_};
 ghost use Prim.Native.Nat.{ℕ, _+_, _≤_, _<_};
@@ -30,14 +33,22 @@ pub fn put(out: &mut [u8], at: usize, words: &[u8]) -> usize
     at + i
 }
 
-// A number in decimal.
+// A number of at most ten digits in decimal.
+pub fn put_number(out: &mut [u8], at: usize, n: u64) -> usize
+    requires { ⌜ (at + 10 ≤ length (now out)) × (n < 10000000000) ⌝ }
+    ensures { λ r. ⌜ Added (now (out .entry)) at (decimal n) (now (out .exit)) r × (r ≤ at + 10) ⌝ }
+{
+    let mut digits = [0u8; 20];
+    let k = io::decimal(n, &mut digits);
+    put(out, at, &digits[..k])
+}
+
+// One of 32 bits, which has no more.
 pub fn put_decimal(out: &mut [u8], at: usize, n: u32) -> usize
     requires { ⌜ at + 10 ≤ length (now out) ⌝ }
     ensures { λ r. ⌜ Added (now (out .entry)) at (decimal n) (now (out .exit)) r × (r ≤ at + 10) ⌝ }
 {
-    let mut digits = [0u8; 20];
-    let k = io::decimal(n as u64, &mut digits);
-    put(out, at, &digits[..k])
+    put_number(out, at, n as u64)
 }
 
 // A text and a number.

@@ -1,5 +1,7 @@
 // The library for other languages: every exported call and nothing else. Each is a thin function over the call of the same
 // name in a crate below, with the answer written out as numbers.
+pub mod spread;
+
 ghost use mathlib.Core.Path.{_≡_};
 ghost use mathlib.Core.Logic.{_↔_};
 ghost use Prim.Native.Nat.{_≤_};
@@ -19,6 +21,7 @@ ghost use Rattle.lent_node.specs.Step.{heldOf, steppedOf, messageOf};
 ghost use Rattle.passages.specs.Passages.{passagesCall};
 ghost use Rattle.timed_network.specs.Numbers.{NumbersOf, EdgeNumbersOf, entryOf};
 use calls::Called;
+use calls::Ran;
 use meetings::Listed;
 use model::End;
 use model::Verdict;
@@ -287,6 +290,26 @@ pub extern "C" fn timed_network_part(program: &[u8], node: u8) -> PartNumbers
     }
 }
 
+// The answer of a run as numbers.
+fn run_numbers(ran: Ran) -> RunNumbers
+    requires { ⌜ ran .size ≤ 1024 ⌝ }
+    ensures { λ r. ⌜ (r .number ≡ numberOf (ran .verdict)) × (r .component ≡ concernedOf (ran .verdict)) × (r .end ≡ endNumber (ran .end)) × (r .node ≡ endNode (ran .end)) × (r .tick ≡ ran .tick) × (r .used ≡ ran .used) × (r .size ≡ ran .size) ⌝ }
+{
+    let verdict = ran.verdict;
+    let answer = verdict_numbers(verdict);
+    let end = ran.end;
+    let ended = end_numbers(end);
+    RunNumbers {
+        number: answer.number,
+        component: answer.component,
+        end: ended.number,
+        node: ended.node,
+        tick: ran.tick,
+        used: ran.used,
+        size: ran.size as u32,
+    }
+}
+
 // Runs an accepted table's programs under a list of choices; 32 bytes an observation.
 #[no_mangle]
 pub extern "C" fn timed_network_run(
@@ -297,29 +320,7 @@ pub extern "C" fn timed_network_run(
     ensures { λ r. ⌜ NumbersOf (runCall (now (table .entry)) (now (choices .entry)) (now (observations .entry))) r (now (observations .exit)) × Demand3Of (now (table .entry)) (now (choices .entry)) × ObservationsRead (now (table .entry)) (now (choices .entry)) (now (observations .entry)) ⌝ }
 {
     let r = calls::run(table, choices, observations);
-    let end = r.end;
-    let e = end_numbers(end);
-    let v = r.verdict;
-    match v {
-        Verdict::Accepted => RunNumbers {
-            number: 0,
-            component: 255,
-            end: e.number,
-            node: e.node,
-            tick: r.tick,
-            used: r.used,
-            size: r.size as u32,
-        },
-        Verdict::Refused(number, component) => RunNumbers {
-            number,
-            component,
-            end: e.number,
-            node: e.node,
-            tick: r.tick,
-            used: r.used,
-            size: r.size as u32,
-        },
-    }
+    run_numbers(r)
 }
 
 // The schedule as passages of 16 bytes, laid over the front of the lent list.

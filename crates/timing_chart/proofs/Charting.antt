@@ -68,18 +68,18 @@ call-refused bs lent {n} {c} e = go (readTable bs) e
     go (accepted t) q = scheduled t (acceptedScheduleOf t) q
     go (refused m d) q = ap (bytesWith lent) (let z : _≡_ {A = Answer (List ℕ)} (refused m d) (refused n c) = cc in z)
 
-module _ (bs : List ℕ) (v : Valid bs) (r : Scheduled) (rows : List ℕ) (F : filled.Filled bs (filled.acceptedScheduleIn bs) r rows) where
+module _ (bs : List ℕ) (v : Valid bs) (r : Scheduled) (rows : List ℕ) (F : filled.Filled bs (filled.acceptedScheduleIn 0 bs) r rows) where
   pub plan-refused : {n c : ℕ} → r .verdict ≡ Refused n c → acceptedScheduleIn bs ≡ refused n c
-  plan-refused e = planned bs v ∙ verdict-refused (filled.acceptedScheduleIn bs) (sym (F .verdict) ∙ e)
+  plan-refused e = planned bs v ∙ verdict-refused (filled.acceptedScheduleIn 0 bs) (sym (F .verdict) ∙ e)
 
   -- accepted
   module _ (e : r .verdict ≡ Accepted) where
     pub passages : List Passage
-    passages = verdict-accepted (filled.acceptedScheduleIn bs) (sym (F .verdict) ∙ e) .0
+    passages = verdict-accepted (filled.acceptedScheduleIn 0 bs) (sym (F .verdict) ∙ e) .0
 
-    plan-is : filled.acceptedScheduleIn bs ≡ accepted passages
+    plan-is : filled.acceptedScheduleIn 0 bs ≡ accepted passages
     unfolding passages
-    plan-is = verdict-accepted (filled.acceptedScheduleIn bs) (sym (F .verdict) ∙ e) .1
+    plan-is = verdict-accepted (filled.acceptedScheduleIn 0 bs) (sym (F .verdict) ∙ e) .1
 
     count-is : r .count ≡ length passages
     count-is = F .count passages plan-is

@@ -26,7 +26,7 @@ fn chart_into(table: &[u8], starts: [u16; 8], chart: &mut [u8]) -> Called
     ensures { λ r. ⌜ (r .verdict ≡ chartCall (now (table .entry)) (now (chart .entry)) .verdict) × (r .size ≡ chartCall (now (table .entry)) (now (chart .entry)) .size) × (now (chart .exit) ≡ chartCall (now (table .entry)) (now (chart .entry)) .lent) × (r .size ≤ 552) ⌝ }
 {
     let mut rows = [0u32; 9216];
-    let r = schedule::plan_rows(table, starts, &mut rows);
+    let r = schedule::plan_rows(table, starts, &mut rows, 0);
     let v = r.verdict;
     let count = r.count;
     match v {

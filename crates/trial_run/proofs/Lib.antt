@@ -1,1 +1,2 @@
 pub mod RunCalled
+pub mod Parts

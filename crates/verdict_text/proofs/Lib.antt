@@ -1,1 +1,3 @@
 pub mod Meetings
+pub mod Margins
+pub mod Together

@@ -14,45 +14,45 @@ use Rattle.model.proofs.Basics.Bools.{and-is}
 use Rattle.text.specs.Words.{told}
 use Rattle.verdict_text.specs.VerdictText.{Met, metAt, metsOf, metLine, metLines, faultText, nobodyRemedy, listenerRemedy, remedyText, bandTold, bandLine, bandText, meetingsText}
 
-pub one-met : (number : ℕ) (fault : Met) (list : List ℕ) (n : ℕ) → n ≡ 1 → metLines number fault (metsOf list 0) ≡ metLines number fault (metsOf list (n - 1))
-one-met number fault list n e = let p : 0 ≡ n - 1 = omega (arith, e) in ap (λ (m : ℕ). metLines number fault (metsOf list m)) p
+pub one-met : (G number : ℕ) (fault : Met) (list : List ℕ) (n : ℕ) → n ≡ 1 → metLines G number fault (metsOf list 0) ≡ metLines G number fault (metsOf list (n - 1))
+one-met G number fault list n e = let p : 0 ≡ n - 1 = omega (arith, e) in ap (λ (m : ℕ). metLines G number fault (metsOf list m)) p
 
-some-met : (number : ℕ) (fault : Met) (list : List ℕ) (m : ℕ) → 1 ≤ m → each (metLine number fault) (metsOf list m) ≡ metLines number fault (metsOf list m)
+some-met : (G number : ℕ) (fault : Met) (list : List ℕ) (m : ℕ) → 1 ≤ m → each (metLine G number fault) (metsOf list m) ≡ metLines G number fault (metsOf list m)
 unfolding told
-some-met number fault list zero h = absurd (not-suc-le-zero h)
-some-met number fault list (suc m) h = refl
+some-met G number fault list zero h = absurd (not-suc-le-zero h)
+some-met G number fault list (suc m) h = refl
 
-pub more-met : (number : ℕ) (fault : Met) (list : List ℕ) (n : ℕ) → 1 ≤ n → (n ≡ 1 → ⊥)
-    → each (metLine number fault) (metsOf list (n - 1)) ≡ metLines number fault (metsOf list (n - 1))
-more-met number fault list n h k = some-met number fault list (n - 1) (omega (arith, k))
+pub more-met : (G number : ℕ) (fault : Met) (list : List ℕ) (n : ℕ) → 1 ≤ n → (n ≡ 1 → ⊥)
+    → each (metLine G number fault) (metsOf list (n - 1)) ≡ metLines G number fault (metsOf list (n - 1))
+more-met G number fault list n h k = some-met G number fault list (n - 1) (omega (arith, k))
 
 -- the window at fault comes first
-pub first-at-fault : (number : ℕ) (list : List ℕ) (n : ℕ) → (n ≡ 0 → ⊥)
-    → faultText number (metAt list) ++ metLines number (metAt list) (metsOf (drop 7 list) (n - 1)) ++ remedyText number (metAt list) (metsOf (drop 7 list) (n - 1))
-    ≡ meetingsText number (metsOf list n)
+pub first-at-fault : (G number : ℕ) (list : List ℕ) (n : ℕ) → (n ≡ 0 → ⊥)
+    → faultText G number (metAt list) ++ metLines G number (metAt list) (metsOf (drop 7 list) (n - 1)) ++ remedyText G number (metAt list) (metsOf (drop 7 list) (n - 1))
+    ≡ meetingsText G number (metsOf list n)
 unfolding meetingsText told
-first-at-fault number list n h =
-    let p : suc (n - 1) ≡ n = omega (arith, h) in ap (λ (m : ℕ). meetingsText number (metsOf list m)) p
+first-at-fault G number list n h =
+    let p : suc (n - 1) ≡ n = omega (arith, h) in ap (λ (m : ℕ). meetingsText G number (metsOf list m)) p
 
 -- the remedy, where a window listens ..
-pub listened : (number : ℕ) (sent : Met) (list : List ℕ) (n : ℕ) → 2 ≤ n → listenerRemedy number sent (metAt list) ≡ remedyText number sent (metsOf list (n - 1))
+pub listened : (G number : ℕ) (sent : Met) (list : List ℕ) (n : ℕ) → 2 ≤ n → listenerRemedy G number sent (metAt list) ≡ remedyText G number sent (metsOf list (n - 1))
 unfolding remedyText told
-listened number sent list n h =
-    let p : suc (n - 2) ≡ n - 1 = omega (arith, h) in ap (λ (m : ℕ). remedyText number sent (metsOf list m)) p
+listened G number sent list n h =
+    let p : suc (n - 2) ≡ n - 1 = omega (arith, h) in ap (λ (m : ℕ). remedyText G number sent (metsOf list m)) p
 
 -- .. where none does ..
-pub unlistened : (number : ℕ) (sent : Met) (list : List ℕ) (n : ℕ) → number ≡ 11 → n < 2 → nobodyRemedy sent ≡ remedyText number sent (metsOf list (n - 1))
+pub unlistened : (G number : ℕ) (sent : Met) (list : List ℕ) (n : ℕ) → number ≡ 11 → n < 2 → nobodyRemedy G sent ≡ remedyText G number sent (metsOf list (n - 1))
 unfolding remedyText told
-unlistened number sent list n e h =
+unlistened G number sent list n e h =
     let p : 0 ≡ n - 1 = omega (arith, h) in
-    sym (ap (λ (t : Bool). cond t (nobodyRemedy sent) []) (eq-eqb number 11 e)) ∙ ap (λ (m : ℕ). remedyText number sent (metsOf list m)) p
+    sym (ap (λ (t : Bool). cond t (nobodyRemedy G sent) []) (eq-eqb number 11 e)) ∙ ap (λ (m : ℕ). remedyText G number sent (metsOf list m)) p
 
 -- .. and where nothing is said
-pub no-remedy : (number : ℕ) (sent : Met) (list : List ℕ) (n : ℕ) → (number ≡ 11 → ⊥) → n < 2 → [] ≡ remedyText number sent (metsOf list (n - 1))
+pub no-remedy : (G number : ℕ) (sent : Met) (list : List ℕ) (n : ℕ) → (number ≡ 11 → ⊥) → n < 2 → [] ≡ remedyText G number sent (metsOf list (n - 1))
 unfolding remedyText told
-no-remedy number sent list n e h =
+no-remedy G number sent list n e h =
     let p : 0 ≡ n - 1 = omega (arith, h) in
-    sym (ap (λ (t : Bool). cond t (nobodyRemedy sent) []) (ne-eqb number 11 e)) ∙ ap (λ (m : ℕ). remedyText number sent (metsOf list m)) p
+    sym (ap (λ (t : Bool). cond t (nobodyRemedy G sent) []) (ne-eqb number 11 e)) ∙ ap (λ (m : ℕ). remedyText G number sent (metsOf list m)) p
 
 -- a band that is told stands in the table
 pub told-inside : (table : List ℕ) (number channel : ℕ) → bandTold table number channel ≡ true → 7 + channel < length table

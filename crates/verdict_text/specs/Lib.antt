@@ -1,1 +1,3 @@
+pub mod SpreadWords
 pub mod VerdictText
+pub mod Cases

@@ -1,4 +1,5 @@
--- A verdict in words: a refusal in words, and after 10 to 12 and 15 to 17 which windows met; where a send is not heard well, also the remedy.
+-- A verdict in words: a refusal in words, and after 10 to 12 and 15 to 17 which windows met; where a send is not heard well, also the remedy. G is
+-- the spread, 0 where there is none.
 use mathlib.Core.Bool.{Bool, cond, _&&_, _||_}
 use mathlib.Core.List.{List, [], _∷_, _++_, map}
 use Prim.Native.Nat.{ℕ, _+_}
@@ -9,10 +10,11 @@ use Rattle.model.specs.declared.Verdict.the-variants.{Accepted, Refused}
 use Rattle.model.specs.Lists.{orElse, each}
 use Rattle.model.specs.Reader.{byte}
 use Rattle.model.specs.Schedule.{Passage}
-use Rattle.model.specs.Calls.{checkCall}
-use Rattle.model.specs.Meetings.{meetingsIn}
+use Rattle.model.specs.Calls.{checkCallAt, checkCall}
+use Rattle.model.specs.Meetings.{meetingsInAt, meetingsIn}
 use Rattle.text.specs.Words.{ascii, decimal, field, told}
 use Rattle.refusal_text.specs.RefusalText.{refusalText}
+use Rattle.verdict_text.specs.SpreadWords.{ticks, lacking, spreadLine, meetingWords, nearWords, startMargin, endMargin, untilWords, listenWords, aroundWords}
 
 -- ## The windows that met
 
@@ -37,84 +39,91 @@ abbrev pub sendWords : Met → List ℕ
 sendWords w = field ", channel " (w .channel) ++ windowWords w
 
 -- the window at fault, and what the lines after it are
-abbrev pub receiveFault : Met → List ℕ
-receiveFault w =
-    ascii "The receive window of " ++ placeWords w ++ windowWords w ++ ascii ", shares a tick with these send windows on its channels:\n"
+abbrev pub receiveFault : ℕ → Met → List ℕ
+receiveFault G w =
+    ascii "The receive window of " ++ placeWords w ++ windowWords w ++ meetingWords G ++ ascii " these send windows on its channels:\n"
 
-abbrev pub faultEnd : ℕ → List ℕ
-faultEnd number =
-    cond (eqb number 10) (ascii ", shares a tick with these send windows:\n")
-    (ascii ".\nReceive windows of other components on its channel that share a tick with it:\n")
+abbrev pub faultEnd : ℕ → ℕ → List ℕ
+faultEnd G number =
+    cond (eqb number 10) (meetingWords G ++ ascii " these send windows:\n")
+    (ascii ".\nReceive windows of other components on its channel " ++ nearWords G)
 
-abbrev pub sendFault : ℕ → Met → List ℕ
-sendFault number w = ascii "The send window of " ++ placeWords w ++ sendWords w ++ faultEnd number
+abbrev pub sendFault : ℕ → ℕ → Met → List ℕ
+sendFault G number w = ascii "The send window of " ++ placeWords w ++ sendWords w ++ faultEnd G number
 
-abbrev pub faultText : ℕ → Met → List ℕ
-faultText number w = cond (eqb number 12) (receiveFault w) (sendFault number w)
+abbrev pub faultText : ℕ → ℕ → Met → List ℕ
+faultText G number w = cond (eqb number 12) (receiveFault G w) (sendFault G number w)
 
--- a window that was met
-abbrev pub sendLine : Met → List ℕ
-sendLine w = ascii "  " ++ placeWords w ++ ascii ", a send window" ++ sendWords w ++ ascii "\n"
+-- A window that was met. At a spread it is told how many ticks the one of the two that is ready later would have to be moved, to be ready more than
+-- G ticks after the end of the other (the laws `still-near` and `fault-still-near` in proofs/Margins.antt).
+abbrev pub tooClose : ℕ → Met → Met → ℕ
+tooClose G v w = cond (leb (v .ready) (w .ready)) (lacking G (v .end) (w .ready)) (lacking G (w .end) (v .ready))
 
-abbrev pub startWords : Met → Met → List ℕ
-startWords sent w = cond (ltb (w .ready) (sent .ready)) (ascii ": starts earlier,") (ascii ": starts with the send or later,")
+abbrev pub closeWords : ℕ → Met → Met → List ℕ
+closeWords G fault w = cond (eqb G 0) [] (ascii ": " ++ ticks (tooClose G fault w) ++ ascii " too close")
 
-abbrev pub endWords : Met → Met → List ℕ
-endWords sent w = cond (ltb (sent .end) (w .end)) (ascii " ends later\n") (ascii " ends with the send or earlier\n")
+abbrev pub sendLine : ℕ → Met → Met → List ℕ
+sendLine G fault w = ascii "  " ++ placeWords w ++ ascii ", a send window" ++ sendWords w ++ closeWords G fault w ++ ascii "\n"
+
+abbrev pub startWords : ℕ → Met → Met → List ℕ
+startWords G sent w =
+    cond (eqb G 0) (cond (ltb (w .ready) (sent .ready)) (ascii ": starts earlier,") (ascii ": starts with the send or later,"))
+    (startMargin (lacking G (w .ready) (sent .ready)))
+
+abbrev pub endWords : ℕ → Met → Met → List ℕ
+endWords G sent w =
+    cond (eqb G 0) (cond (ltb (sent .end) (w .end)) (ascii " ends later\n") (ascii " ends with the send or earlier\n"))
+    (endMargin (lacking G (sent .end) (w .end)))
 
 abbrev pub receiveWords : Met → List ℕ
 receiveWords w = ascii "  " ++ placeWords w ++ ascii ", a receive window" ++ windowWords w
 
-abbrev pub listenerLine : Met → Met → List ℕ
-listenerLine sent w = receiveWords w ++ startWords sent w ++ endWords sent w
+abbrev pub listenerLine : ℕ → Met → Met → List ℕ
+listenerLine G sent w = receiveWords w ++ startWords G sent w ++ endWords G sent w
 
 -- sends are met after 10 and 12, listeners after 11 and 15 to 17
-unfoldable pub metLine : ℕ → Met → Met → List ℕ
+unfoldable pub metLine : ℕ → ℕ → Met → Met → List ℕ
 unfolding decimal
-metLine number fault w = cond (eqb number 10 || eqb number 12) (sendLine w) (listenerLine fault w)
+metLine G number fault w = cond (eqb number 10 || eqb number 12) (sendLine G fault w) (listenerLine G fault w)
 
-abbrev pub metLines : ℕ → Met → List Met → List ℕ
-metLines number fault [] = ascii "  none\n"
-metLines number fault (w ∷ ws) = each (metLine number fault) (w ∷ ws)
+abbrev pub metLines : ℕ → ℕ → Met → List Met → List ℕ
+metLines G number fault [] = ascii "  none\n"
+metLines G number fault (w ∷ ws) = each (metLine G number fault) (w ∷ ws)
 
 -- The remedy for a send that is not heard well: who must listen, earlier, longer or not at all. 11: nobody does.
-abbrev pub nobodyRemedy : Met → List ℕ
-nobodyRemedy sent =
-    field "Remedy: another component must listen on channel " (sent .channel) ++ field ", from before tick " (sent .ready)
-    ++ field " until after tick " (sent .end)
-    ++ ascii ".\n"
+abbrev pub nobodyRemedy : ℕ → Met → List ℕ
+nobodyRemedy G sent =
+    field "Remedy: another component must listen on channel " (sent .channel) ++ ascii ", " ++ listenWords G (sent .ready) (sent .end) ++ ascii ".\n"
 
 -- 15: several do
-abbrev pub severalRemedy : Met → List ℕ
-severalRemedy sent =
-    field "Remedy: all of them but one must not listen on channel " (sent .channel) ++ field " in ticks " (sent .ready) ++ field " to " (sent .end)
-    ++ ascii ".\n"
+abbrev pub severalRemedy : ℕ → Met → List ℕ
+severalRemedy G sent =
+    field "Remedy: all of them but one must not listen on channel " (sent .channel) ++ aroundWords G (sent .ready) (sent .end) ++ ascii ".\n"
 
 -- 16: the one that does starts too late; it may end too soon as well
-abbrev pub lateRemedy : Met → Met → List ℕ
-lateRemedy sent w =
-    (ascii "Remedy: " ++ placeWords w) ++ field ", must listen earlier: from before tick " (sent .ready) ++ field " until after tick " (sent .end)
-    ++ ascii ".\n"
+abbrev pub lateRemedy : ℕ → Met → Met → List ℕ
+lateRemedy G sent w =
+    (ascii "Remedy: " ++ placeWords w) ++ ascii ", must listen earlier: " ++ listenWords G (sent .ready) (sent .end) ++ ascii ".\n"
 
 -- 17: it ends too soon
-abbrev pub earlyRemedy : Met → Met → List ℕ
-earlyRemedy sent w = (ascii "Remedy: " ++ placeWords w) ++ field ", must listen longer: until after tick " (sent .end) ++ ascii ".\n"
+abbrev pub earlyRemedy : ℕ → Met → Met → List ℕ
+earlyRemedy G sent w = (ascii "Remedy: " ++ placeWords w) ++ ascii ", must listen longer: " ++ untilWords G (sent .end) ++ ascii ".\n"
 
-abbrev pub listenerRemedy : ℕ → Met → Met → List ℕ
-listenerRemedy number sent w =
-    cond (eqb number 15) (severalRemedy sent) (cond (eqb number 16) (lateRemedy sent w) (cond (eqb number 17) (earlyRemedy sent w) []))
+abbrev pub listenerRemedy : ℕ → ℕ → Met → Met → List ℕ
+listenerRemedy G number sent w =
+    cond (eqb number 15) (severalRemedy G sent) (cond (eqb number 16) (lateRemedy G sent w) (cond (eqb number 17) (earlyRemedy G sent w) []))
 
 -- by the number, with the windows that the send meets
-unfoldable pub remedyText : ℕ → Met → List Met → List ℕ
+unfoldable pub remedyText : ℕ → ℕ → Met → List Met → List ℕ
 unfolding decimal
-remedyText number sent [] = cond (eqb number 11) (nobodyRemedy sent) []
-remedyText number sent (w ∷ ws) = listenerRemedy number sent w
+remedyText G number sent [] = cond (eqb number 11) (nobodyRemedy G sent) []
+remedyText G number sent (w ∷ ws) = listenerRemedy G number sent w
 
 -- the window at fault, then those that it meets, then the remedy; nothing where none is at fault
-unfoldable pub meetingsText : ℕ → List Met → List ℕ
+unfoldable pub meetingsText : ℕ → ℕ → List Met → List ℕ
 unfolding decimal metLine remedyText each
-meetingsText number [] = []
-meetingsText number (fault ∷ ws) = faultText number fault ++ metLines number fault ws ++ remedyText number fault ws
+meetingsText G number [] = []
+meetingsText G number (fault ∷ ws) = faultText G number fault ++ metLines G number fault ws ++ remedyText G number fault ws
 
 -- After 10, in version 2, the band of the send at fault: the byte of its channel behind the header (`Places.Located.band`). Those that it meets are
 -- on the same band.
@@ -131,14 +140,20 @@ bandText table number (fault ∷ ws) = bandLine table number (fault .channel)
 
 -- ## The whole text, for any bytes
 
-abbrev pub verdictWith : List ℕ → Verdict → List Passage → List ℕ
-verdictWith table Accepted M = ascii "accepted\n"
-verdictWith table (Refused number component) M =
-    refusalText number component ++ bandText table number (map metOf M) ++ meetingsText number (map metOf M)
+abbrev pub verdictWith : ℕ → List ℕ → Verdict → List Passage → List ℕ
+verdictWith G table Accepted M = ascii "accepted\n" ++ spreadLine G
+verdictWith G table (Refused number component) M =
+    refusalText number component ++ spreadLine G ++ bandText table number (map metOf M) ++ meetingsText G number (map metOf M)
 
+-- at a spread
+unfoldable pub verdictTextAt : ℕ → List ℕ → List ℕ
+unfolding checkCallAt meetingsInAt refusalText bandText meetingsText
+verdictTextAt G table = verdictWith G table (checkCallAt G table) (meetingsInAt G table)
+
+-- without one
 unfoldable pub verdictText : List ℕ → List ℕ
 unfolding checkCall meetingsIn refusalText bandText meetingsText
-verdictText table = verdictWith table (checkCall table) (meetingsIn table)
+verdictText table = verdictWith 0 table (checkCall table) (meetingsIn table)
 
 -- ## From the seven numbers of a passage
 

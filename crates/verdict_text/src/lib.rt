@@ -1,5 +1,6 @@
-// Which windows met, in words; where a send is not heard well, also the remedy.
+// Which windows met, in words; where a send is not heard well, also the remedy. The spread is 0 where there is none.
 pub mod remedy;
+pub mod spread;
 
 ghost use mathlib.Core.Path.{_≡_};
 ghost use mathlib.Core.List.{List, _++_};
@@ -7,7 +8,7 @@ ghost use Prim.Native.Nat.{ℕ, _+_, _*_, _-_, _≤_, _<_};
 ghost use lib.ListN.{length, drop};
 ghost use Rattle.model.specs.Lists.{each};
 ghost use Rattle.text.specs.Words.{Added};
-ghost use Rattle.verdict_text.specs.VerdictText.{metAt, placeWords, windowWords, sendWords, receiveFault, faultEnd, sendFault, faultText, sendLine, receiveWords, startWords, endWords, listenerLine, metLine, metsOf, metLines, bandTold, bandLine, bandText, meetingsText};
+ghost use Rattle.verdict_text.specs.VerdictText.{metAt, placeWords, windowWords, sendWords, receiveFault, faultEnd, sendFault, faultText, sendLine, tooClose, closeWords, receiveWords, startWords, endWords, listenerLine, metLine, metsOf, metLines, bandTold, bandLine, bandText, meetingsText};
 use text::put;
 use text::put_field;
 
@@ -40,65 +41,90 @@ fn put_send(out: &mut [u8], at: usize, w: &[u32]) -> usize
 }
 
 // 12: the receive window at fault.
-fn put_receive_fault(out: &mut [u8], at: usize, w: &[u32]) -> usize
+fn put_receive_fault(out: &mut [u8], at: usize, w: &[u32], spread: u32) -> usize
     requires { ⌜ (at + 200 ≤ length (now out)) × (7 ≤ length (now w)) ⌝ }
-    ensures { λ r. ⌜ Added (now (out .entry)) at (receiveFault (metAt (now (w .entry)))) (now (out .exit)) r × (r ≤ at + 200) ⌝ }
+    ensures { λ r. ⌜ Added (now (out .entry)) at (receiveFault spread (metAt (now (w .entry)))) (now (out .exit)) r × (r ≤ at + 200) ⌝ }
 {
     let ticks = put_place(out, at, b"The receive window of ", w);
-    let last = put_window(out, ticks, w);
-    put(
-        out,
-        last,
-        b", shares a tick with these send windows on its channels:\n",
-    )
+    let meeting = put_window(out, ticks, w);
+    let last = spread::put_meeting(out, meeting, spread);
+    put(out, last, b" these send windows on its channels:\n")
 }
 
 // 10, or 11 and 15 to 17: what the lines after the send window are.
-fn put_fault_end(out: &mut [u8], at: usize, number: u8) -> usize
+fn put_fault_end(out: &mut [u8], at: usize, number: u8, spread: u32) -> usize
     requires { ⌜ at + 90 ≤ length (now out) ⌝ }
-    ensures { λ r. ⌜ Added (now (out .entry)) at (faultEnd number) (now (out .exit)) r × (r ≤ at + 90) ⌝ }
+    ensures { λ r. ⌜ Added (now (out .entry)) at (faultEnd spread number) (now (out .exit)) r × (r ≤ at + 90) ⌝ }
 {
     if number == 10 {
-        put(out, at, b", shares a tick with these send windows:\n")
-    } else {
-        put(
-            out,
-            at,
-            b".\nReceive windows of other components on its channel that share a tick with it:\n",
-        )
+        let last = spread::put_meeting(out, at, spread);
+        return put(out, last, b" these send windows:\n");
     }
+    let near = put(
+        out,
+        at,
+        b".\nReceive windows of other components on its channel ",
+    );
+    spread::put_near(out, near, spread)
 }
 
 // 10, 11 and 15 to 17: the send window at fault.
-fn put_send_fault(out: &mut [u8], at: usize, number: u8, w: &[u32]) -> usize
+fn put_send_fault(out: &mut [u8], at: usize, number: u8, w: &[u32], spread: u32) -> usize
     requires { ⌜ (at + 200 ≤ length (now out)) × (7 ≤ length (now w)) ⌝ }
-    ensures { λ r. ⌜ Added (now (out .entry)) at (sendFault number (metAt (now (w .entry)))) (now (out .exit)) r × (r ≤ at + 200) ⌝ }
+    ensures { λ r. ⌜ Added (now (out .entry)) at (sendFault spread number (metAt (now (w .entry)))) (now (out .exit)) r × (r ≤ at + 200) ⌝ }
 {
     let channel = put_place(out, at, b"The send window of ", w);
     let last = put_send(out, channel, w);
-    put_fault_end(out, last, number)
+    put_fault_end(out, last, number, spread)
 }
 
 // The window at fault, and what the lines after it are.
-fn put_fault(out: &mut [u8], at: usize, number: u8, w: &[u32]) -> usize
+fn put_fault(out: &mut [u8], at: usize, number: u8, w: &[u32], spread: u32) -> usize
     requires { ⌜ (at + 200 ≤ length (now out)) × (7 ≤ length (now w)) ⌝ }
-    ensures { λ r. ⌜ Added (now (out .entry)) at (faultText number (metAt (now (w .entry)))) (now (out .exit)) r × (r ≤ at + 200) ⌝ }
+    ensures { λ r. ⌜ Added (now (out .entry)) at (faultText spread number (metAt (now (w .entry)))) (now (out .exit)) r × (r ≤ at + 200) ⌝ }
 {
     if number == 12 {
-        put_receive_fault(out, at, w)
+        put_receive_fault(out, at, w, spread)
     } else {
-        put_send_fault(out, at, number, w)
+        put_send_fault(out, at, number, w, spread)
     }
 }
 
+// How many ticks the later of two windows would have to be moved.
+fn too_close(v: &[u32], w: &[u32], spread: u32) -> u64
+    requires { ⌜ (7 ≤ length (now v)) × (7 ≤ length (now w)) ⌝ }
+    ensures { λ r. ⌜ (r ≡ tooClose spread (metAt (now (v .entry))) (metAt (now (w .entry)))) × (r < 10000000000) ⌝ }
+{
+    let one = v[4];
+    let other = w[4];
+    if one <= other {
+        spread::lacking(v[5], other, spread)
+    } else {
+        spread::lacking(w[5], one, spread)
+    }
+}
+
+// The same in words; nothing is said without a spread.
+fn put_close(out: &mut [u8], at: usize, fault: &[u32], w: &[u32], spread: u32) -> usize
+    requires { ⌜ (at + 28 ≤ length (now out)) × (7 ≤ length (now fault)) × (7 ≤ length (now w)) ⌝ }
+    ensures { λ r. ⌜ Added (now (out .entry)) at (closeWords spread (metAt (now (fault .entry))) (metAt (now (w .entry)))) (now (out .exit)) r × (r ≤ at + 28) ⌝ }
+{
+    if spread == 0 {
+        return at;
+    }
+    let moved = too_close(fault, w, spread);
+    spread::put_distance(out, at, b": ", moved, b" too close")
+}
+
 // A send window that was met.
-fn put_send_line(out: &mut [u8], at: usize, w: &[u32]) -> usize
-    requires { ⌜ (at + 160 ≤ length (now out)) × (7 ≤ length (now w)) ⌝ }
-    ensures { λ r. ⌜ Added (now (out .entry)) at (sendLine (metAt (now (w .entry)))) (now (out .exit)) r × (r ≤ at + 160) ⌝ }
+fn put_send_line(out: &mut [u8], at: usize, fault: &[u32], w: &[u32], spread: u32) -> usize
+    requires { ⌜ (at + 160 ≤ length (now out)) × (7 ≤ length (now fault)) × (7 ≤ length (now w)) ⌝ }
+    ensures { λ r. ⌜ Added (now (out .entry)) at (sendLine spread (metAt (now (fault .entry))) (metAt (now (w .entry)))) (now (out .exit)) r × (r ≤ at + 160) ⌝ }
 {
     let kind = put_place(out, at, b"  ", w);
     let channel = put(out, kind, b", a send window");
-    let last = put_send(out, channel, w);
+    let close = put_send(out, channel, w);
+    let last = put_close(out, close, fault, w, spread);
     put(out, last, b"\n")
 }
 
@@ -113,12 +139,16 @@ fn put_receive(out: &mut [u8], at: usize, w: &[u32]) -> usize
 }
 
 // How it starts against the send window.
-fn put_start(out: &mut [u8], at: usize, sent: &[u32], w: &[u32]) -> usize
+fn put_start(out: &mut [u8], at: usize, sent: &[u32], w: &[u32], spread: u32) -> usize
     requires { ⌜ (at + 35 ≤ length (now out)) × (7 ≤ length (now sent)) × (7 ≤ length (now w)) ⌝ }
-    ensures { λ r. ⌜ Added (now (out .entry)) at (startWords (metAt (now (sent .entry))) (metAt (now (w .entry)))) (now (out .exit)) r × (r ≤ at + 35) ⌝ }
+    ensures { λ r. ⌜ Added (now (out .entry)) at (startWords spread (metAt (now (sent .entry))) (metAt (now (w .entry)))) (now (out .exit)) r × (r ≤ at + 35) ⌝ }
 {
     let start = w[4];
     let send = sent[4];
+    if spread != 0 {
+        let lack = spread::lacking(start, send, spread);
+        return spread::put_start_margin(out, at, lack);
+    }
     if start < send {
         put(out, at, b": starts earlier,")
     } else {
@@ -127,12 +157,16 @@ fn put_start(out: &mut [u8], at: usize, sent: &[u32], w: &[u32]) -> usize
 }
 
 // How it ends against it.
-fn put_end(out: &mut [u8], at: usize, sent: &[u32], w: &[u32]) -> usize
+fn put_end(out: &mut [u8], at: usize, sent: &[u32], w: &[u32], spread: u32) -> usize
     requires { ⌜ (at + 35 ≤ length (now out)) × (7 ≤ length (now sent)) × (7 ≤ length (now w)) ⌝ }
-    ensures { λ r. ⌜ Added (now (out .entry)) at (endWords (metAt (now (sent .entry))) (metAt (now (w .entry)))) (now (out .exit)) r × (r ≤ at + 35) ⌝ }
+    ensures { λ r. ⌜ Added (now (out .entry)) at (endWords spread (metAt (now (sent .entry))) (metAt (now (w .entry)))) (now (out .exit)) r × (r ≤ at + 35) ⌝ }
 {
     let send = sent[5];
     let end = w[5];
+    if spread != 0 {
+        let lack = spread::lacking(send, end, spread);
+        return spread::put_end_margin(out, at, lack);
+    }
     if send < end {
         put(out, at, b" ends later\n")
     } else {
@@ -141,64 +175,78 @@ fn put_end(out: &mut [u8], at: usize, sent: &[u32], w: &[u32]) -> usize
 }
 
 // A receive window that was met, against the send window.
-fn put_listener(out: &mut [u8], at: usize, sent: &[u32], w: &[u32]) -> usize
+fn put_listener(out: &mut [u8], at: usize, sent: &[u32], w: &[u32], spread: u32) -> usize
     requires { ⌜ (at + 160 ≤ length (now out)) × (7 ≤ length (now sent)) × (7 ≤ length (now w)) ⌝ }
-    ensures { λ r. ⌜ Added (now (out .entry)) at (listenerLine (metAt (now (sent .entry))) (metAt (now (w .entry)))) (now (out .exit)) r × (r ≤ at + 160) ⌝ }
+    ensures { λ r. ⌜ Added (now (out .entry)) at (listenerLine spread (metAt (now (sent .entry))) (metAt (now (w .entry)))) (now (out .exit)) r × (r ≤ at + 160) ⌝ }
 {
     let start = put_receive(out, at, w);
-    let end = put_start(out, start, sent, w);
-    put_end(out, end, sent, w)
+    let end = put_start(out, start, sent, w, spread);
+    put_end(out, end, sent, w, spread)
 }
 
 // A window that was met.
-fn put_met(out: &mut [u8], at: usize, number: u8, fault: &[u32], w: &[u32]) -> usize
+fn put_met(out: &mut [u8], at: usize, number: u8, fault: &[u32], w: &[u32], spread: u32) -> usize
     requires { ⌜ (at + 160 ≤ length (now out)) × (7 ≤ length (now fault)) × (7 ≤ length (now w)) ⌝ }
-    ensures { λ r. ⌜ Added (now (out .entry)) at (metLine number (metAt (now (fault .entry))) (metAt (now (w .entry)))) (now (out .exit)) r × (r ≤ at + 160) ⌝ }
+    ensures { λ r. ⌜ Added (now (out .entry)) at (metLine spread number (metAt (now (fault .entry))) (metAt (now (w .entry)))) (now (out .exit)) r × (r ≤ at + 160) ⌝ }
 {
     if number == 10 {
-        put_send_line(out, at, w)
+        put_send_line(out, at, fault, w, spread)
     } else if number == 12 {
-        put_send_line(out, at, w)
+        put_send_line(out, at, fault, w, spread)
     } else {
-        put_listener(out, at, fault, w)
+        put_listener(out, at, fault, w, spread)
     }
 }
 
 // The windows that were met: the passages of the list after the first, which is the one at fault.
-fn put_each_met(out: &mut [u8], at: usize, number: u8, list: &[u32], n: usize) -> usize
+fn put_each_met(out: &mut [u8], at: usize, number: u8, list: &[u32], n: usize, spread: u32) -> usize
     requires { ⌜ (at + n * 160 ≤ length (now out)) × (n * 7 ≤ length (now list)) × (1 ≤ n) ⌝ }
-    ensures { λ r. ⌜ Added (now (out .entry)) at (each (metLine number (metAt (now (list .entry)))) (metsOf (drop 7 (now (list .entry))) (n - 1))) (now (out .exit)) r × (r ≤ at + n * 160) ⌝ }
+    ensures { λ r. ⌜ Added (now (out .entry)) at (each (metLine spread number (metAt (now (list .entry)))) (metsOf (drop 7 (now (list .entry))) (n - 1))) (now (out .exit)) r × (r ≤ at + n * 160) ⌝ }
 {
     let mut end = at;
     for i in 1..n {
-        end = put_met(out, end, number, list, &list[i * 7..]);
+        end = put_met(out, end, number, list, &list[i * 7..], spread);
     }
     end
 }
 
 // The same, and that there is none.
-fn put_met_lines(out: &mut [u8], at: usize, number: u8, list: &[u32], n: usize) -> usize
+fn put_met_lines(
+    out: &mut [u8],
+    at: usize,
+    number: u8,
+    list: &[u32],
+    n: usize,
+    spread: u32,
+) -> usize
     requires { ⌜ (at + n * 160 ≤ length (now out)) × (n * 7 ≤ length (now list)) × (1 ≤ n) ⌝ }
-    ensures { λ r. ⌜ Added (now (out .entry)) at (metLines number (metAt (now (list .entry))) (metsOf (drop 7 (now (list .entry))) (n - 1))) (now (out .exit)) r × (r ≤ at + n * 160) ⌝ }
+    ensures { λ r. ⌜ Added (now (out .entry)) at (metLines spread number (metAt (now (list .entry))) (metsOf (drop 7 (now (list .entry))) (n - 1))) (now (out .exit)) r × (r ≤ at + n * 160) ⌝ }
 {
     if n == 1 {
         put(out, at, b"  none\n")
     } else {
-        put_each_met(out, at, number, list, n)
+        put_each_met(out, at, number, list, n, spread)
     }
 }
 
 // n passages: the one at fault, then those that it meets; then the remedy.
-pub fn put_meetings(out: &mut [u8], at: usize, number: u8, list: &[u32], n: usize) -> usize
-    requires { ⌜ (at + 340 + n * 160 ≤ length (now out)) × (n * 7 ≤ length (now list)) ⌝ }
-    ensures { λ r. ⌜ Added (now (out .entry)) at (meetingsText number (metsOf (now (list .entry)) n)) (now (out .exit)) r × (r ≤ at + 340 + n * 160) ⌝ }
+pub fn put_meetings(
+    out: &mut [u8],
+    at: usize,
+    number: u8,
+    list: &[u32],
+    n: usize,
+    spread: u32,
+) -> usize
+    requires { ⌜ (at + 380 + n * 160 ≤ length (now out)) × (n * 7 ≤ length (now list)) ⌝ }
+    ensures { λ r. ⌜ Added (now (out .entry)) at (meetingsText spread number (metsOf (now (list .entry)) n)) (now (out .exit)) r × (r ≤ at + 380 + n * 160) ⌝ }
 {
     if n == 0 {
         return at;
     }
-    let lines = put_fault(out, at, number, list);
-    let last = put_met_lines(out, lines, number, list, n);
-    remedy::put_remedy(out, last, number, list, n)
+    let lines = put_fault(out, at, number, list, spread);
+    let last = put_met_lines(out, lines, number, list, n, spread);
+    remedy::put_remedy(out, last, number, list, n, spread)
 }
 
 // Whether the band of a send at fault on that channel is told: after 10, in version 2.

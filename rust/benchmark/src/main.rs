@@ -3,6 +3,7 @@
 //! `benchmark [--quick]`.
 #![deny(unsafe_code)]
 
+mod apart;
 mod clock;
 mod processor;
 mod report;
@@ -69,6 +70,11 @@ fn measure(effort: Effort) -> Result<(), String> {
         title(row);
         time_run(effort, row, &choices, "a tick");
     }
+    for row in &tables::apart_rows() {
+        let choices = apart::demand_agreement(row)?;
+        title(row);
+        apart::time(effort, row, &choices);
+    }
     time_plan(effort)?;
     println!("refused tables");
     for (number, table) in &tables::refused() {
@@ -95,7 +101,7 @@ fn title(row: &Row) {
 fn choices_to_the_horizon(row: &Row) -> Result<Vec<u8>, String> {
     let subject = Subject::new(&row.table);
     let subject = subject.ok_or(format!("{}: the table is refused", row.name))?;
-    Ok(choices::early(&subject.demand()))
+    Ok(choices::early(&subject.demand(), &[]))
 }
 
 /// All answers of an implementation to a row, and what it writes.
@@ -212,7 +218,7 @@ fn time_run(effort: Effort, row: &Row, choices: &[u8], each: &str) {
 
 #[cfg(test)]
 mod tests {
-    use super::{demand_agreement, tables};
+    use super::{apart, demand_agreement, tables};
 
     #[test]
     fn all_sides_agree_on_every_row() {
@@ -221,6 +227,10 @@ mod tests {
         assert!(!rows.is_empty() && !slow.is_empty());
         for row in rows.iter().chain(&slow) {
             assert!(!demand_agreement(row).unwrap().is_empty(), "{}", row.name);
+        }
+        for row in &tables::apart_rows() {
+            let choices = apart::demand_agreement(row).unwrap();
+            assert!(!choices.is_empty(), "{}", row.name);
         }
     }
 }

@@ -10,17 +10,17 @@ pub fn heading() {
     let sides = ["library", "plain", "yardstick", "library/yardstick"];
     let [library, plain, yardstick, ratio] = sides;
     println!(
-        "{:<25}{library:^22}{plain:^22}{yardstick:^22}{ratio:^17}",
+        "{:<27}{library:^22}{plain:^22}{yardstick:^22}{ratio:^17}",
         ""
     );
     let one = format!("{:>11}{:>11}", "least", "median");
-    println!("{:<25}{one}{one}{one}{:>8}{:>8}", "", "least", "median");
+    println!("{:<27}{one}{one}{one}{:>8}{:>8}", "", "least", "median");
 }
 
 /// Prints the times of one call.
 pub fn line(call: &str, times: [Time; SIDES]) {
     let [library, _, yardstick] = times;
-    print!("  {call:<23}");
+    print!("  {call:<25}");
     for Time { least, median } in times {
         print!("{}{}", number(least), number(median));
     }

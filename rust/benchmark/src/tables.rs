@@ -1,9 +1,11 @@
 //! The tables that are timed. Each one is made by code with fixed numbers,
 //! and has the length and the passages that its row says.
 
+use crate::apart::SPREAD;
 use comparison::random::Random;
 use comparison::tables::planned::{table, Lane, Plan, Step, Style};
 use comparison::tables::WORKED_EXAMPLE;
+use reference::calls::largest_spread;
 use reference::checks::verdict;
 use reference::schedule::schedule;
 use reference::table::*;
@@ -70,7 +72,7 @@ pub fn rows() -> Vec<Row> {
         ),
     ];
     for passages in [128, 256, 512, 1024] {
-        let table = with_passages(listeners(), passages);
+        let table = with_passages(listeners(1), passages);
         rows.push(Row::new("six long listeners", &table, passages));
     }
     rows
@@ -85,6 +87,32 @@ pub fn slow_rows() -> Vec<Row> {
         Row::new("the worked example, slow", &worked_example(2000), 8),
         Row::new("a hub and 7 probes, slow", &slow, passages),
     ]
+}
+
+/// The rows for nodes that wake apart: tables with so many times as many ticks that
+/// they are accepted at a spread of three.
+pub fn apart_rows() -> Vec<Row> {
+    let rows = vec![
+        Row::new(
+            "the worked example, four times as slow",
+            &worked_example(4),
+            8,
+        ),
+        Row::new(
+            "a hub and 7 probes, twice as slow",
+            &with_passages(hub(2), 1024),
+            1024,
+        ),
+        Row::new(
+            "six long listeners, four times as slow",
+            &with_passages(listeners(4), 1024),
+            1024,
+        ),
+    ];
+    for row in &rows {
+        assert_eq!(largest_spread(&row.table), Ok(SPREAD), "{}", row.name);
+    }
+    rows
 }
 
 /// Tables that are refused by 1 to 6. Those of 4 to 6 are as long as a table
@@ -190,11 +218,12 @@ fn pairs(apart: u32) -> Table {
     plain(&lanes, 4)
 }
 
-/// A sender and its hub, and six nodes that listen all the time to what
-/// nobody sends.
-fn listeners() -> Table {
-    let sender = Lane::new(vec![Step::send(2, 4, 0), Step::internal(8, 10)]);
-    let hub = Lane::new(vec![Step::listen(1, 6, &[0]), Step::internal(8, 10)]);
+/// A sender and its hub, with all ticks so many times as long, and six nodes that
+/// listen all the time to what nobody sends.
+fn listeners(times: u32) -> Table {
+    let rest = Step::internal(8 * times, 10 * times);
+    let sender = Lane::new(vec![Step::send(2 * times, 4 * times, 0), rest.clone()]);
+    let hub = Lane::new(vec![Step::listen(times, 6 * times, &[0]), rest]);
     let listener = Lane::once(vec![Step::listen(0, MAX_TICKS.into(), &[1])]);
     let mut lanes = vec![sender, hub];
     lanes.extend(vec![listener; 6]);
@@ -343,6 +372,7 @@ mod tests {
     fn all_tables_can_be_made() {
         assert_eq!(rows().len(), 12);
         assert_eq!(slow_rows().len(), 2);
+        assert_eq!(apart_rows().len(), 3);
         assert_eq!(refused().len(), 6);
     }
 

@@ -7,37 +7,89 @@
 #![forbid(unsafe_code)]
 
 use demand::Demand;
-use reference::checks::verdict;
+use reference::checks::{verdict, verdict_within};
+use reference::schedule::Passage;
+use reference::table::{Refusal, Table};
 use std::env;
 use std::fs::File;
 use std::io::{self, Read, Write};
 use std::process::ExitCode;
 
-const USAGE: &str = "usage: make_choices [--early | --late] [TABLE] > choices.bin
+const USAGE: &str =
+    "usage: make_choices [--early | --late] [--offsets A,B,..] [TABLE] > choices.bin
   --early   each node finishes everything as early as it can (the default)
   --late    each node finishes everything as late as it may
+  --offsets A,B,..
+            the ticks at which nodes 0 upward wake; a node is chosen from that tick
+            on, and does everything by its own clock. Without it all wake at tick 0.
+            The table has to be accepted at a spread as large as the largest of them
   TABLE     the file of the table; without it standard input";
 
 /// One byte more than a table may have, so that a longer one is seen.
 const ENOUGH: u64 = 8193;
 
 /// What makes a list.
-type Maker = fn(&Demand) -> Vec<u8>;
+type Maker = fn(&Demand, &[u32]) -> Vec<u8>;
+
+/// What is asked for.
+struct Asked<'a> {
+    maker: Maker,
+    offsets: Vec<u32>,
+    file: Option<&'a str>,
+}
 
 fn main() -> ExitCode {
     let words: Vec<String> = env::args().skip(1).collect();
     let words: Vec<&str> = words.iter().map(String::as_str).collect();
-    let (maker, rest) = match words.as_slice() {
-        ["--early", rest @ ..] => (choices::early as Maker, rest),
-        ["--late", rest @ ..] => (choices::late as Maker, rest),
-        rest => (choices::early as Maker, rest),
+    let Some(asked) = asked(&words) else {
+        return wrong(USAGE);
     };
-    match rest {
-        [word, ..] if word.starts_with('-') => wrong(USAGE),
-        [] => finish(maker, read(io::stdin()), "standard input"),
-        [file] => finish(maker, File::open(file).and_then(read), file),
-        _ => wrong(USAGE),
+    match asked.file {
+        None => finish(&asked, read(io::stdin()), "standard input"),
+        Some(file) => finish(&asked, File::open(file).and_then(read), file),
     }
+}
+
+/// What the words ask for; nothing if they are not understood.
+fn asked<'a>(words: &[&'a str]) -> Option<Asked<'a>> {
+    let (mut maker, mut offsets, mut rest) = (None, None, words);
+    loop {
+        rest = match rest {
+            ["--early", rest @ ..] if maker.is_none() => {
+                maker = Some(choices::early as Maker);
+                rest
+            }
+            ["--late", rest @ ..] if maker.is_none() => {
+                maker = Some(choices::late as Maker);
+                rest
+            }
+            ["--offsets", list, rest @ ..] if offsets.is_none() => {
+                offsets = Some(numbers(list)?);
+                rest
+            }
+            _ => break,
+        };
+    }
+    let file = match rest {
+        [] => None,
+        [file] if !file.starts_with('-') => Some(*file),
+        _ => return None,
+    };
+    Some(Asked {
+        maker: maker.unwrap_or(choices::early),
+        offsets: offsets.unwrap_or_default(),
+        file,
+    })
+}
+
+/// Whole numbers with commas between them. One that does not fit 32 bits counts as
+/// the greatest that does.
+fn numbers(list: &str) -> Option<Vec<u32>> {
+    let number = |word: &str| {
+        let digits = !word.is_empty() && word.bytes().all(|byte| byte.is_ascii_digit());
+        digits.then(|| word.parse().unwrap_or(u32::MAX))
+    };
+    list.split(',').map(number).collect()
 }
 
 fn read(source: impl Read) -> io::Result<Vec<u8>> {
@@ -47,23 +99,31 @@ fn read(source: impl Read) -> io::Result<Vec<u8>> {
 }
 
 /// Writes the list, or says why there is none.
-fn finish(maker: Maker, table: io::Result<Vec<u8>>, name: &str) -> ExitCode {
+fn finish(asked: &Asked, table: io::Result<Vec<u8>>, name: &str) -> ExitCode {
     let bytes = match table {
         Ok(bytes) => bytes,
         Err(error) => return wrong(&format!("{name}: {error}")),
     };
-    let (table, passages) = match verdict(&bytes) {
+    let (table, passages) = match accepted(&bytes, &asked.offsets) {
         Ok(accepted) => accepted,
         Err(refusal) => {
             eprintln!("refused {} {}", refusal.number, refusal.component);
             return ExitCode::FAILURE;
         }
     };
-    let list = maker(&Demand::new(&table, &passages));
+    let list = (asked.maker)(&Demand::new(&table, &passages), &asked.offsets);
     match write(&list) {
         Ok(()) => ExitCode::SUCCESS,
         Err(error) => wrong(&format!("standard output: {error}")),
     }
+}
+
+/// The table and its schedule, if it is accepted at a spread as large as the
+/// largest offset of one of its nodes.
+fn accepted(bytes: &[u8], offsets: &[u32]) -> Result<(Table, Vec<Passage>), Refusal> {
+    let (table, _) = verdict(bytes)?;
+    let own = offsets.iter().take(table.components.len());
+    verdict_within(bytes, own.copied().max().unwrap_or(0))
 }
 
 fn write(list: &[u8]) -> io::Result<()> {

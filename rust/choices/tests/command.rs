@@ -82,6 +82,72 @@ fn a_table_from_a_file() {
     assert_eq!(made(&["--late", file], b""), made(&["--late"], &table));
 }
 
+/// So many of a choice.
+fn times(count: usize, choice: u8) -> Vec<u8> {
+    vec![choice; count]
+}
+
+/// A send 10 to 12 with its listener 7 to 15, horizon 40. The probe wakes at 2, the
+/// hub at 1.
+#[test]
+fn nodes_that_wake_apart() {
+    let file = corpus("spread_margin_3.bin");
+    let file = file.to_str().unwrap();
+    let early = [
+        times(1, T),  // nobody is awake
+        times(5, 1),  // the hub takes its first edge
+        times(1, T),  //
+        times(5, 0),  // the probe does
+        times(6, T),  //
+        times(1, 1),  // the hub listens at 8, which is 7 by its clock
+        times(4, T),  //
+        times(2, 0),  // the probe sends at 12, which is 10 by its clock
+        times(8, 0),  // and both go on to their next sleep
+        times(8, 1),  //
+        times(28, T), //
+    ]
+    .concat();
+    assert_eq!(made(&["--offsets", "2,1", file], b""), early);
+    assert_eq!(made(&["--early", "--offsets", "2,1", file], b""), early);
+    assert_eq!(made(&["--offsets", "2,1", "--early", file], b""), early);
+    let late = [
+        times(8, T),  //
+        times(6, 1),  // the hub wakes and listens when it has to
+        times(4, T),  //
+        times(6, 0),  // the probe likewise
+        times(2, T),  //
+        times(1, 0),  // it sends at 14, the end of its window by its clock
+        times(26, T), //
+    ]
+    .concat();
+    assert_eq!(made(&["--late", "--offsets", "2,1", file], b""), late);
+    let together = made(&[file], b"");
+    for offsets in ["0", "0,0", "0,0,1001"] {
+        assert_eq!(made(&["--offsets", offsets, file], b""), together);
+    }
+    assert_ne!(together, early);
+    let table = std::fs::read(file).unwrap();
+    assert_eq!(made(&["--offsets", "2,1"], &table), early);
+}
+
+#[test]
+fn offsets_that_are_too_large() {
+    let file = corpus("spread_margin_3.bin");
+    let file = file.to_str().unwrap();
+    for (offsets, refused) in [
+        ("3", "16 0"),
+        ("0,1000", "16 0"),
+        ("1001", "19 255"),
+        ("0,99999999999", "19 255"),
+    ] {
+        let told = (Some(1), format!("refused {refused}\n"));
+        assert_eq!(failed(&["--offsets", offsets, file], b""), told);
+    }
+    // A table that is refused without them is refused as before.
+    let told = (Some(1), "refused 2 255\n".to_string());
+    assert_eq!(failed(&["--offsets", "1001"], &[1, 0, 7]), told);
+}
+
 #[test]
 fn refused_tables() {
     let refused = |words: &str| (Some(1), format!("refused {words}\n"));
@@ -99,6 +165,13 @@ fn wrong_use() {
         &["--soon"],
         &["one", "two"],
         &["--late", "one", "two"],
+        &["--offsets"],
+        &["--offsets", "1,x", "one"],
+        &["--offsets", "", "one"],
+        &["--offsets", "1,,2", "one"],
+        &["--offsets", "+1", "one"],
+        &["--offsets", "1", "--offsets", "2", "one"],
+        &["one", "--offsets", "1"],
     ];
     for words in all {
         let (status, message) = failed(words, b"");

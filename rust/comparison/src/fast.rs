@@ -4,7 +4,7 @@
 
 use crate::readers::{refused, second_edge_choice, Reader};
 use std::cell::RefCell;
-use timed_network::{Call, RunNumbers, Slots, Verdict, NO_NODE};
+use timed_network::{Call, Meetings, RunNumbers, Slots, Verdict, NO_NODE};
 use yardstick::{Refusal, Run, Yardstick};
 
 thread_local! {
@@ -27,12 +27,35 @@ pub(crate) const READER: Reader = Reader {
     edge_choice: second_edge_choice,
     part,
     run,
+    meetings,
+    check_spread,
+    largest_spread,
+    meetings_spread,
+    run_apart,
 };
 
 fn check(table: &[u8]) -> Verdict {
-    match with(|yardstick| yardstick.check(table)) {
-        Ok(()) => Verdict::Accepted,
-        Err(refusal) => verdict(refusal),
+    verdict_of(with(|yardstick| yardstick.check(table)))
+}
+
+fn check_spread(table: &[u8], spread: u32) -> Verdict {
+    verdict_of(with(|yardstick| yardstick.check_spread(table, spread)))
+}
+
+fn largest_spread(table: &[u8]) -> Result<u32, Verdict> {
+    with(|yardstick| yardstick.largest_spread(table)).map_err(verdict)
+}
+
+fn meetings(table: &[u8], list: &mut [u32]) -> Meetings {
+    meetings_spread(table, 0, list)
+}
+
+fn meetings_spread(table: &[u8], spread: u32, list: &mut [u32]) -> Meetings {
+    let answer = with(|yardstick| yardstick.meetings_spread(table, spread, list));
+    Meetings {
+        table: verdict_of(answer.table),
+        verdict: verdict_of(answer.listed.map(|_| ())),
+        size: answer.listed.unwrap_or(0),
     }
 }
 
@@ -58,7 +81,25 @@ fn part(program: &[u8], node: u8) -> &[u8] {
 }
 
 fn run(table: &[u8], choices: &[u8], observations: &mut [u8]) -> RunNumbers {
-    match with(|yardstick| yardstick.run(table, choices, observations)) {
+    run_numbers(with(|yardstick| {
+        yardstick.run(table, choices, observations)
+    }))
+}
+
+fn run_apart(
+    table: &[u8],
+    choices: &[u8],
+    spread: u32,
+    offsets: &[u32],
+    observations: &mut [u8],
+) -> RunNumbers {
+    run_numbers(with(|yardstick| {
+        yardstick.run_apart(table, choices, spread, offsets, observations)
+    }))
+}
+
+fn run_numbers(answer: Result<Run, Refusal>) -> RunNumbers {
+    match answer {
         Ok(run) => ran(&run),
         Err(refusal) => RunNumbers {
             number: refusal.number,
@@ -94,6 +135,13 @@ fn answer(size: Result<usize, Refusal>) -> Call {
             verdict: verdict(refusal),
             size: 0,
         },
+    }
+}
+
+fn verdict_of(answer: Result<(), Refusal>) -> Verdict {
+    match answer {
+        Ok(()) => Verdict::Accepted,
+        Err(refusal) => verdict(refusal),
     }
 }
 

@@ -4,8 +4,9 @@
 //! Both sides get the same tables, class after class, and are lent lists and bytes
 //! of the same lengths for schedules, charts, programs, plans and observations; at
 //! the entries of schedules and at others both are asked for the edge that is
-//! taken. The first difference ends the comparison. Each run is also held to
-//! demand 3.
+//! taken. At spreads both are asked for verdicts and for the windows that met,
+//! and run nodes that wake apart. The first difference ends the comparison. Each
+//! run is also held to demand 3.
 //! [`tables`] makes well-formed tables, [`layout`] and [`bytes`] serve to
 //! damage them, [`runs`] draws choices, [`classes`] lists what is tried,
 //! [`trial`] tries it.
@@ -25,6 +26,7 @@ pub mod random;
 pub mod readers;
 pub mod requests;
 pub mod runs;
+pub mod spreads;
 pub mod stored;
 pub mod tables;
 pub mod tally;
@@ -42,10 +44,23 @@ pub fn compare(
     readers: &Readers,
     seed: u64,
     extent: &Extent,
+    show: impl FnMut(&Tally),
+) -> Result<Vec<Tally>, Stop> {
+    compare_named(readers, seed, extent, "", show)
+}
+
+/// Tries the classes that have this in their names, each with the cases that it has
+/// among all.
+pub fn compare_named(
+    readers: &Readers,
+    seed: u64,
+    extent: &Extent,
+    name: &str,
     mut show: impl FnMut(&Tally),
 ) -> Result<Vec<Tally>, Stop> {
     let mut tallies = Vec::new();
-    for (number, class) in (1..).zip(&CLASSES) {
+    let named = |(_, class): &(u64, &Class)| class.name.contains(name);
+    for (number, class) in (1..).zip(&CLASSES).filter(named) {
         let tally = compare_class(readers, class, &mut numbers(seed, number), extent)?;
         show(&tally);
         tallies.push(tally);
@@ -82,13 +97,17 @@ pub struct Least {
     pub of_each_kind: u64,
     /// Tables refused for each of the ways in which a send is not heard well.
     pub of_each_hearing: u64,
+    /// Of each kind of answer at a spread, and of each kind of run of nodes that
+    /// wake apart.
+    pub of_each_apart: u64,
 }
 
 /// What the comparison should have tried and did not: a class without cases,
 /// an answer that never came, one of the faults of a send's hearing that came
 /// too rarely, lists or bytes that never came back in one of the ways, a kind of
 /// edge choice that never came, parts never found or never missed, a kind of run
-/// that is too rare, fewer cases or runs in all than demanded.
+/// that is too rare, an answer at a spread or a kind of run of nodes that wake
+/// apart that is, fewer cases or runs in all than demanded.
 pub fn gaps(tallies: &[Tally], least: &Least) -> Vec<String> {
     let empty = tallies.iter().filter(|tally| tally.is_empty());
     let mut gaps: Vec<String> = empty
@@ -108,6 +127,8 @@ pub fn gaps(tallies: &[Tally], least: &Least) -> Vec<String> {
     gaps.extend(hearing_gaps(&sum, least.of_each_hearing));
     gaps.extend(list_gaps(&sum));
     gaps.extend(sum.runs.gaps(least.of_each_kind));
+    gaps.extend(sum.spreads.gaps(least.of_each_apart));
+    gaps.extend(sum.apart.gaps(least.of_each_apart));
     let (cases, runs) = (sum.cases(), sum.runs.ran());
     for (count, least, what) in [(cases, least.cases, "cases"), (runs, least.runs, "runs")] {
         if count < least {
@@ -156,8 +177,10 @@ fn list_gaps(sum: &Tally) -> impl Iterator<Item = String> {
     never.map(|(_, gap)| gap.to_string())
 }
 
-/// The cases and the runs of all classes.
-pub fn cases(tallies: &[Tally]) -> [u64; 2] {
+/// The cases of all classes, the verdicts at spreads, and the runs, those of nodes
+/// that wake apart among them.
+pub fn cases(tallies: &[Tally]) -> [u64; 3] {
     let sum = Tally::sum(tallies);
-    [sum.cases(), sum.runs.all()]
+    let runs = sum.runs.all() + sum.apart.all();
+    [sum.cases(), sum.spreads.verdicts(), runs]
 }

@@ -17,44 +17,71 @@ fn pattern(place: usize) -> u32 {
     (place as u32).wrapping_mul(2_654_435_761) | 1 << 31
 }
 
+/// A buffer of numbers with its middle to be lent.
+pub struct Buffer {
+    numbers: Vec<u32>,
+}
+
+impl Buffer {
+    /// A buffer of which so many numbers are lent.
+    pub fn new(length: usize) -> Buffer {
+        let numbers = (0..length + 2 * MARGIN).map(pattern).collect();
+        Buffer { numbers }
+    }
+
+    /// The lent numbers.
+    pub fn lent(&mut self) -> &mut [u32] {
+        let end = self.numbers.len() - MARGIN;
+        &mut self.numbers[MARGIN..end]
+    }
+
+    /// The first passages of the list, so many of them.
+    pub fn passages(&self, count: usize) -> Vec<&[u32]> {
+        let list = &self.numbers[MARGIN..self.numbers.len() - MARGIN];
+        list.chunks_exact(FIELDS).take(count).collect()
+    }
+
+    /// The first place at which the two buffers differ.
+    pub fn differs_at(&self, other: &Buffer) -> Option<usize> {
+        let mut pairs = self.numbers.iter().zip(&other.numbers);
+        pairs.position(|(own, others)| own != others)
+    }
+
+    /// The number at such a place, and the place, counted from the first number
+    /// of the list; nothing where there is none.
+    pub fn told(&self, place: Option<usize>) -> String {
+        let Some(place) = place else {
+            return String::new();
+        };
+        let at = place as isize - MARGIN as isize;
+        format!(", {} at place {at} of the list", self.numbers[place])
+    }
+}
+
 /// A call and the whole buffer after it.
 pub struct Lent {
     /// What the call said.
     pub call: Call,
-    buffer: Vec<u32>,
+    buffer: Buffer,
 }
 
 impl Lent {
     /// Lends a list of this length.
     pub fn to(reader: &Reader, table: &[u8], length: usize) -> Lent {
-        let mut buffer: Vec<u32> = (0..length + 2 * MARGIN).map(pattern).collect();
-        let list = &mut buffer[MARGIN..MARGIN + length];
-        let call = (reader.schedule)(table, list);
+        let mut buffer = Buffer::new(length);
+        let call = (reader.schedule)(table, buffer.lent());
         Lent { call, buffer }
     }
 
     /// The passages that the call says were written.
     pub fn passages(&self) -> Vec<&[u32]> {
-        let list = &self.buffer[MARGIN..self.buffer.len() - MARGIN];
-        list.chunks_exact(FIELDS).take(self.call.size).collect()
-    }
-
-    /// The first place of the list, counted from its first number, at which
-    /// the two buffers differ.
-    fn differs_at(&self, other: &Lent) -> Option<usize> {
-        let mut pairs = self.buffer.iter().zip(&other.buffer);
-        pairs.position(|(own, others)| own != others)
+        self.buffer.passages(self.call.size)
     }
 
     /// The call, and the number at a place of the buffer.
     fn told(&self, place: Option<usize>) -> String {
         let Call { verdict, size } = self.call;
-        let mut text = format!("{verdict}, {size} passages");
-        if let Some(place) = place {
-            let at = place as isize - MARGIN as isize;
-            text += &format!(", {} at place {at} of the list", self.buffer[place]);
-        }
-        text
+        format!("{verdict}, {size} passages{}", self.buffer.told(place))
     }
 }
 
@@ -71,7 +98,7 @@ pub struct Unlike {
 pub fn compare(readers: &Readers, table: &[u8], length: usize) -> Result<Call, Unlike> {
     let library = Lent::to(&readers.library, table, length);
     let second = Lent::to(&readers.second, table, length);
-    let place = library.differs_at(&second);
+    let place = library.buffer.differs_at(&second.buffer);
     if library.call == second.call && place.is_none() {
         return Ok(library.call);
     }

@@ -1,10 +1,19 @@
 //! The implementations that are compared, two at a time.
 
+mod apart;
+
+pub use apart::{
+    second_check_spread, second_largest_spread, second_meetings, second_meetings_spread,
+    second_run_apart,
+};
+
 use crate::fast;
+use reference::run::Outcome;
 use reference::table::Refusal;
 use reference::{calls, edge_choice, plan};
 use timed_network::{
-    Call, EdgeChoice, Entry, RunNumbers, Slots, TakenEdge, Verdict, FIELDS, NO_MESSAGE, NO_NODE,
+    Call, EdgeChoice, Entry, Meetings, RunNumbers, Slots, TakenEdge, Verdict, FIELDS, NO_MESSAGE,
+    NO_NODE,
 };
 
 /// The numbers that `check` answers: 0 where it accepts, then those of the
@@ -17,6 +26,10 @@ pub const UNHEARD: [u8; 4] = [11, 15, 16, 17];
 pub const TOO_SHORT: u8 = 13;
 /// The refusal of too many choices.
 pub const TOO_MANY: u8 = 14;
+/// The refusal of a spread that is too large.
+pub const TOO_WIDE: u8 = 19;
+/// The refusal of an offset above the spread.
+pub const TOO_LATE: u8 = 20;
 
 /// A call that finds one node's part of a program.
 pub type Part = for<'a> fn(&'a [u8], u8) -> &'a [u8];
@@ -29,6 +42,12 @@ pub type Run = fn(&[u8], &[u8], &mut [u8]) -> RunNumbers;
 
 /// A call that chooses an edge at an entry.
 pub type Chooses = fn(&[u8], &Entry) -> Result<EdgeChoice, Verdict>;
+/// A call that judges a table at a spread.
+pub type ChecksSpread = fn(&[u8], u32) -> Verdict;
+/// A call that lists the windows that met at a spread.
+pub type ListsMet = fn(&[u8], u32, &mut [u32]) -> Meetings;
+/// A call that runs a table under choices, at a spread, with offsets.
+pub type RunApart = fn(&[u8], &[u8], u32, &[u32], &mut [u8]) -> RunNumbers;
 
 /// The calls of an implementation.
 #[derive(Clone, Copy)]
@@ -49,6 +68,16 @@ pub struct Reader {
     pub part: Part,
     /// What it says of a table's run under choices, and writes.
     pub run: Run,
+    /// Which windows it says have met.
+    pub meetings: fn(&[u8], &mut [u32]) -> Meetings,
+    /// What it says of a table at a spread.
+    pub check_spread: ChecksSpread,
+    /// Up to which spread it accepts a table.
+    pub largest_spread: fn(&[u8]) -> Result<u32, Verdict>,
+    /// Which windows it says have met at a spread.
+    pub meetings_spread: ListsMet,
+    /// What it says of a run whose nodes wake apart, and writes.
+    pub run_apart: RunApart,
 }
 
 /// The two implementations.
@@ -72,6 +101,11 @@ impl Readers {
             edge_choice: timed_network::edge_choice,
             part: timed_network::part,
             run: timed_network::run_numbers,
+            meetings: timed_network::meetings,
+            check_spread: timed_network::check_spread,
+            largest_spread: timed_network::largest_spread,
+            meetings_spread: timed_network::meetings_spread,
+            run_apart: timed_network::run_apart_numbers,
         };
         let second = Reader::second();
         Readers { library, second }
@@ -98,6 +132,11 @@ impl Reader {
             edge_choice: second_edge_choice,
             part: second_part,
             run: second_run,
+            meetings: second_meetings,
+            check_spread: second_check_spread,
+            largest_spread: second_largest_spread,
+            meetings_spread: second_meetings_spread,
+            run_apart: second_run_apart,
         }
     }
 
@@ -120,12 +159,7 @@ pub fn second_reader(table: &[u8]) -> Verdict {
 pub fn second_schedule(table: &[u8], list: &mut [u32]) -> Call {
     match calls::schedule(table, list) {
         Ok(size) => {
-            for passage in list.chunks_exact_mut(FIELDS).take(size) {
-                let message = &mut passage[FIELDS - 1];
-                if *message == calls::NO_MESSAGE {
-                    *message = NO_MESSAGE;
-                }
-            }
+            put_no_message(list, size);
             let verdict = Verdict::Accepted;
             Call { verdict, size }
         }
@@ -133,6 +167,16 @@ pub fn second_schedule(table: &[u8], list: &mut [u32]) -> Call {
             verdict: verdict(refusal),
             size: 0,
         },
+    }
+}
+
+/// Writes the library's number for no message into so many passages.
+fn put_no_message(list: &mut [u32], size: usize) {
+    for passage in list.chunks_exact_mut(FIELDS).take(size) {
+        let message = &mut passage[FIELDS - 1];
+        if *message == calls::NO_MESSAGE {
+            *message = NO_MESSAGE;
+        }
     }
 }
 
@@ -196,7 +240,11 @@ pub fn second_part(program: &[u8], node: u8) -> &[u8] {
 
 /// The second implementation's run.
 pub fn second_run(table: &[u8], choices: &[u8], observations: &mut [u8]) -> RunNumbers {
-    match calls::run(table, choices, observations) {
+    run_numbers(calls::run(table, choices, observations))
+}
+
+fn run_numbers(answer: Result<(Outcome, usize), Refusal>) -> RunNumbers {
+    match answer {
         Ok((outcome, size)) => RunNumbers {
             number: 0,
             component: 255,

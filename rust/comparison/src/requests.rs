@@ -1,5 +1,9 @@
-//! The programs, parts, charts, plans, edge choices and runs that the vectors
-//! keep, with their answers.
+//! The programs, parts, charts, plans, edge choices, verdicts at a spread and runs
+//! that the vectors keep, with their answers.
+
+mod apart;
+
+pub use apart::Apart;
 
 use crate::bytes::unhex;
 use crate::stored::{read_answer, vector_lines};
@@ -60,6 +64,17 @@ pub enum Request {
         /// The observations, one after the other.
         observations: Vec<u8>,
     },
+    /// The verdict on a table at a spread.
+    Spread {
+        /// The table.
+        table: Vec<u8>,
+        /// The spread.
+        spread: u32,
+        /// The verdict.
+        answer: Verdict,
+    },
+    /// A run of nodes that wake apart.
+    Apart(Apart),
     /// A program or a run of a table that is refused.
     Refused {
         /// The table.
@@ -110,6 +125,14 @@ fn request(line: &str) -> Option<Option<Request>> {
         (["chart", table, lent], _) => chart(table, lent, answer)?,
         (["plan", numbers @ ..], _) => plan(numbers, answer)?,
         (["looked", table], _) => looked(table, answer)?,
+        (["check", table, spread], Some(answer)) => Request::Spread {
+            table: unhex(table)?,
+            spread: spread.parse().ok()?,
+            answer,
+        },
+        (["run", _, _, _, ..] | ["lent", _, "run", ..], _) => {
+            Request::Apart(apart::read(&words, answer)?)
+        }
         (["run", table, choices], None) => run(unhex(table)?, unhex(choices)?, answer)?,
         _ => return Some(None),
     }))

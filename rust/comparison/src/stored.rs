@@ -3,7 +3,7 @@
 use crate::bytes::unhex;
 use std::fs;
 use std::path::{Path, PathBuf};
-use table_text::corpus::{read_answers, read_schedule, Answer};
+use table_text::corpus::{names_with_spreads, read_answers, read_schedule, read_spreads, Answer};
 use table_text::schedule::{self, Passage};
 use timed_network::Verdict;
 
@@ -39,16 +39,16 @@ pub(crate) fn vector_lines<T>(read: fn(&str) -> Option<T>) -> Result<Vec<T>, Str
 }
 
 /// A line with name, request and answer between tabs, nothing if the request
-/// is neither `check` nor `schedule`.
+/// is neither `check` without a spread nor `schedule`.
 fn vector(line: &str) -> Option<Option<Stored>> {
     let fields: Vec<&str> = line.split('\t').collect();
     let [_, request, answer] = fields[..] else {
         return None;
     };
-    let (kind, table) = request.split_once(' ')?;
-    let (answer, passages) = match kind {
-        "check" => (read_answer(answer)?, None),
-        "schedule" => read_schedule_answer(answer)?,
+    let words: Vec<&str> = request.split(' ').collect();
+    let (table, (answer, passages)) = match words[..] {
+        ["check", table] => (table, (read_answer(answer)?, None)),
+        ["schedule", table] => (table, read_schedule_answer(answer)?),
         _ => return Some(None),
     };
     Some(Some(Stored {
@@ -89,20 +89,38 @@ pub fn corpus() -> Result<Vec<Stored>, String> {
     for (name, answer) in read_answers(&folder)? {
         let file = folder.join(format!("{name}.bin"));
         let bytes = fs::read(&file).map_err(|error| at(&file, &error.to_string()))?;
-        let (answer, passages) = match answer {
-            Answer::Accepted => {
-                let passages = read_schedule(&folder, &name)?;
-                (Verdict::Accepted, Some(passages))
-            }
-            Answer::Refused { number, component } => (Verdict::Refused { number, component }, None),
+        let passages = match answer {
+            Answer::Accepted => Some(read_schedule(&folder, &name)?),
+            Answer::Refused { .. } => None,
         };
         stored.push(Stored {
             bytes,
-            answer,
+            answer: verdict(answer),
             passages,
         });
     }
     Ok(stored)
+}
+
+/// The tables of the corpus that have verdicts at spreads, with each of them.
+pub fn corpus_spreads() -> Result<Vec<(Vec<u8>, u32, Verdict)>, String> {
+    let folder = folder("corpus");
+    let mut all = Vec::new();
+    for name in names_with_spreads(&folder)? {
+        let file = folder.join(format!("{name}.bin"));
+        let bytes = fs::read(&file).map_err(|error| at(&file, &error.to_string()))?;
+        for (spread, answer) in read_spreads(&folder, &name)? {
+            all.push((bytes.clone(), spread, verdict(answer)));
+        }
+    }
+    Ok(all)
+}
+
+fn verdict(answer: Answer) -> Verdict {
+    match answer {
+        Answer::Accepted => Verdict::Accepted,
+        Answer::Refused { number, component } => Verdict::Refused { number, component },
+    }
 }
 
 /// A folder of the repository.
@@ -167,6 +185,7 @@ mod tests {
     fn other_requests_are_left_aside() {
         assert_eq!(vector("a name\tprogram 0100\trefused 2 255"), Some(None));
         assert_eq!(vector("a name\tpart 0100 3\t-"), Some(None));
+        assert_eq!(vector("a name\tcheck 0100 3\taccepted"), Some(None));
     }
 
     #[test]

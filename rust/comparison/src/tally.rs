@@ -2,7 +2,9 @@
 
 use crate::edge_choices::Chosen;
 use crate::readers::{NUMBERS, TOO_SHORT};
+use crate::runs::apart::RunsApart;
 use crate::runs::Runs;
+use crate::spreads::Spreads;
 use std::fmt;
 use timed_network::Verdict;
 
@@ -30,6 +32,10 @@ pub struct Tally {
     pub parts: [u64; 2],
     /// The runs.
     pub runs: Runs,
+    /// Verdicts at a spread, and what belongs to them.
+    pub spreads: Spreads,
+    /// The runs of nodes that wake apart.
+    pub apart: RunsApart,
 }
 
 /// How lent lists came back, or lent bytes.
@@ -147,6 +153,8 @@ impl Tally {
             edge_choices: EdgeChoices::default(),
             parts: [0; 2],
             runs: Runs::default(),
+            spreads: Spreads::default(),
+            apart: RunsApart::default(),
         }
     }
 
@@ -158,7 +166,9 @@ impl Tally {
     /// Whether nothing was tried.
     pub fn is_empty(&self) -> bool {
         let lent = self.charts.all() + self.plans.all();
-        self.cases() + lent + self.parts.iter().sum::<u64>() + self.runs.all() == 0
+        let runs = self.runs.all() + self.apart.all();
+        let others = self.parts.iter().sum::<u64>() + self.spreads.all();
+        self.cases() + lent + runs + others == 0
     }
 
     /// Counts an answer, which must be one that there is.
@@ -194,13 +204,16 @@ impl Tally {
                 *all += own;
             }
             sum.runs.add(&tally.runs);
+            sum.spreads.add(&tally.spreads);
+            sum.apart.add(&tally.apart);
         }
         sum
     }
 }
 
 /// What was tried: the answers that were given, each with how often, then
-/// lists, programs, charts, plans, edge choices, parts and runs, if there are any.
+/// lists, programs, charts, plans, edge choices, parts, runs, and what there is of
+/// nodes that wake apart.
 impl fmt::Display for Tally {
     fn fmt(&self, out: &mut fmt::Formatter<'_>) -> fmt::Result {
         let [accepted, refusals @ ..] = &self.answers;
@@ -234,6 +247,12 @@ impl fmt::Display for Tally {
         }
         if self.runs.all() > 0 {
             write!(out, "; {}", self.runs)?;
+        }
+        if self.spreads.all() > 0 {
+            write!(out, "; {}", self.spreads)?;
+        }
+        if self.apart.all() > 0 {
+            write!(out, "; {}", self.apart)?;
         }
         Ok(())
     }

@@ -4,9 +4,8 @@ use comparison::classes::{Extent, CLASSES};
 use comparison::difference::{Expected, Stop};
 use comparison::random::Random;
 use comparison::readers::{refused, second_reader, second_schedule, Reader, Readers};
-use comparison::runs::Runs;
-use comparison::tally::{EdgeChoices, Lists, Tally};
-use comparison::{cases, compare, compare_class, gaps, Least};
+use comparison::tally::Tally;
+use comparison::{compare, compare_class, gaps, Least};
 use timed_network::{Call, Slots, Verdict};
 
 /// What a short comparison has to try.
@@ -15,6 +14,7 @@ const LEAST: Least = Least {
     runs: 500,
     of_each_kind: 1,
     of_each_hearing: 1,
+    of_each_apart: 1,
 };
 
 fn short(readers: &Readers, seed: u64) -> Result<Vec<Tally>, Stop> {
@@ -264,7 +264,7 @@ fn two_schedules_that_are_wrong_in_the_same_way_are_found_out_by_the_vectors() {
     );
     let expected = difference.expected.unwrap();
     assert!(
-        expected.starts_with("[[0, 0, 0, 0, 3, 5, 0], "),
+        expected.starts_with("[[0, 0, 0, 0, 10, 14, 0], "),
         "{expected}"
     );
 }
@@ -292,139 +292,4 @@ fn what_is_known_before_is_demanded() {
     assert_eq!(allowed(Expected::Past(6)), [true, false, true]);
     assert!(!Expected::Anything.allows(refused(13, 255)));
     assert!(!Expected::Anything.allows(refused(0, 255)));
-}
-
-/// A class with these answers, and lists, programs, charts, plans, edge choices,
-/// parts and runs of all kinds.
-fn tally(class: &'static str, answers: [u64; 16]) -> Tally {
-    let lists = Lists {
-        written: 3,
-        short: 2,
-        kept: 1,
-    };
-    Tally {
-        class,
-        answers,
-        lists,
-        programs: lists,
-        charts: lists,
-        plans: lists,
-        edge_choices: EdgeChoices {
-            at_once: 4,
-            later: 3,
-            none: 2,
-            refused: 1,
-        },
-        parts: [5, 4],
-        runs: all_kinds(),
-    }
-}
-
-/// 7 runs of each end, and all that there is.
-fn all_kinds() -> Runs {
-    Runs {
-        ends: [7; 4],
-        late_at_work: 5,
-        late_for_sleep: 4,
-        several_late: 2,
-        reasons: [1, 1, 1, 2, 2],
-        short: 6,
-        many: 1,
-        kept: 3,
-        choices: 100,
-        observations: 30,
-        messages: 20,
-        timeouts: 10,
-    }
-}
-
-const FULL: [u64; 16] = [1, 2, 3, 4, 5, 6, 7, 8, 9, 10, 11, 12, 13, 14, 15, 16];
-
-/// At least so many cases and runs.
-fn least(cases: u64, runs: u64) -> Least {
-    Least {
-        cases,
-        runs,
-        of_each_kind: 1,
-        of_each_hearing: 12,
-    }
-}
-
-#[test]
-fn what_was_not_tried_is_told() {
-    let full = tally("full", FULL);
-    let empty = Tally::new("empty");
-    let some = tally("some", [0, 1, 1, 0, 1, 1, 1, 1, 1, 1, 1, 12, 0, 12, 0, 11]);
-    assert_eq!(cases(&[full.clone(), some.clone()]), [180, 76]);
-    let one = std::slice::from_ref(&full);
-    assert_eq!(gaps(one, &least(136, 28)), Vec::<String>::new());
-    assert_eq!(gaps(one, &least(137, 28)), ["136 cases are fewer than 137"]);
-    assert_eq!(gaps(one, &least(136, 29)), ["28 runs are fewer than 29"]);
-    let told = ["nothing was tried in the class: empty"];
-    assert_eq!(gaps(&[full.clone(), empty], &least(0, 0)), told);
-    let told = [
-        "no table was accepted",
-        "no table was refused with 3",
-        "no table was refused with 12",
-        "no table was refused with 16",
-        "11 tables refused with 17 are fewer than 12",
-    ];
-    assert_eq!(gaps(&[some], &least(0, 0)), told);
-    let bare = Tally {
-        answers: FULL,
-        runs: all_kinds(),
-        ..Tally::new("bare")
-    };
-    let told = [
-        "no list was written",
-        "no list was too short",
-        "no list was lent for a refused table",
-        "no program was written",
-        "no program was too long",
-        "no refused table was translated",
-        "no chart was written",
-        "no chart was too long",
-        "no refused table was drawn",
-        "no plan was written",
-        "no plan was too long",
-        "no plan was refused with 18",
-        "no edge was taken at once",
-        "no edge was taken with a delay",
-        "nowhere was there no candidate",
-        "no refused table was asked for an edge",
-        "no part was found",
-        "no part was empty",
-    ];
-    assert_eq!(gaps(&[bare], &least(0, 0)), told);
-    let no_runs = Tally {
-        runs: Runs::default(),
-        ..full
-    };
-    assert_eq!(gaps(&[no_runs], &least(0, 0)).len(), 17);
-}
-
-#[test]
-fn a_line_tells_all_answers_that_were_given() {
-    let some = tally("name", [1, 2, 0, 0, 0, 0, 0, 0, 3, 0, 0, 0, 4, 0, 5, 0]);
-    let line = "name: 15 cases: accepted 1, refused 1: 2, refused 8: 3, refused 12: 4, \
-                refused 16: 5; \
-                6 lists: written 3, too short 2, refused before 1; \
-                6 programs: written 3, too short 2, refused before 1; \
-                6 charts: written 3, too short 2, refused before 1; \
-                6 plans: written 3, too short 2, refused before 1; \
-                10 edge choices: at once 4, later 3, no candidate 2, table refused 1; \
-                9 parts: found 5, empty 4; 38 runs: 7 horizon, 7 used up, 7 late \
-                (5 at work, 4 for a sleep, 2 several nodes), 7 not allowed \
-                (1 no such node, 1 nothing kept, 1 early sleep, 2 early listen, \
-                2 tick while due), 6 too few bytes, 1 too many choices, 3 table refused; \
-                100 choices, 30 observations, 20 messages, 10 timeouts";
-    assert_eq!(some.to_string(), line);
-    let sum = Tally::sum(&[some.clone(), some]);
-    assert!(sum
-        .to_string()
-        .starts_with("all classes: 30 cases: accepted 2, "));
-    assert_eq!(sum.lists.all(), 12);
-    assert_eq!(sum.edge_choices.all(), 20);
-    assert_eq!(sum.runs.all(), 76);
-    assert_eq!(Tally::new("none").to_string(), "none: 0 cases");
 }

@@ -12,6 +12,7 @@ const LEAST: Least = Least {
     runs: 500,
     of_each_kind: 1,
     of_each_hearing: 1,
+    of_each_apart: 1,
 };
 
 /// The classes that hold both sides to stored answers.

@@ -21,13 +21,18 @@
 //! What is wrong is told with the name of the sentence that it breaks: the
 //! fields of the record `Demand3` in the definitions, `valid` to `allowed`;
 //! `order` where observations do not stand in finishing order.
+//!
+//! [`apart`] does the same for nodes that wake apart, document 02's wish 6.
 #![forbid(unsafe_code)]
 #![warn(missing_docs)]
 
+pub mod apart;
+mod log;
 pub mod observed;
 pub mod path;
 pub mod walk;
 
+use observed::Owed;
 use path::Path;
 use reference::schedule::Passage;
 use reference::table::Table;
@@ -115,14 +120,15 @@ impl<'a> Demand<'a> {
     pub fn hold(&self, choices: &[u8], claim: &Claim) -> Result<Facts, String> {
         let mut held = Held {
             walk: self.walk(),
-            path: Path::new(self.table, &self.own)?,
+            follower: Path::new(self.table, &self.own)?,
             sleeps: Vec::new(),
             facts: Facts::default(),
         };
         held.listeners(0)?;
         let (end, used) = held.carry_out(choices)?;
         held.end(end, used, choices, claim)?;
-        held.facts.reached = held.path.finish(u32::from(self.table.horizon))?;
+        let path = &mut held.follower;
+        held.facts.reached = path.finish(u32::from(self.table.horizon))?;
         let late = held.facts.late_at_work | held.facts.late_for_sleep;
         if held.facts.reached + u32::from(end == LATE) != claim.tick {
             return Err(format!(
@@ -132,24 +138,52 @@ impl<'a> Demand<'a> {
         }
         let written = observed::read(claim.observations)?;
         for component in 0..self.own.len() {
-            let missing = end == LATE && late >> component & 1 == 1;
-            observed::compare(&written, &held.path, component, claim.tick, missing)?;
+            let owed = Owed {
+                until: held.facts.reached,
+                due_before: claim.tick,
+                may_miss: end == LATE && late >> component & 1 == 1,
+            };
+            observed::compare(&written, &held.follower, component, owed)?;
         }
         observed::in_order(&written, &held.sleeps)?;
         Ok(held.facts)
     }
 }
 
+/// What is told of a run's ticks and finished works as they come.
+trait Follower {
+    /// A tick passes, not one that makes a node late.
+    fn tick(&mut self) -> Result<(), String>;
+    /// A node finishes its work alone.
+    fn alone(&mut self, node: u8) -> Result<(), String>;
+    /// Two nodes finish theirs with a message on this channel.
+    fn joint(&mut self, sender: u8, receiver: u8, channel: u8) -> Result<(), String>;
+}
+
+impl Follower for Path<'_> {
+    fn tick(&mut self) -> Result<(), String> {
+        Path::tick(self)
+    }
+
+    fn alone(&mut self, node: u8) -> Result<(), String> {
+        Path::alone(self, node)
+    }
+
+    fn joint(&mut self, sender: u8, receiver: u8, channel: u8) -> Result<(), String> {
+        Path::joint(self, sender, receiver, channel)
+    }
+}
+
 /// A run under way.
-struct Held<'a> {
+struct Held<'a, F> {
     walk: Walk<'a>,
-    path: Path<'a>,
+    follower: F,
     /// The nodes that finished a sleep, in that order.
     sleeps: Vec<u8>,
     facts: Facts,
 }
 
-impl Held<'_> {
+impl<F: Follower> Held<'_, F> {
     /// Carries out choices until the run ends: how, and after how many.
     fn carry_out(&mut self, choices: &[u8]) -> Result<(u8, usize), String> {
         for (index, &choice) in choices.iter().enumerate() {
@@ -180,7 +214,7 @@ impl Held<'_> {
                 Ok(Some(LATE))
             }
             Ticked::Passed { horizon } => {
-                self.path.tick()?;
+                self.follower.tick()?;
                 Ok(horizon.then_some(HORIZON))
             }
         }
@@ -198,14 +232,14 @@ impl Held<'_> {
             }
             Ok(Finished::Own) => {}
             Ok(Finished::Sleep) => self.sleeps.push(node),
-            Ok(Finished::Done) => self.path.alone(node)?,
+            Ok(Finished::Done) => self.follower.alone(node)?,
             Ok(Finished::Timeout) => {
                 self.facts.timeouts += 1;
-                self.path.alone(node)?;
+                self.follower.alone(node)?;
             }
             Ok(Finished::Message { receiver, channel }) => {
                 self.facts.messages += 1;
-                self.path.joint(node, receiver, channel)?;
+                self.follower.joint(node, receiver, channel)?;
             }
         }
         Ok(None)
@@ -233,8 +267,12 @@ impl Held<'_> {
         let tick = carried_out.filter(|choice| **choice == TICK).count();
         let found = (end, node, tick as u32, used as u32);
         let said = (claim.end, claim.node, claim.tick, claim.used);
+        let asleep = self.facts.refusal == Some(Refusal::Asleep);
         match broken(found, said, choices.len()) {
             None => Ok(()),
+            Some("allowed") if asleep => Err(format!(
+                "woken: a node is chosen before it wakes, after {used} choices"
+            )),
             Some(name) => Err(format!(
                 "{name}: end, node, tick, choices used are {found:?}, not {said:?}"
             )),

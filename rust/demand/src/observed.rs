@@ -49,17 +49,26 @@ pub fn in_order(written: &[Observation], sleeps: &[u8]) -> Result<(), String> {
     ))
 }
 
+/// What one node has to have written.
+#[derive(Clone, Copy, Debug, PartialEq, Eq)]
+pub struct Owed {
+    /// Observations after this tick are not on the path.
+    pub until: u32,
+    /// All before this tick are due.
+    pub due_before: u32,
+    /// Whether the last of those that are due may be missing.
+    pub may_miss: bool,
+}
+
 /// The observations of one node are the first ones on the path. Of those that
-/// are due before the tick the last may be missing if the node is late, and
-/// none otherwise.
+/// are due the last may be missing if the node is late, and none otherwise.
 pub fn compare(
     written: &[Observation],
     path: &Path,
     component: usize,
-    tick: u32,
-    may_miss: bool,
+    owed: Owed,
 ) -> Result<(), String> {
-    let mut on_path = path.observations(component);
+    let mut on_path = path.observations(component, owed.until);
     let mut count = 0;
     for own in written
         .iter()
@@ -74,8 +83,9 @@ pub fn compare(
         }
     }
     let passages = path.own(component).iter();
+    let tick = owed.due_before;
     let due = passages.filter(|passage| passage.ready < tick).count();
-    if due <= count + usize::from(may_miss) {
+    if due <= count + usize::from(owed.may_miss) {
         return Ok(());
     }
     Err(format!(

@@ -61,6 +61,11 @@ impl<'a> Path<'a> {
         Ok(path)
     }
 
+    /// The tick that it has reached.
+    pub fn reached(&self) -> u32 {
+        self.state.tick
+    }
+
     /// A component's passages in the schedule.
     pub fn own(&self, component: usize) -> &[&'a Passage] {
         &self.own[component]
@@ -211,13 +216,17 @@ impl<'a> Path<'a> {
 
     /// A component's observations on the path: "where the path stops before a
     /// component's step in, the schedule's edge counts as taken from its
-    /// ready on."
-    pub fn observations(&self, component: usize) -> impl Iterator<Item = Observation> + '_ {
+    /// ready on." Those up to a tick.
+    pub fn observations(
+        &self,
+        component: usize,
+        until: u32,
+    ) -> impl Iterator<Item = Observation> + '_ {
         let passages = self.stays[component].iter().zip(&self.own[component]);
         passages.filter_map(move |(stay, passage)| {
             let edge = stay.step_in.map_or(passage.edge, |(edge, _)| edge);
             let observation = self.observation(component, stay, edge)?;
-            (observation.tick <= self.state.tick).then_some(observation)
+            (observation.tick <= until).then_some(observation)
         })
     }
 

@@ -1,5 +1,7 @@
 //! Where each node stands, counted in the statements that document 01 writes
-//! for the table, and what a choice does in the words of the schedule.
+//! for the table, and what a choice does in the words of the schedule. What a
+//! node does goes by its own clock (document 02, wish 6); without offsets that
+//! is the tick.
 
 use crate::TICK;
 use reference::schedule::{window, Passage};
@@ -56,6 +58,8 @@ pub enum Finished {
 pub enum Refusal {
     /// "any other byte; an absent node".
     NoNode(u8),
+    /// "until that tick [...] choosing it isn't allowed".
+    Asleep,
     /// "a take with nothing kept".
     NothingKept,
     /// "sleep unless the tick is t".
@@ -94,6 +98,8 @@ pub struct Walk<'a> {
     own: &'a [Vec<&'a Passage>],
     blocks: &'a [Vec<u32>],
     nodes: Vec<Node>,
+    /// The tick at which each node wakes.
+    offsets: Vec<u32>,
     tick: u32,
 }
 
@@ -122,6 +128,17 @@ fn work_length(action: &Action) -> u32 {
 impl<'a> Walk<'a> {
     /// "It starts at tick 0, [...] each node at its program's start".
     pub fn new(table: &'a Table, own: &'a [Vec<&'a Passage>], blocks: &'a [Vec<u32>]) -> Walk<'a> {
+        Walk::apart(table, own, blocks, &[])
+    }
+
+    /// The same with "an offset for each node"; one that is missing is 0.
+    pub fn apart(
+        table: &'a Table,
+        own: &'a [Vec<&'a Passage>],
+        blocks: &'a [Vec<u32>],
+        offsets: &[u32],
+    ) -> Walk<'a> {
+        let offset = |node| offsets.get(node).copied().unwrap_or(0);
         let components = table.components.iter().zip(blocks);
         let start = |(component, blocks): (&Component, &Vec<u32>)| Node {
             passage: 0,
@@ -133,8 +150,19 @@ impl<'a> Walk<'a> {
             own,
             blocks,
             nodes: components.map(start).collect(),
+            offsets: (0..own.len()).map(offset).collect(),
             tick: 0,
         }
+    }
+
+    /// A node's own clock at a tick: "until that tick its clock stands at 0".
+    fn own_clock(&self, node: usize, tick: u32) -> u32 {
+        tick.saturating_sub(self.offsets[node])
+    }
+
+    /// A node's own clock now.
+    fn clock(&self, node: usize) -> u32 {
+        self.own_clock(node, self.tick)
     }
 
     /// A node's passage in the schedule, if it has one with this number.
@@ -155,6 +183,9 @@ impl<'a> Walk<'a> {
             return Err(Refusal::NoNode(choice));
         };
         debug_assert_ne!(choice, TICK);
+        if self.tick < self.offsets[number] {
+            return Err(Refusal::Asleep);
+        }
         match node.stand {
             Stand::Choosing(1) => self.take(number),
             Stand::Sleeping => self.sleep(number),
@@ -208,7 +239,7 @@ impl<'a> Walk<'a> {
     /// A sleep ends at its passage's ready and at no other tick.
     fn sleep(&mut self, node: usize) -> Result<Finished, Refusal> {
         let passage = self.passage(node, self.nodes[node].passage);
-        match passage.filter(|passage| passage.ready == self.tick) {
+        match passage.filter(|passage| passage.ready == self.clock(node)) {
             Some(passage) => {
                 let work = work_length(&passage.edge_in(self.table).action);
                 self.nodes[node].stand = Stand::Working(work);
@@ -228,13 +259,14 @@ impl<'a> Walk<'a> {
                 self.leave(node, None);
                 Ok(Finished::Done)
             }
-            Action::Receive(_) if passage.end == self.tick => {
+            Action::Receive(_) if passage.end == self.clock(node) => {
                 self.leave(node, None);
                 Ok(Finished::Timeout)
             }
             Action::Receive(_) => Err(Refusal::EarlyListen),
             Action::Send(channel) => {
-                let heard = self.listeners(node, channel, passage.ready);
+                let since = passage.ready + self.offsets[node];
+                let heard = self.listeners(node, channel, since);
                 if heard == 0 {
                     return Err(Refusal::NoListener);
                 }
@@ -265,14 +297,16 @@ impl<'a> Walk<'a> {
     }
 
     /// The nodes, as bits, that stand at a listen, name the channel and have
-    /// listened since that tick or longer.
+    /// listened since that common tick or longer.
     fn listeners(&self, sender: usize, channel: u8, since: u32) -> u8 {
         let hears = |node: &usize| {
             let passage = self.passage(*node, self.nodes[*node].passage);
             *node != sender
                 && matches!(self.nodes[*node].stand, Stand::Working(_))
-                && passage
-                    .is_some_and(|p| p.ready <= since && p.edge_in(self.table).listens_to(channel))
+                && passage.is_some_and(|p| {
+                    p.ready + self.offsets[*node] <= since
+                        && p.edge_in(self.table).listens_to(channel)
+                })
         };
         let numbers = 0..self.nodes.len();
         numbers.filter(hears).fold(0, |bits, node| bits | 1 << node)
@@ -289,8 +323,9 @@ impl<'a> Walk<'a> {
             let Action::Send(channel) = passage.edge_in(self.table).action else {
                 return false;
             };
-            let heard = self.listeners(*node, channel, passage.ready);
-            let early = passage.ready.checked_sub(1);
+            let since = passage.ready + self.offsets[*node];
+            let heard = self.listeners(*node, channel, since);
+            let early = since.checked_sub(1);
             let earlier = early.map_or(0, |tick| self.listeners(*node, channel, tick));
             heard.count_ones() != 1 || earlier != heard
         })
@@ -307,9 +342,10 @@ impl<'a> Walk<'a> {
         for node in numbers {
             let bit = 1 << node;
             let Node { passage, stand, .. } = self.nodes[node];
-            let is_over = |number| self.passage(node, number).is_some_and(|p| p.ready < next);
+            let clock = self.own_clock(node, next);
+            let is_over = |number| self.passage(node, number).is_some_and(|p| p.ready < clock);
             match stand {
-                Stand::Working(_) if self.own[node][passage].end < next => work |= bit,
+                Stand::Working(_) if self.own[node][passage].end < clock => work |= bit,
                 Stand::Choosing(_) if is_over(passage) => sleep |= bit,
                 Stand::Leaving(_) if is_over(passage + 1) => sleep |= bit,
                 _ => {}
@@ -350,10 +386,10 @@ impl<'a> Walk<'a> {
             return false;
         };
         match stand {
-            Stand::Sleeping => passage.ready == self.tick,
+            Stand::Sleeping => passage.ready == self.clock(node),
             Stand::Working(_) => {
                 let receives = matches!(passage.edge_in(self.table).action, Action::Receive(_));
-                receives && passage.end == self.tick
+                receives && passage.end == self.clock(node)
             }
             _ => false,
         }

@@ -4,7 +4,7 @@
 mod common;
 
 use common::*;
-use demand::{Demand, LATE, NOT_ALLOWED, OBSERVATION};
+use demand::{Demand, LATE, NOT_ALLOWED};
 use reference::checks::verdict;
 
 #[test]
@@ -27,43 +27,6 @@ fn all_runs_of_the_vectors_hold() {
     println!("ends {ends:?}, {messages} messages, {timeouts} timeouts");
     assert!(ends.iter().all(|count| *count > 5), "{ends:?}");
     assert!(messages > 100 && timeouts > 20);
-}
-
-/// All answers that differ from this one in one number or one byte, in an
-/// observation more or less, or in the order of two.
-fn changed(answer: &Answer) -> Vec<Answer> {
-    let mut all = Vec::new();
-    for place in 0..4 {
-        for other in [0, 1, 2, 3, 254, 255, answer.numbers[place] + 1] {
-            let mut changed = answer.clone();
-            changed.numbers[place] = other;
-            all.push(changed);
-        }
-        let mut changed = answer.clone();
-        changed.numbers[place] = answer.numbers[place].wrapping_sub(1);
-        all.push(changed);
-    }
-    for place in (0..answer.observations.len()).step_by(3) {
-        for bit in [1, 128] {
-            let mut changed = answer.clone();
-            changed.observations[place] ^= bit;
-            all.push(changed);
-        }
-    }
-    for at in (0..answer.observations.len()).step_by(OBSERVATION) {
-        let mut changed = answer.clone();
-        let own: Vec<u8> = changed.observations.drain(at..at + OBSERVATION).collect();
-        all.push(changed.clone());
-        changed.observations.extend(own);
-        all.push(changed);
-    }
-    let mut changed = answer.clone();
-    changed.observations.extend([0; OBSERVATION]);
-    all.push(changed.clone());
-    changed.observations.push(0);
-    all.push(changed);
-    all.retain(|changed| changed != answer);
-    all
 }
 
 #[test]

@@ -1,13 +1,14 @@
-//! The exported calls over lent buffers, with checks 13, 14 and 18.
+//! The exported calls over lent buffers, with checks 13, 14, 18 and 20.
 //!
 //! "Lent buffers keep their bytes; on success so do those past the result."
 
 use crate::chart;
-use crate::checks::verdict;
+use crate::checks::{self, met_within, scheduled_within, verdict, verdict_within};
 use crate::edge_choice::{self, EdgeChoice, Entry};
 use crate::plan::{self, Slots};
 use crate::program::{self, program_length, write_program};
-use crate::run::{run_into, Outcome, OBSERVATION};
+use crate::run::{run_apart_into, Outcome, OBSERVATION};
+use crate::schedule::Passage;
 use crate::table::{read_table, write_table, Refusal};
 
 /// "14. Are there at most 1,000,000 choices? Else 14."
@@ -22,16 +23,56 @@ pub fn check(table: &[u8]) -> Result<(), Refusal> {
     verdict(table).map(|_| ())
 }
 
+/// Document 02, wish 6: "The check now takes a bound G on the spread".
+pub fn check_spread(table: &[u8], spread: u32) -> Result<(), Refusal> {
+    verdict_within(table, spread).map(|_| ())
+}
+
+/// The largest spread at which a table is accepted; refused as [`check`] refuses.
+pub fn largest_spread(table: &[u8]) -> Result<u32, Refusal> {
+    let (table, passages) = verdict(table)?;
+    let largest = checks::largest_spread(&table, &passages);
+    Ok(largest.expect("an accepted table passes at spread 0"))
+}
+
+/// The answer of [`meetings_spread`].
+#[derive(Clone, Copy, Debug, PartialEq, Eq)]
+pub struct Meetings {
+    /// What [`check_spread`] says of the table.
+    pub table: Result<(), Refusal>,
+    /// How many passages are listed, or 13 where the list is too short.
+    pub listed: Result<usize, Refusal>,
+}
+
+/// Lists which windows met at a spread, [`FIELDS`] numbers a passage: the passage
+/// at fault, then those that it meets, where checks 10 to 12 refuse the table.
+pub fn meetings_spread(table: &[u8], spread: u32, list: &mut [u32]) -> Meetings {
+    let verdict = check_spread(table, spread);
+    let listed = match scheduled_within(table, spread) {
+        Ok((table, passages)) => write_all(&met_within(&table, &passages, spread), list),
+        Err(_) => Ok(0),
+    };
+    Meetings {
+        table: verdict,
+        listed,
+    }
+}
+
+/// Writes passages to the front of a list, if it holds them all.
+fn write_all(passages: &[&Passage], list: &mut [u32]) -> Result<usize, Refusal> {
+    demand_room(list.len() / FIELDS, passages.len())?;
+    for (place, passage) in list.chunks_exact_mut(FIELDS).zip(passages) {
+        place.copy_from_slice(&passage.fields(NO_MESSAGE));
+    }
+    Ok(passages.len())
+}
+
 /// Writes the schedule, [`FIELDS`] numbers a passage in the order
 /// "component, edge, location, entry, ready, end, message", and gives the
 /// count of passages.
 pub fn schedule(table: &[u8], list: &mut [u32]) -> Result<usize, Refusal> {
     let (_, passages) = verdict(table)?;
-    demand_room(list.len() / FIELDS, passages.len())?;
-    for (place, passage) in list.chunks_exact_mut(FIELDS).zip(&passages) {
-        place.copy_from_slice(&passage.fields(NO_MESSAGE));
-    }
-    Ok(passages.len())
+    write_all(&passages.iter().collect::<Vec<_>>(), list)
 }
 
 /// Writes the program bytes and gives their count.
@@ -79,13 +120,31 @@ pub fn part(program: &[u8], node: usize) -> &[u8] {
 /// Runs a table with choices, writes the observations and gives how it ended
 /// and their count.
 pub fn run(table: &[u8], choices: &[u8], bytes: &mut [u8]) -> Result<(Outcome, usize), Refusal> {
-    let (table, passages) = verdict(table)?;
+    run_apart(table, choices, 0, &[], bytes)
+}
+
+/// The same for nodes that wake apart: "The check now takes a bound G on the
+/// spread, the run an offset for each node". An offset that is missing is 0, and
+/// those behind the last node's are not looked at. "an offset above G [is refused]
+/// with 20 after 14."
+pub fn run_apart(
+    table: &[u8],
+    choices: &[u8],
+    spread: u32,
+    offsets: &[u32],
+    bytes: &mut [u8],
+) -> Result<(Outcome, usize), Refusal> {
+    let (table, passages) = verdict_within(table, spread)?;
     demand_room(bytes.len() / OBSERVATION, passages.len())?;
     if choices.len() > MAX_CHOICES {
         return Err(Refusal::whole(14));
     }
+    let mut own = offsets.iter().take(table.components.len());
+    if own.any(|offset| *offset > spread) {
+        return Err(Refusal::whole(20));
+    }
     let program = program::program(&table);
-    let answer = run_into(&table, &passages, &program, choices, bytes);
+    let answer = run_apart_into(&table, &passages, &program, choices, offsets, bytes);
     Ok(answer.expect("the program of an accepted table can be opened"))
 }
 

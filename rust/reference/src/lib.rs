@@ -1,9 +1,10 @@
 //! A second, independent implementation of document 01, "Timed cellar
-//! networks and their node programs", and of document 02's wishes 1 to 5,
+//! networks and their node programs", and of document 02's wishes 1 to 6,
 //! written from their text alone.
 //!
 //! One module stands for each heading of document 01, `chart` for wish 1, `plan`
-//! for wish 4 and `edge_choice` for wish 5.
+//! for wish 4 and `edge_choice` for wish 5; the spread of wish 6 stands in `checks`
+//! and its offsets in `run`.
 //! Sentences in quotation marks in the comments are the documents' own.
 #![forbid(unsafe_code)]
 #![warn(missing_docs)]

@@ -84,7 +84,13 @@ impl Passage {
 
     /// Whether the two windows share a tick.
     pub fn shares_a_tick(&self, other: &Passage) -> bool {
-        self.ready <= other.end && other.ready <= self.end
+        self.lies_within(other, 0)
+    }
+
+    /// Document 02, wish 6: whether the two windows are "closer than or equal to
+    /// G", which is the distance from the end of one to the ready of the other.
+    pub fn lies_within(&self, other: &Passage, spread: u32) -> bool {
+        self.ready <= other.end + spread && other.ready <= self.end + spread
     }
 
     /// The seven fields of a passage as numbers.

@@ -1,7 +1,7 @@
 //! A folder of tables: for each name a source `NAME.txt` and its bytes
 //! `NAME.bin`, for each accepted one its schedule `NAME.schedule`, for some of
-//! them its chart `NAME.chart`, and one file `answers.tsv` with the answers of
-//! checks 1 to 12.
+//! them its chart `NAME.chart` or its verdicts at spreads `NAME.spread`, and one
+//! file `answers.tsv` with the answers of checks 1 to 12.
 
 use crate::encode_file;
 use crate::schedule::{self, Passage};
@@ -65,6 +65,7 @@ pub fn verify(folder: &Path) -> Result<usize, Vec<String>> {
     problems.extend(differing);
     problems.extend(verify_schedules(folder, &answers).map_err(whole)?);
     problems.extend(verify_charts(folder).map_err(whole)?);
+    problems.extend(verify_spreads(folder, &answers).map_err(whole)?);
     count_unless(problems, sources.len())
 }
 
@@ -95,6 +96,51 @@ fn verify_charts(folder: &Path) -> Result<Vec<String>, String> {
         .filter_map(|name| read_chart(folder, name).err());
     problems.extend(unreadable);
     Ok(problems)
+}
+
+/// What is wrong with the verdicts at spreads: only a table with an answer has
+/// some, and that at spread 0 is its answer.
+fn verify_spreads(folder: &Path, answers: &[(String, Answer)]) -> Result<Vec<String>, String> {
+    let mut problems = Vec::new();
+    for name in names_with_spreads(folder)? {
+        let own = answers.iter().find(|(answered, _)| *answered == name);
+        match (own, read_spreads(folder, &name)) {
+            (_, Err(problem)) => problems.push(problem),
+            (None, _) => problems.push(format!("{name}: has verdicts at spreads and no answer")),
+            (Some((_, answer)), Ok(spreads)) if spreads.first() != Some(&(0, *answer)) => {
+                problems.push(format!("{name}.spread: line 1: write: 0 {answer}"));
+            }
+            _ => {}
+        }
+    }
+    Ok(problems)
+}
+
+/// The names that have verdicts at spreads, sorted.
+pub fn names_with_spreads(folder: &Path) -> Result<BTreeSet<String>, String> {
+    names_with(folder, "spread")
+}
+
+/// The stored verdicts of a name: a spread and its answer a line, the spreads
+/// rising.
+pub fn read_spreads(folder: &Path, name: &str) -> Result<Vec<(u32, Answer)>, String> {
+    let file = format!("{name}.spread");
+    let text = fs::read_to_string(folder.join(&file)).map_err(|e| format!("{file}: {e}"))?;
+    let mut spreads: Vec<(u32, Answer)> = Vec::new();
+    for (index, line) in text.lines().enumerate() {
+        let at_line = |message: &str| format!("{file}: line {}: {message}", index + 1);
+        let read = line.split_once(' ').and_then(|(spread, answer)| {
+            let spread = spread.parse().ok()?;
+            Some((spread, read_answer(answer)?))
+        });
+        let (spread, answer) =
+            read.ok_or_else(|| at_line("write: G, then: accepted, or: refused N C"))?;
+        if spreads.last().is_some_and(|(before, _)| *before >= spread) {
+            return Err(at_line("spreads must rise, each once"));
+        }
+        spreads.push((spread, answer));
+    }
+    Ok(spreads)
 }
 
 /// The stored chart of a name: for each component, from 0 on, `C`, its digit,
@@ -191,13 +237,17 @@ pub fn read_answers(folder: &Path) -> Result<Vec<(String, Answer)>, String> {
 
 fn read_answer_line(line: &str) -> Option<(String, Answer)> {
     let (name, answer) = line.split_once('\t')?;
-    let answer = match answer.split(' ').collect::<Vec<_>>().as_slice() {
-        ["accepted"] => Answer::Accepted,
-        ["refused", number, component] => Answer::Refused {
+    Some((name.to_string(), read_answer(answer)?))
+}
+
+/// `accepted`, or `refused N C`.
+fn read_answer(text: &str) -> Option<Answer> {
+    match text.split(' ').collect::<Vec<_>>().as_slice() {
+        ["accepted"] => Some(Answer::Accepted),
+        ["refused", number, component] => Some(Answer::Refused {
             number: number.parse().ok()?,
             component: component.parse().ok()?,
-        },
-        _ => return None,
-    };
-    Some((name.to_string(), answer))
+        }),
+        _ => None,
+    }
 }

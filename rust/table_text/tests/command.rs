@@ -233,3 +233,46 @@ fn verify_reads_the_charts() {
     assert_eq!(call("verify", &folder), (Some(1), other));
     fs::remove_dir_all(folder).unwrap();
 }
+
+#[test]
+fn verify_reads_the_verdicts_at_spreads() {
+    let folder = folder_with_one("spreads");
+    let file = |name: &str, text: &str| fs::write(folder.join(name), text).unwrap();
+    file("two.txt", GOOD);
+    file("two.schedule", SCHEDULE);
+    file("answers.tsv", "one\trefused 3 255\ntwo\taccepted\n");
+    assert_eq!(call("build", &folder).0, Some(0));
+    file(
+        "two.spread",
+        "0 accepted\n3 refused 16 0\n1001 refused 19 255\n",
+    );
+    file("one.spread", "0 refused 3 255\n");
+    let verified = "2 tables verified\n".to_string();
+    assert_eq!(call("verify", &folder), (Some(0), verified));
+
+    let form = "write: G, then: accepted, or: refused N C";
+    for bad in [
+        "0",
+        "0  accepted",
+        "x accepted",
+        "0 refused 3",
+        "-1 accepted",
+    ] {
+        file("two.spread", bad);
+        let told = format!("two.spread: line 1: {form}\n");
+        assert_eq!(call("verify", &folder), (Some(1), told), "{bad}");
+    }
+    file("two.spread", "0 accepted\n1 accepted\n1 accepted\n");
+    let rising = "two.spread: line 3: spreads must rise, each once\n".to_string();
+    assert_eq!(call("verify", &folder), (Some(1), rising));
+    for bad in ["", "1 accepted\n", "0 refused 16 0\n"] {
+        file("two.spread", bad);
+        let first = "two.spread: line 1: write: 0 accepted\n".to_string();
+        assert_eq!(call("verify", &folder), (Some(1), first), "{bad}");
+    }
+    fs::remove_file(folder.join("two.spread")).unwrap();
+    file("three.spread", "0 accepted\n");
+    let other = "three: has verdicts at spreads and no answer\n".to_string();
+    assert_eq!(call("verify", &folder), (Some(1), other));
+    fs::remove_dir_all(folder).unwrap();
+}

@@ -8,7 +8,9 @@ use reference::checks::verdict;
 use reference::schedule::print;
 use reference::table::read_table;
 use std::fs;
-use table_text::corpus::{read_answers, read_chart, read_schedule, verify, Answer};
+use table_text::corpus::{
+    names_with_spreads, read_answers, read_chart, read_schedule, read_spreads, verify, Answer,
+};
 
 fn stored() -> Vec<(String, Answer, Vec<u8>)> {
     let folder = corpus_folder();
@@ -64,8 +66,10 @@ fn names_begin_with_the_number_that_refuses() {
             let said = answer.to_string();
             assert!(said.starts_with(&format!("refused {number} ")), "{name}");
         }
-        let accepted = name.starts_with("accepted_") || name == "probe_and_hub";
-        assert_eq!(answer == Answer::Accepted, accepted, "{name}");
+        if !name.starts_with("spread_") {
+            let accepted = name.starts_with("accepted_") || name == "probe_and_hub";
+            assert_eq!(answer == Answer::Accepted, accepted, "{name}");
+        }
     }
 }
 
@@ -110,6 +114,26 @@ fn the_reference_prints_the_same_schedules() {
             assert_eq!(read.len(), passages.len(), "{name}");
         }
     }
+}
+
+#[test]
+fn verdicts_at_spreads_are_those_of_document_02() {
+    let folder = corpus_folder();
+    let names = names_with_spreads(&folder).unwrap();
+    let mut numbers = std::collections::BTreeSet::new();
+    for name in &names {
+        assert!(name.starts_with("spread_"), "{name}");
+        let bytes = fs::read(folder.join(format!("{name}.bin"))).unwrap();
+        for (spread, answer) in read_spreads(&folder, name).unwrap() {
+            let given = answer_of(calls::check_spread(&bytes, spread));
+            assert_eq!(given, answer, "{name} at {spread}");
+            if let Answer::Refused { number, .. } = answer {
+                numbers.insert(number);
+            }
+        }
+    }
+    assert_eq!(names.len(), 7);
+    assert!(numbers.into_iter().eq([10, 11, 15, 16, 17, 19]));
 }
 
 #[test]

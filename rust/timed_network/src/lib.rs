@@ -8,9 +8,11 @@
 //! component takes at an entry. [`plan`] writes the table of a cellar in which
 //! each probe has a slot of its own. [`translate`] writes the
 //! program of an accepted table, [`program`] gives it as bytes of its own,
-//! [`part`] finds one node's part in it, [`run`] carries out choices. [`node`]
-//! has one node whose registers the caller lends. The declarations of the
-//! library stand in two private modules; each call gets its safe form.
+//! [`part`] finds one node's part in it, [`run`] carries out choices. For nodes
+//! that wake apart there are [`check_spread`], [`largest_spread`],
+//! [`meetings_spread`] and [`run_apart`]. [`node`] has one node whose registers
+//! the caller lends. The declarations of the library stand in three private
+//! modules; each call gets its safe form.
 //!
 //! Every slice may be lent: an empty one, one of any length (a slice never
 //! has more than `isize::MAX` bytes), one that starts anywhere. What a call
@@ -23,11 +25,15 @@
 mod exported;
 pub mod node;
 mod running;
+mod spread;
 
 pub use exported::RunNumbers;
 pub use running::{
     part, program, run, run_numbers, translate, End, Run, MAX_CHOICES, MAX_PROGRAM, NO_NODE,
     OBSERVATION, TICK,
+};
+pub use spread::{
+    check_spread, largest_spread, meetings_spread, run_apart, run_apart_numbers, MAX_SPREAD,
 };
 
 pub use exported::{Entry, Passage};
@@ -124,15 +130,25 @@ pub fn schedule(table: &[u8], list: &mut [u32]) -> Call {
     }
 }
 
-/// The answer of [`meetings`].
+/// The answer of [`meetings`] and [`meetings_spread`].
 #[derive(Clone, Copy, Debug, PartialEq, Eq)]
 pub struct Meetings {
-    /// Checks 1 to 12 of the table, whatever is lent.
+    /// The checks of the table, whatever is lent.
     pub table: Verdict,
     /// The call's own answer: accepted, or 13 where the list is too short.
     pub verdict: Verdict,
     /// How many passages are listed.
     pub size: usize,
+}
+
+impl Meetings {
+    fn of(answer: &exported::MeetingsNumbers) -> Meetings {
+        Meetings {
+            table: Verdict::of(answer.refusal, answer.concerned),
+            verdict: Verdict::of(answer.number, answer.component),
+            size: answer.size as usize,
+        }
+    }
 }
 
 /// Lists which windows met: for a table that checks 10 to 12 refuse (with 10,
@@ -151,12 +167,7 @@ pub struct Meetings {
 /// assert_eq!((answer.verdict, answer.size), (Verdict::Accepted, 0));
 /// ```
 pub fn meetings(table: &[u8], list: &mut [u32]) -> Meetings {
-    let answer = exported::meetings(table, list);
-    Meetings {
-        table: Verdict::of(answer.refusal, answer.concerned),
-        verdict: Verdict::of(answer.number, answer.component),
-        size: answer.size as usize,
-    }
+    Meetings::of(&exported::meetings(table, list))
 }
 
 /// Writes the schedule of a table to the front of a list of passages. What

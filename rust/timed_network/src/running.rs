@@ -144,7 +144,8 @@ pub fn run_numbers(table: &[u8], choices: &[u8], observations: &mut [u8]) -> Run
     exported::run(table, choices, observations)
 }
 
-fn ran(answer: &RunNumbers) -> Run {
+/// The answer of a run that took place.
+pub(crate) fn ran(answer: &RunNumbers) -> Run {
     Run {
         end: End::of(answer.end),
         node: answer.node,

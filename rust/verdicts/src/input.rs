@@ -79,9 +79,14 @@ fn encoded(text: &[u8]) -> Result<Vec<u8>, Problem> {
     })
 }
 
-/// What refused bytes are, if they are no table: asked after 1 to 4 alone.
+/// What refused bytes are, if they are no table: asked after 1 to 4 alone. A
+/// spread that is refused, with 19, hides 4.
 pub fn another_kind(table: &[u8], verdict: Verdict) -> Option<Problem> {
-    let Verdict::Refused { number: 1..=4, .. } = verdict else {
+    let without = match verdict {
+        Verdict::Refused { number: 19, .. } => timed_network::check(table),
+        verdict => verdict,
+    };
+    let Verdict::Refused { number: 1..=4, .. } = without else {
         return None;
     };
     match table_text::kind(table) {

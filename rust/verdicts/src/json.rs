@@ -1,7 +1,7 @@
 //! A verdict as a JSON object on a line of its own.
 
 use std::ffi::OsStr;
-use timed_network::{meetings, Verdict, FIELDS, MAX_PASSAGES, NO_MESSAGE};
+use timed_network::{meetings_spread, Verdict, FIELDS, MAX_PASSAGES, NO_MESSAGE};
 
 /// The names of a passage's numbers, in their order.
 const NAMES: [&str; FIELDS] = [
@@ -16,11 +16,12 @@ const NAMES: [&str; FIELDS] = [
 /// The number of no component.
 const NONE: u8 = 255;
 
-/// The object of a table: whether it is accepted, the number of the refusal (0
-/// for none), the component, and the windows that met, the one at fault first.
-pub fn verdict(file: &OsStr, table: &[u8]) -> Vec<u8> {
+/// The object of a table: the spread if there is one, whether the table is
+/// accepted, the number of the refusal (0 for none), the component, and the
+/// windows that met, the one at fault first.
+pub fn verdict(file: &OsStr, table: &[u8], spread: u32) -> Vec<u8> {
     let mut list = vec![0; FIELDS * (MAX_PASSAGES + 1)];
-    let answer = meetings(table, &mut list);
+    let answer = meetings_spread(table, spread, &mut list);
     let windows: Vec<String> = list[..FIELDS * answer.size]
         .chunks_exact(FIELDS)
         .map(window)
@@ -31,8 +32,12 @@ pub fn verdict(file: &OsStr, table: &[u8]) -> Vec<u8> {
     };
     let component = number_or_null(component.into(), NONE.into());
     let file = string(&file.to_string_lossy());
+    let spread = match spread {
+        0 => String::new(),
+        spread => format!("\"spread\":{spread},"),
+    };
     format!(
-        "{{\"file\":{file},\"accepted\":{accepted},\"number\":{number},\"component\":{component},\"windows\":[{}]}}\n",
+        "{{\"file\":{file},{spread}\"accepted\":{accepted},\"number\":{number},\"component\":{component},\"windows\":[{}]}}\n",
         windows.join(",")
     )
     .into_bytes()
@@ -102,8 +107,12 @@ mod tests {
     #[test]
     fn nothing_at_all() {
         assert_eq!(
-            verdict(OsStr::new("x"), &[]),
+            verdict(OsStr::new("x"), &[], 0),
             b"{\"file\":\"x\",\"accepted\":false,\"number\":1,\"component\":null,\"windows\":[]}\n"
+        );
+        assert_eq!(
+            verdict(OsStr::new("x"), &[], 7),
+            b"{\"file\":\"x\",\"spread\":7,\"accepted\":false,\"number\":1,\"component\":null,\"windows\":[]}\n"
         );
     }
 }

@@ -24,10 +24,11 @@ use std::os::unix::ffi::OsStrExt;
 use std::process::ExitCode;
 use timed_network::Verdict;
 
-const USAGE: &str = "usage: table_verdicts words|json|quiet PRINTER FILE...
+const USAGE: &str = "usage: table_verdicts words|json|quiet PRINTER SPREAD FILE...
   words     what the program PRINTER writes of each table
   json      an object a line
   quiet     the exit status alone
+  SPREAD    how many ticks apart the nodes may wake, 0 for none
   FILE      a table or its text, - for standard input";
 
 const REFUSED: u8 = 1;
@@ -46,19 +47,24 @@ enum Form {
 struct Task<'a> {
     form: Form,
     printer: &'a OsStr,
+    /// How many ticks apart the nodes may wake.
+    spread: u32,
     /// Whether there are several files, so that each is named.
     several: bool,
 }
 
 fn main() -> ExitCode {
     let words: Vec<OsString> = env::args_os().skip(1).collect();
-    let form = words.first().and_then(|word| form_of(word));
-    match (form, words.as_slice()) {
-        (Some(form), [_, printer, files @ ..]) if !files.is_empty() => {
+    match words.as_slice() {
+        [form, printer, spread, files @ ..] if !files.is_empty() => {
+            let (Some(form), Some(spread)) = (form_of(form), spread_of(spread)) else {
+                return ExitCode::from(say(USAGE.as_bytes(), WRONG));
+            };
             let several = files.len() > 1;
             let task = Task {
                 form,
                 printer,
+                spread,
                 several,
             };
             ExitCode::from(task.judge_all(files))
@@ -73,6 +79,16 @@ fn form_of(word: &OsStr) -> Option<Form> {
         "json" => Some(Form::Json),
         "quiet" => Some(Form::Quiet),
         _ => None,
+    }
+}
+
+/// Digits alone, as the program reads them, of a number of 32 bits.
+fn spread_of(word: &OsStr) -> Option<u32> {
+    let digits = word.to_str()?;
+    if digits.bytes().all(|byte| byte.is_ascii_digit()) {
+        digits.parse().ok()
+    } else {
+        None
     }
 }
 
@@ -98,15 +114,15 @@ impl Task<'_> {
 
     /// Tells the verdict on a table.
     fn tell(&self, file: &OsStr, table: &[u8]) -> u8 {
-        let verdict = timed_network::check(table);
+        let verdict = timed_network::check_spread(table, self.spread);
         if let Some(problem) = input::another_kind(table, verdict) {
             return self.tell_problem(file, &problem);
         }
         let status = u8::from(verdict != Verdict::Accepted);
         match self.form {
             Form::Quiet => status,
-            Form::Json => write_out(&json::verdict(file, table)).unwrap_or(status),
-            Form::Words => match printed::words(self.printer, table, verdict) {
+            Form::Json => write_out(&json::verdict(file, table, self.spread)).unwrap_or(status),
+            Form::Words => match printed::words(self.printer, table, self.spread, verdict) {
                 Ok(words) => write_out(&self.named(file, words)).unwrap_or(status),
                 Err(problem) => say(
                     format!("verdict_printer failed: {problem}").as_bytes(),
@@ -160,4 +176,20 @@ fn say(message: &[u8], status: u8) -> u8 {
 /// one that is open for reading alone.
 fn write(output: BorrowedFd<'_>, bytes: &[u8]) -> io::Result<()> {
     File::from(output.try_clone_to_owned()?).write_all(bytes)
+}
+
+#[cfg(test)]
+mod tests {
+    use super::*;
+
+    #[test]
+    fn spreads_are_digits() {
+        let spread = |word: &str| spread_of(OsStr::new(word));
+        assert_eq!(spread("0"), Some(0));
+        assert_eq!(spread("007"), Some(7));
+        assert_eq!(spread("4294967295"), Some(u32::MAX));
+        for word in ["", "4294967296", "+1", "-1", "1 ", "1x"] {
+            assert_eq!(spread(word), None, "{word}");
+        }
+    }
 }

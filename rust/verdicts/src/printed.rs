@@ -5,11 +5,16 @@ use std::io::{self, Write};
 use std::process::{Command, Output, Stdio};
 use timed_network::Verdict;
 
-/// What the program writes of a table. Its first line must be the verdict that
+/// What the program writes of a table at a spread. Its first line must be the verdict that
 /// the library gives: the program and the library are proved to agree, so
 /// another one comes of something that is no such program.
-pub fn words(printer: &OsStr, table: &[u8], verdict: Verdict) -> Result<Vec<u8>, String> {
-    let output = run(printer, table).map_err(|error| error.to_string())?;
+pub fn words(
+    printer: &OsStr,
+    table: &[u8],
+    spread: u32,
+    verdict: Verdict,
+) -> Result<Vec<u8>, String> {
+    let output = run(printer, table, spread).map_err(|error| error.to_string())?;
     if !output.status.success() || !output.stderr.is_empty() {
         let said = String::from_utf8_lossy(&output.stderr);
         return Err(format!("{} {}", output.status, said.trim_end()));
@@ -23,8 +28,9 @@ pub fn words(printer: &OsStr, table: &[u8], verdict: Verdict) -> Result<Vec<u8>,
 
 /// A table has fewer bytes than a pipe holds, so all of it can be written
 /// before anything is read.
-fn run(printer: &OsStr, table: &[u8]) -> io::Result<Output> {
+fn run(printer: &OsStr, table: &[u8], spread: u32) -> io::Result<Output> {
     let mut program = Command::new(printer)
+        .arg(spread.to_string())
         .stdin(Stdio::piped())
         .stdout(Stdio::piped())
         .stderr(Stdio::piped())

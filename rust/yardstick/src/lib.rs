@@ -8,9 +8,10 @@
 //!
 //! The module `table` is the table decoded once, `read` decodes it with checks
 //! 1 to 6. `opening` finds the edge taken, `schedule` opens and closes passages
-//! in one sweep, `meetings` notes on the way which windows meet. `translate`
-//! writes programs, `part` finds one node's part, `run` carries out choices,
-//! `chart` draws the schedule, `plan` writes the table of a plan.
+//! in one sweep, `meetings` notes on the way which windows meet, `spread` looks at
+//! all of them again where nodes wake apart. `translate` writes programs, `part`
+//! finds one node's part, `run` carries out choices, `chart` draws the schedule,
+//! `plan` writes the table of a plan.
 #![forbid(unsafe_code)]
 #![warn(missing_docs)]
 
@@ -22,6 +23,7 @@ mod plan;
 mod read;
 mod run;
 mod schedule;
+mod spread;
 mod table;
 mod translate;
 
@@ -44,11 +46,14 @@ pub const NONE: u8 = 255;
 pub const OBSERVATION: usize = 32;
 /// "Are there at most 1,000,000 choices?"
 pub const MAX_CHOICES: usize = 1_000_000;
+/// "A G above 1,000 is refused with 19 after 3".
+pub const MAX_SPREAD: u32 = 1000;
 
 /// Why a table or a call is refused.
 #[derive(Clone, Copy, Debug, PartialEq, Eq)]
 pub struct Refusal {
-    /// The number of the check that is not passed: 1 to 14, or 18.
+    /// The number of the check that is not passed: 1 to 12 or 15
+    /// to 17, 13, 14, 18, 19 or 20.
     pub number: u8,
     /// The component concerned, or [`NONE`].
     pub component: u8,
@@ -97,11 +102,21 @@ pub struct Run {
     pub size: usize,
 }
 
+/// What [`Yardstick::meetings_spread`] says.
+#[derive(Clone, Copy, Debug, PartialEq, Eq)]
+pub struct Meetings {
+    /// The verdict on the table at the spread.
+    pub table: Result<(), Refusal>,
+    /// How many passages are listed, or 13 where the list is too short.
+    pub listed: Result<usize, Refusal>,
+}
+
 /// The buffers of the calls.
 #[derive(Default)]
 pub struct Yardstick {
     table: Table,
     schedule: Schedule,
+    windows: Vec<spread::Window>,
     machine: Machine,
 }
 
@@ -123,6 +138,73 @@ impl Yardstick {
     pub fn check(&mut self, bytes: &[u8]) -> Result<(), Refusal> {
         read::read(bytes, &mut self.table)?;
         self.schedule.fill(&mut self.table, bytes)
+    }
+
+    /// The same with a bound on the spread of the nodes' wakings.
+    pub fn check_spread(&mut self, bytes: &[u8], spread: u32) -> Result<(), Refusal> {
+        if spread == 0 {
+            return self.check(bytes);
+        }
+        let read = read::read(bytes, &mut self.table);
+        match read {
+            Err(refusal) if refusal.number <= 3 => return Err(refusal),
+            _ if spread > MAX_SPREAD => return Err(Refusal::whole(19)),
+            _ => read?,
+        }
+        match self.schedule.fill(&mut self.table, bytes) {
+            Err(refusal) if refusal.number < 10 => return Err(refusal),
+            _ => {}
+        }
+        match self.first_at_fault(spread) {
+            Some((place, number)) => {
+                let at_fault = &self.schedule.passages()[place];
+                Err(Refusal::of(number, at_fault.component.into()))
+            }
+            None => Ok(()),
+        }
+    }
+
+    /// The place of the first passage at fault of the table that was read last, and
+    /// the number of the check.
+    fn first_at_fault(&mut self, spread: u32) -> Option<(usize, u8)> {
+        let passages = self.schedule.passages();
+        spread::fill(&mut self.windows, &self.table, passages);
+        spread::first_at_fault(&mut self.windows, passages, spread)
+    }
+
+    /// The largest spread at which a table is accepted.
+    pub fn largest_spread(&mut self, bytes: &[u8]) -> Result<u32, Refusal> {
+        self.check(bytes)?;
+        let passages = self.schedule.passages();
+        spread::fill(&mut self.windows, &self.table, passages);
+        Ok(spread::largest(&self.windows, passages))
+    }
+
+    /// Lists the passage at fault and those that it meets, [`FIELDS`] numbers a
+    /// passage, where checks 10 to 12 refuse a table at a spread.
+    pub fn meetings_spread(&mut self, bytes: &[u8], spread: u32, list: &mut [u32]) -> Meetings {
+        let table = self.check_spread(bytes, spread);
+        let listed = match table {
+            Err(refusal) if (10..=17).contains(&refusal.number) => self.list_met(spread, list),
+            _ => Ok(0),
+        };
+        Meetings { table, listed }
+    }
+
+    /// The same for the table that was read last.
+    fn list_met(&mut self, spread: u32, list: &mut [u32]) -> Result<usize, Refusal> {
+        let Some(fault) = self.first_at_fault(spread) else {
+            return Ok(0);
+        };
+        let passages = self.schedule.passages();
+        let met = || spread::met(&self.windows, passages, spread, fault);
+        let size = 1 + met().count();
+        demand_room(list.len() / FIELDS, size)?;
+        let all = passages[fault.0..].iter().take(1).chain(met());
+        for (numbers, passage) in list.chunks_exact_mut(FIELDS).zip(all) {
+            numbers.copy_from_slice(&passage.fields());
+        }
+        Ok(size)
     }
 
     /// Writes the schedule of a table, [`FIELDS`] numbers a passage, and gives
@@ -164,18 +246,35 @@ impl Yardstick {
         choices: &[u8],
         observations: &mut [u8],
     ) -> Result<Run, Refusal> {
-        self.check(bytes)?;
+        self.run_apart(bytes, choices, 0, &[], observations)
+    }
+
+    /// The same for nodes that wake apart: a bound on the spread, and an offset
+    /// for each node, 0 where it is missing.
+    pub fn run_apart(
+        &mut self,
+        bytes: &[u8],
+        choices: &[u8],
+        spread: u32,
+        offsets: &[u32],
+        observations: &mut [u8],
+    ) -> Result<Run, Refusal> {
+        self.check_spread(bytes, spread)?;
         let passages = self.schedule.passages().len();
         demand_room(observations.len() / OBSERVATION, passages)?;
         if choices.len() > MAX_CHOICES {
             return Err(Refusal::whole(14));
+        }
+        let mut own = offsets.iter().take(self.table.count);
+        if own.any(|offset| *offset > spread) {
+            return Err(Refusal::whole(20));
         }
         let network = run::Network {
             table: &self.table,
             bytes,
             schedule: &self.schedule,
         };
-        self.machine.start(&network);
+        self.machine.start(&network, offsets);
         Ok(self.machine.run(&network, choices, observations))
     }
 }

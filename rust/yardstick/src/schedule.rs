@@ -7,7 +7,7 @@ use crate::table::*;
 use crate::{Refusal, FIELDS, NO_MESSAGE};
 
 /// "Are fewer than 1,024 passages open or closed?"
-const PASSAGES: usize = 1024;
+pub(crate) const PASSAGES: usize = 1024;
 /// The place of a passage that there is not.
 pub(crate) const NOWHERE: u16 = u16::MAX;
 

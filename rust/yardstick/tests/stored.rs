@@ -5,7 +5,7 @@
 mod common;
 
 use common::*;
-use yardstick::{part, plan, Refusal, Yardstick};
+use yardstick::{part, plan, Refusal, Yardstick, OBSERVATION};
 
 fn program(yardstick: &mut Yardstick, table: &[u8]) -> Result<String, Refusal> {
     let mut program = vec![0; 65_535];
@@ -73,6 +73,48 @@ fn all_vectors() {
         }
     }
     assert_eq!(counts.len(), 7, "{counts:?}");
+}
+
+/// The bytes lent, the table, the choices, the spread and, unless they are
+/// missing, the offsets.
+fn run_apart(yardstick: &mut Yardstick, lent: usize, words: &[&str]) -> Result<String, Refusal> {
+    let numbers = |word: &&str| word.split(',').map(|n| n.parse().unwrap()).collect();
+    let offsets: Vec<u32> = words.get(3).map_or(Vec::new(), numbers);
+    let mut bytes = vec![77; lent];
+    let (table, choices) = (unhex(words[0]), unhex(words[1]));
+    let spread = words[2].parse().unwrap();
+    let run = yardstick.run_apart(&table, &choices, spread, &offsets, &mut bytes);
+    let written = run.map_or(0, |run| run.size * OBSERVATION);
+    assert!(bytes[written..].iter().all(|byte| *byte == 77));
+    let run = run?;
+    let first = format!("{} {} {} {}", run.end as u8, run.node, run.tick, run.used);
+    let observations = bytes.chunks(OBSERVATION).take(run.size).map(hex);
+    let parts: Vec<String> = std::iter::once(first).chain(observations).collect();
+    Ok(parts.join("|"))
+}
+
+#[test]
+fn the_vectors_of_nodes_that_wake_apart() {
+    let mut yardstick = Yardstick::new();
+    let mut count = 0;
+    for line in text("vectors/apart.tsv").lines() {
+        let fields: Vec<&str> = line.split('\t').collect();
+        let request: Vec<&str> = fields[1].split(' ').collect();
+        let given = match request[..] {
+            ["check", table, spread] => {
+                let answer = yardstick.check_spread(&unhex(table), spread.parse().unwrap());
+                told(answer.map(|()| "accepted".to_string()))
+            }
+            ["lent", lent, "run", ref words @ ..] => {
+                told(run_apart(&mut yardstick, lent.parse().unwrap(), words))
+            }
+            ["run", ref words @ ..] => told(run_apart(&mut yardstick, 1024 * OBSERVATION, words)),
+            _ => answer(&mut yardstick, &request),
+        };
+        assert_eq!(given, fields[2], "{}: {}", fields[0], fields[1]);
+        count += 1;
+    }
+    assert_eq!(count, 150);
 }
 
 #[test]

@@ -33,7 +33,7 @@ enum-told c = search needs
 
 -- src/lib.rt:101:29
 mul-if1 : tie.Need-mul-if1
-mul-if1 c = let f = few (c .before .before .before .before .before .before .before .args .table .now) (c .before .before .before .before .before .before .before .pre .0) (c .before .before .before .plan-rows .result) _ (c .before .before .before .plan-rows .ensures) (c .enum-told .given .1) in omega arith
+mul-if1 c = let f = few 0 (c .before .before .before .before .before .before .before .args .table .now) (c .before .before .before .plan-rows .result) _ (c .before .before .before .plan-rows .ensures) (c .enum-told .given .1) in omega arith
 
 -- src/lib.rt:102:17
 refused-requires-2 : tie.Need-refused-requires-2
@@ -54,7 +54,7 @@ slice-aggregate-put-fields c = search needs
 put-fields-requires : tie.Need-put-fields-requires
 put-fields-requires c κs =
     let e = c .before .before .before .enum-told .given .1 in
-    (room (c .before .before .before .before .before .before .before .before .before .before .args .table .now) (c .before .before .before .before .before .before .before .before .before .before .pre .0) (c .before .before .before .before .before .before .plan-rows .result) _ (c .before .before .before .before .before .before .plan-rows .ensures) e, omega arith, few (c .before .before .before .before .before .before .before .before .before .before .args .table .now) (c .before .before .before .before .before .before .before .before .before .before .pre .0) (c .before .before .before .before .before .before .plan-rows .result) _ (c .before .before .before .before .before .before .plan-rows .ensures) e)
+    (room 0 (c .before .before .before .before .before .before .before .before .before .before .args .table .now) (c .before .before .before .before .before .before .plan-rows .result) _ (c .before .before .before .before .before .before .plan-rows .ensures) e, omega arith, few 0 (c .before .before .before .before .before .before .before .before .before .before .args .table .now) (c .before .before .before .before .before .before .plan-rows .result) _ (c .before .before .before .before .before .before .plan-rows .ensures) e)
 
 -- src/lib.rt:90:1
 returns-2 : tie.Need-returns-2
@@ -72,7 +72,7 @@ returns-3 : tie.Need-returns-3
 returns-3 c =
     let a = c .before .before .before .before .before .before .before .before .before .before .before .before .before .args in
     let k = written (c .before .before .before .before .before .before .before .before .before .before .before .before .before .args .table .now) (c .before .before .before .before .before .before .before .before .before .before .before .before .before .pre .0) (c .before .before .before .before .before .before .before .before .before .plan-rows .result) _ (c .before .before .before .before .before .before .before .before .before .plan-rows .ensures) (c .before .before .before .before .before .before .enum-told .given .1) (a .list .now) (omega arith) in
-    (sym (ap (λ (x : Call). x .verdict) k), sym (ap (λ (x : Call). x .size) k), c .before .before .put-fields .ensures ∙ sym (ap (λ (x : Call). x .lent) k), few (c .before .before .before .before .before .before .before .before .before .before .before .before .before .args .table .now) (c .before .before .before .before .before .before .before .before .before .before .before .before .before .pre .0) (c .before .before .before .before .before .before .before .before .before .plan-rows .result) _ (c .before .before .before .before .before .before .before .before .before .plan-rows .ensures) (c .before .before .before .before .before .before .enum-told .given .1), omega arith)
+    (sym (ap (λ (x : Call). x .verdict) k), sym (ap (λ (x : Call). x .size) k), c .before .before .put-fields .ensures ∙ sym (ap (λ (x : Call). x .lent) k), few 0 (c .before .before .before .before .before .before .before .before .before .before .before .before .before .args .table .now) (c .before .before .before .before .before .before .before .before .before .plan-rows .result) _ (c .before .before .before .before .before .before .before .before .before .plan-rows .ensures) (c .before .before .before .before .before .before .enum-told .given .1), omega arith)
 
 pub plan-into-spec : {M : Type 1} → statement M
 plan-into-spec =

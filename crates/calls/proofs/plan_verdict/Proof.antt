@@ -1,22 +1,15 @@
-use Rattle.calls.proofs.Answering.{verdict-is}
+-- `calls::plan_verdict` meets its contract. Assumes nothing.
+use mathlib.Core.Path.{_∙_}
 use borrow.Author.Needs.{needs}
+use Rattle.model.proofs.Run.CallsApart.{check-together}
 use Rattle.calls.proofs.plan_verdict.Statement.{statement}
 use Rattle.calls.proofs.plan_verdict.Tie as tie
-use Rattle.calls.proofs.plan_verdict.Reads as reads
-use Rattle.calls.proofs.plan_verdict.Lts as lts
-use Rattle.schedule.proofs.plan_rows.Reads as plan-rows-reads
 
--- src/lib.rt:70:48
-slice-aggregate-plan-rows : tie.Need-slice-aggregate-plan-rows
-slice-aggregate-plan-rows c = search needs
+plan-verdict-requires : tie.Need-plan-verdict-requires
+plan-verdict-requires c κs = search needs
 
--- src/lib.rt:70:9
-plan-rows-requires : tie.Need-plan-rows-requires
-plan-rows-requires c κs = search needs
-
--- src/lib.rt:65:1
 returns : tie.Need-returns
-returns c = verdict-is (c .before .before .before .before .args .table .now) (c .before .before .before .before .pre .0) (c .before .plan-rows .result) _ (c .before .plan-rows .ensures)
+returns c = c .plan-verdict .ensures ∙ check-together (c .before .before .args .table .now)
 
 pub plan-verdict-spec : {M : Type 1} → statement M
-plan-verdict-spec = tie.close (tie.spec slice-aggregate-plan-rows plan-rows-requires returns)
+plan-verdict-spec = tie.close (tie.spec plan-verdict-requires returns)

@@ -34,14 +34,14 @@ returns c =
     let a = c .before .before .before .before .before .args in
     let T = readOf (a .table .now) .table in
     let S = rowsOf (a .rows .now) (a .count) in
-    passed (crowded T (a .horizon) S) S (a .rows .now) (c .before .before .first-crowded .result) (c .before .before .first-crowded .ensures .0) (λ v. 12) (accepted S) _ (c .enum-told .given .1) refl
+    passed (crowded (a .spread) T (a .horizon) S) S (a .rows .now) (c .before .before .first-crowded .result) (c .before .before .first-crowded .ensures .0) (λ v. 12) (accepted S) _ (c .enum-told .given .1) refl
 
 returns-2 : tie.Need-returns-2
 returns-2 c =
     let a = c .before .before .before .before .before .before .before .args in
     let T = readOf (a .table .now) .table in
     let S = rowsOf (a .rows .now) (a .count) in
-    failed (crowded T (a .horizon) S) S (a .rows .now) (c .before .before .before .before .first-crowded .result) (c .before .before .before .before .first-crowded .ensures .0) (λ v. 12) (accepted S) (c .refused .result) (c .before .before .fault .given .0 .0) (c .before .before .fault .given .1) (c .refused .ensures)
+    failed (crowded (a .spread) T (a .horizon) S) S (a .rows .now) (c .before .before .before .before .first-crowded .result) (c .before .before .before .before .first-crowded .ensures .0) (λ v. 12) (accepted S) (c .refused .result) (c .before .before .fault .given .0 .0) (c .before .before .fault .given .1) (c .refused .ensures)
 
 pub check-crowded-spec : {M : Type 1} → statement M
 check-crowded-spec =

@@ -37,7 +37,7 @@ returns c =
     let a = c .before .before .before .before .before .before .args in
     let T = readOf (a .table .now) .table in
     let S = rowsOf (a .rows .now) (a .count) in
-    passed (collides T (a .horizon) S) S (a .rows .now) (c .before .before .before .first-collision .result) (c .before .before .before .first-collision .ensures .0) (λ v. 10) (from11 T (a .horizon) S) (c .check-heard .result) (c .before .enum-told .given .1) (c .check-heard .ensures)
+    passed (collides (a .spread) T (a .horizon) S) S (a .rows .now) (c .before .before .before .first-collision .result) (c .before .before .before .first-collision .ensures .0) (λ v. 10) (from11 (a .spread) T (a .horizon) S) (c .check-heard .result) (c .before .enum-told .given .1) (c .check-heard .ensures)
 
 returns-2 : tie.Need-returns-2
 unfolding checked
@@ -45,7 +45,7 @@ returns-2 c =
     let a = c .before .before .before .before .before .before .before .args in
     let T = readOf (a .table .now) .table in
     let S = rowsOf (a .rows .now) (a .count) in
-    failed (collides T (a .horizon) S) S (a .rows .now) (c .before .before .before .before .first-collision .result) (c .before .before .before .before .first-collision .ensures .0) (λ v. 10) (from11 T (a .horizon) S) (c .refused .result) (c .before .before .fault .given .0 .0) (c .before .before .fault .given .1) (c .refused .ensures)
+    failed (collides (a .spread) T (a .horizon) S) S (a .rows .now) (c .before .before .before .before .first-collision .result) (c .before .before .before .before .first-collision .ensures .0) (λ v. 10) (from11 (a .spread) T (a .horizon) S) (c .refused .result) (c .before .before .fault .given .0 .0) (c .before .before .fault .given .1) (c .refused .ensures)
 
 pub check-messages-spec : {M : Type 1} → statement M
 check-messages-spec =

@@ -21,17 +21,18 @@ enum-known-heard c = search needs
 returns : tie.Need-returns
 returns c =
     let a = c .before .before .before .before .before .args in
-    (subst (HeardAs (readOf (a .table .now) .table) (a .horizon) (a .rows .now) (a .count)) (c .enum-told .given .1) (c .before .before .hear-sends .ensures) .0, tt)
+    (subst (HeardAs (a .spread) (readOf (a .table .now) .table) (a .horizon) (a .rows .now) (a .count)) (c .enum-told .given .1) (c .before .before .hear-sends .ensures) .0, tt)
 
 returns-2 : tie.Need-returns-2
 returns-2 c =
     let a = c .before .before .before .before .before .args in
-    (subst (HeardAs (readOf (a .table .now) .table) (a .horizon) (a .rows .now) (a .count)) (c .enum-told2 .given .1) (c .before .before .hear-sends .ensures), tt)
+    (subst (HeardAs (a .spread) (readOf (a .table .now) .table) (a .horizon) (a .rows .now) (a .count)) (c .enum-told2 .given .1) (c .before .before .hear-sends .ensures), tt)
 
 returns-3 : tie.Need-returns-3
 returns-3 c =
     let a = c .before .before .before .before .before .before .args in
-    subst (HeardAs (readOf (a .table .now) .table) (a .horizon) (a .rows .now) (a .count)) (c .before .heard .given .1) (c .before .before .before .hear-sends .ensures)
+    let told = subst (HeardAs (a .spread) (readOf (a .table .now) .table) (a .horizon) (a .rows .now) (a .count)) (c .before .heard .given .1) (c .before .before .before .hear-sends .ensures) in
+    (told .0, told .1)
 
 pub first-unheard-spec : {M : Type 1} → statement M
 first-unheard-spec =

@@ -12,7 +12,7 @@ overlap-requires c κs = search needs
 returns : tie.Need-returns
 returns c =
     let a = c .before .before .before .before .args in
-    not-met (readOf (a .table .now) .table) (a .horizon) (rowPassage (a .rows .now) (a .i)) (rowPassage (a .rows .now) (a .j)) (c .before .overlap .result) (c .before .overlap .ensures) (c .if1 .taken)
+    not-met (a .spread) (readOf (a .table .now) .table) (a .horizon) (rowPassage (a .rows .now) (a .i)) (rowPassage (a .rows .now) (a .j)) (c .before .overlap .result) (c .before .overlap .ensures) (c .if1 .taken)
 
 is-send-requires : tie.Need-is-send-requires
 is-send-requires c κs = search needs
@@ -20,7 +20,7 @@ is-send-requires c κs = search needs
 returns-2 : tie.Need-returns-2
 returns-2 c =
     let a = c .before .before .before .before .before .before .args in
-    no-send-met (readOf (a .table .now) .table) (a .horizon) (rowPassage (a .rows .now) (a .i)) (rowPassage (a .rows .now) (a .j)) (c .before .is-send .result) (c .before .is-send .ensures) (c .if2 .taken)
+    no-send-met (a .spread) (readOf (a .table .now) .table) (a .horizon) (rowPassage (a .rows .now) (a .i)) (rowPassage (a .rows .now) (a .j)) (c .before .is-send .result) (c .before .is-send .ensures) (c .if2 .taken)
 
 same-band-requires : tie.Need-same-band-requires
 same-band-requires c κs = search needs
@@ -29,7 +29,7 @@ returns-3 : tie.Need-returns-3
 returns-3 c =
     let d = c .before .before in
     let a = c .before .before .before .before .before .before .before .args in
-    met (readOf (a .table .now) .table) (a .horizon) (rowPassage (a .rows .now) (a .i)) (rowPassage (a .rows .now) (a .j)) (d .before .before .overlap .result) (d .is-send .result) (c .same-band .result) (d .before .before .overlap .ensures) (d .before .if1 .left) (d .is-send .ensures) (c .before .if2 .left) (c .same-band .ensures)
+    met (a .spread) (readOf (a .table .now) .table) (a .horizon) (rowPassage (a .rows .now) (a .i)) (rowPassage (a .rows .now) (a .j)) (d .before .before .overlap .result) (d .is-send .result) (c .same-band .result) (d .before .before .overlap .ensures) (d .before .if1 .left) (d .is-send .ensures) (c .before .if2 .left) (c .same-band .ensures)
 
 pub is-met-spec : {M : Type 1} → statement M
 is-met-spec = tie.close (tie.spec overlap-requires returns is-send-requires returns-2 same-band-requires returns-3)

@@ -1,20 +1,26 @@
 -- `machine::choose_node` meets its contract. Assumes nothing.
-use mathlib.Core.Path.{_≡_, sym, _∙_}
-use Prim.Native.Nat.{_<_}
+use mathlib.Core.Path.{_≡_, sym, ap, subst, _∙_}
+use mathlib.Core.Bool.{true}
+use Prim.Native.Nat.{ℕ, _-_, _≤_, _<_}
 use native.Mathlib.Omega.{arith}
 use borrow.Author.Needs.{needs}
-use Rattle.machine.specs.Chosen.{opOf}
+use Rattle.registers.specs.Words.{wakeTickIn}
+use Rattle.machine.specs.Chosen.{opOf, observesNow}
 use Rattle.machine.proofs.Loads.{op-read}
-use Rattle.machine.proofs.Alone.{refused-absent}
+use Rattle.machine.proofs.Alone.{refused-absent, refused-asleep}
 use Rattle.machine.proofs.choose_node.Statement.{statement}
 use Rattle.machine.proofs.choose_node.Tie as tie
 
 -- the start
-abbrev start : (c : tie.After-word3) → tie.Start
-start c = c .before .before .before .before .before .before .before .before .before .before .before
+abbrev start : (c : tie.After-word4) → tie.Start
+start c = c .before .before .before .before .before .before .before .before .before .before .before .before .before .before
 
-present : (c : tie.After-word3) → start c .args .choice < start c .args .count
-present c = omega (arith, c .before .before .before .before .before .before .if1 .left)
+present : (c : tie.After-word4) → start c .args .choice < start c .args .count
+present c = omega (arith, c .before .before .before .before .before .before .before .before .before .if1 .left)
+
+-- it is awake
+up : (c : tie.After-word4) → wakeTickIn (start c .args .words .now) (start c .args .choice) ≤ start c .args .tick
+up c = omega (arith, c .before .before .before .before .before .before .if2 .left, c .before .before .before .before .before .before .before .word .ensures)
 
 -- the op at which the node stands
 op-there : (c : tie.After-op-at)
@@ -22,8 +28,8 @@ op-there : (c : tie.After-op-at)
 op-there c =
     let d = c .before .before in
     let a = start d .args in
-    op-read (a .program .now) (a .words .now) (a .values .now) (a .choice) (d .before .before .before .before .word .result) (d .before .before .word2 .result) (d .word3 .result) (c .op-at .result)
-    (d .before .before .before .before .word .ensures) (d .before .before .word2 .ensures) (d .word3 .ensures) (c .op-at .ensures)
+    op-read (a .program .now) (a .words .now) (a .values .now) (a .choice) (d .before .before .before .before .word2 .result) (d .before .before .word3 .result) (d .word4 .result) (c .op-at .result)
+    (d .before .before .before .before .word2 .ensures) (d .before .before .word3 .ensures) (d .word4 .ensures) (c .op-at .ensures)
 
 returns : tie.Need-returns
 returns c H =
@@ -34,17 +40,31 @@ returns c H =
 word-requires : tie.Need-word-requires
 word-requires c κs = search needs
 
+same-length : tie.Need-same-length
+same-length c = search needs
+
+returns-2 : tie.Need-returns-2
+returns-2 c H =
+    let f = c .before .before .before .before .before .before .before .before in
+    let a = f .args in
+    refused-asleep (a .program .now) (a .rows .now) (a .passages) H (a .count) (a .tick) (a .choice) (a .words .now) (a .values .now) (a .out .now) (a .written) (f .pre .0 .most)
+    (omega (arith, c .before .before .before .if1 .left))
+    (omega (arith, c .if2 .taken, c .before .word .ensures))
+
 word-requires-2 : tie.Need-word-requires-2
 word-requires-2 c κs = search needs
 
-add-end : tie.Need-add-end
-add-end c =
-    let f = c .before .before .before .before .before .before .before .before .before in
-    let s = f .pre .0 .each (f .args .choice) (omega (arith, c .before .before .before .before .if1 .left)) in
-    search needs
-
 word-requires-3 : tie.Need-word-requires-3
 word-requires-3 c κs = search needs
+
+add-end : tie.Need-add-end
+add-end c =
+    let f = c .before .before .before .before .before .before .before .before .before .before .before .before in
+    let s = f .pre .0 .each (f .args .choice) (omega (arith, c .before .before .before .before .before .before .before .if1 .left)) in
+    search needs
+
+word-requires-4 : tie.Need-word-requires-4
+word-requires-4 c κs = search needs
 
 sub-op-at : tie.Need-sub-op-at
 sub-op-at c = search needs
@@ -63,27 +83,32 @@ op-at-requires c κs = search needs
 send-message-requires : tie.Need-send-message-requires
 send-message-requires c κs =
     let d = c .before .before .before .before .before in
-    (start d .pre .0, present d, sym (op-there (c .before .before .before)) ∙ c .before .before .if2 .taken)
-
-same-length : tie.Need-same-length
-same-length c = search needs
+    (start d .pre .0, present d, sym (op-there (c .before .before .before)) ∙ c .before .before .if3 .taken)
 
 same-length-2 : tie.Need-same-length-2
 same-length-2 c = search needs
 
-returns-2 : tie.Need-returns-2
-returns-2 c H =
-    let a = c .before .before .before .before .before .before .before .before .before .before .before .before .before .before .before .before .before .before .before .before .args in
-    c .before .before .before .send-message .ensures H (a .tick) (a .written) (a .out .now)
+same-length-3 : tie.Need-same-length-3
+same-length-3 c = search needs
+
+returns-3 : tie.Need-returns-3
+returns-3 c H =
+    let d = c .before .before .before .before .before .before .before .before .before in
+    let a = start d .args in
+    c .before .before .before .send-message .ensures H (a .tick) (a .written) (a .out .now) (up d)
 
 go-alone-requires : tie.Need-go-alone-requires
 go-alone-requires c κs =
     let d = c .before .before .before .before .before .before in
     let f = start d in
-    (f .pre .0, present d, op-there (c .before .before .before .before), (λ e. c .before .before .before .if2 .left (op-there (c .before .before .before .before) ∙ e)), f .pre .2 (present d), f .pre .3)
-
-same-length-3 : tie.Need-same-length-3
-same-length-3 c = search needs
+    let a = f .args in (
+      f .pre .0,
+      present d,
+      op-there (c .before .before .before .before),
+      (λ e. c .before .before .before .if3 .left (op-there (c .before .before .before .before) ∙ e)),
+      (λ o. f .pre .2 (present d) (up d) (subst (λ (k : ℕ). observesNow (a .program .now) (a .words .now) (a .values .now) (a .choice) (a .tick - k) ≡ true) (d .before .before .before .before .before .before .before .word .ensures) o)),
+      f .pre .3,
+    )
 
 same-length-4 : tie.Need-same-length-4
 same-length-4 c = search needs
@@ -91,8 +116,14 @@ same-length-4 c = search needs
 same-length-5 : tie.Need-same-length-5
 same-length-5 c = search needs
 
-returns-3 : tie.Need-returns-3
-returns-3 c = search needs
+same-length-6 : tie.Need-same-length-6
+same-length-6 c = search needs
+
+returns-4 : tie.Need-returns-4
+returns-4 c H =
+    let d = c .before .before .before .before .before .before .before .before .before .before .before .before in
+    let a = start d .args in
+    c .before .before .before .before .before .go-alone .ensures H (a .tick) (up d) (ap (λ (k : ℕ). a .tick - k) (d .before .before .before .before .before .before .before .word .ensures))
 
 pub choose-node-spec : {M : Type 1} → statement M
 choose-node-spec =
@@ -100,19 +131,22 @@ choose-node-spec =
     (tie.spec
     returns
     word-requires
+    same-length
+    returns-2
     word-requires-2
-    add-end
     word-requires-3
+    add-end
+    word-requires-4
     sub-op-at
     part-op-at-start
     part-op-at-end
     op-at-requires
     send-message-requires
-    same-length
     same-length-2
-    returns-2
-    go-alone-requires
     same-length-3
+    returns-3
+    go-alone-requires
     same-length-4
     same-length-5
-    returns-3)
+    same-length-6
+    returns-4)

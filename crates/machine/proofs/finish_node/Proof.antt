@@ -1,6 +1,6 @@
 -- `machine::finish_node` meets its contract. Assumes nothing.
 use Rattle.registers.proofs.Frames.{stored-eight}
-use Rattle.machine.proofs.NodeMoves.{Passing, passing-length, passes, words-moved, place-stored, time-stored}
+use Rattle.machine.proofs.NodeMoves.{Passing, passing-length, passes, words-moved, place-stored, time-stored, wake-stored}
 use Rattle.machine.specs.Chosen.{RowPassed}
 use mathlib.Core.Logic.{inl, inr, ⊎-elim}
 use mathlib.Core.Path.{sym, subst, _∙_}
@@ -76,6 +76,7 @@ note-requires c κs =
       s .pre .2,
       time-stored (f .stored) (asked .put (f .node) (f .grown)),
       f .place ∙ place-stored (f .stored),
+      wake-stored (f .stored) (asked .wakes),
     )
 
 same-length : tie.Need-same-length

@@ -9,13 +9,20 @@ use Rattle.model.specs.Run.{standOf, observes, observationBytes}
 use Rattle.model.specs.Machine
 use lib.Seq.{sets}
 use borrow.Author.Tests.{not-true, not-false}
-use Prim.Native.Nat.{_*_}
-use mathlib.Core.Bool.{true}
+use Prim.Native.Nat.{ℕ, _*_}
+use lib.IntN.{ℤ}
+use mathlib.Core.Bool.{Bool, true}
+use mathlib.Core.List.{List}
 use native.Mathlib.Omega.{arith}
-use mathlib.Core.Path.{_≡_, refl, sym, ap, _∙_}
+use mathlib.Core.Path.{_≡_, refl, sym, ap₂, subst, _∙_}
 use borrow.Author.Needs.{needs}
 use Rattle.machine.proofs.go_alone.Statement.{statement}
 use Rattle.machine.proofs.go_alone.Tie as tie
+
+-- a test at the tick of its own clock
+at-common : (program l : List ℕ) (v : List ℤ) (c : ℕ) {tick own : ℕ} {x : Bool} → tick ≡ own
+    → mayFinish tick (viewIn program l v c) (standOf (viewIn program l v c)) ≡ x → mayFinish own (viewIn program l v c) (standOf (viewIn program l v c)) ≡ x
+at-common program l v c {x = x} e = subst (λ (k : ℕ). mayFinish k (viewIn program l v c) (standOf (viewIn program l v c)) ≡ x) e
 
 -- it may be finished
 allowed : (c : tie.Else1) → let a = c .before .before .before .before .before .before .before .before .args in
@@ -49,11 +56,11 @@ same-length-2 : tie.Need-same-length-2
 same-length-2 c = search needs
 
 returns : tie.Need-returns
-returns c H =
+returns c H common up clock =
     let s = c .before .before .before .before .before .before .before .before in
     let a = s .args in
     let m = c .before .may-finish in
-    refused (a .program .now) (a .rows .now) (a .passages) H (a .count) (a .tick) (a .c) (a .words .now) (a .values .now) (a .out .now) (a .written) (s .pre .0 .most) (s .pre .1) (λ z. s .pre .3 z) (sym (m .ensures) ∙ not-true (m .result) (c .if1 .taken))
+    refused (a .program .now) (a .rows .now) (a .passages) H (a .count) common (a .c) (a .words .now) (a .values .now) (a .out .now) (a .written) (s .pre .0 .most) (s .pre .1) up (λ z. s .pre .3 z) (at-common (a .program .now) (a .words .now) (a .values .now) (a .c) clock (sym (m .ensures) ∙ not-true (m .result) (c .if1 .taken)))
 
 counts-requires : tie.Need-counts-requires
 counts-requires c κs = search needs
@@ -108,18 +115,19 @@ same-length-5 : tie.Need-same-length-5
 same-length-5 c = search needs
 
 returns-2 : tie.Need-returns-2
-returns-2 c H =
+returns-2 c H common up clock =
     let s = c .before .before .before .before .before .before .before .before .before .before .before .before .before .before .before .before .before .before .before .before .before .before .before .before in
     let a = s .args in
     let d = c .before .before .before .before .before .before .before .before .before .before in
-    woken (a .program .now) (a .rows .now) (a .passages) H (a .count) (a .tick) (a .c) (a .words .now) (a .values .now) (a .out .now) (a .written) (s .pre .0 .most) (s .pre .1)
+    woken (a .program .now) (a .rows .now) (a .passages) H (a .count) common (a .c) (a .words .now) (a .values .now) (a .out .now) (a .written) (s .pre .0 .most) (s .pre .1) up
     (c .before .before .before .finish-node .ensures)
     (s .pre .3)
-    (allowed (c .before .before .before .before .before .before .before .before .before .before .before .before .before .before .before .before))
+    (at-common (a .program .now) (a .words .now) (a .values .now) (a .c) clock
+    (allowed (c .before .before .before .before .before .before .before .before .before .before .before .before .before .before .before .before)))
     (sym (s .pre .2) ∙ c .before .before .before .before .before .before .before .before .before .before .before .before .before .before .before .if2 .taken)
     _
     (c .before .before .before .before .before .before .before .before .put-observation .ensures (partIn (a .program .now) (a .words .now) (a .c))
-    ∙ ap (λ (q : Rattle.model.specs.Machine.Node). sets (a .out .now) (a .written * 32) (observationBytes (observes (a .c) (a .tick) q))) (view-of (loaded d)))
+    ∙ ap₂ (λ (k : ℕ) (q : Rattle.model.specs.Machine.Node). sets (a .out .now) (a .written * 32) (observationBytes (observes (a .c) k q))) clock (view-of (loaded d)))
 
 finish-node-requires-2 : tie.Need-finish-node-requires-2
 finish-node-requires-2 c κs =
@@ -140,13 +148,13 @@ same-length-7 : tie.Need-same-length-7
 same-length-7 c = search needs
 
 returns-3 : tie.Need-returns-3
-returns-3 c H =
+returns-3 c H common up clock =
     let s = c .before .before .before .before .before .before .before .before .before .before .before .before .before .before .before in
     let a = s .args in
-    done (a .program .now) (a .rows .now) (a .passages) H (a .count) (a .tick) (a .c) (a .words .now) (a .values .now) (a .out .now) (a .written) (s .pre .0 .most) (s .pre .1)
+    done (a .program .now) (a .rows .now) (a .passages) H (a .count) common (a .c) (a .words .now) (a .values .now) (a .out .now) (a .written) (s .pre .0 .most) (s .pre .1) up
     (c .before .before .before .finish-node2 .ensures)
     (s .pre .3)
-    (allowed (c .before .before .before .before .before .before .before))
+    (at-common (a .program .now) (a .words .now) (a .values .now) (a .c) clock (allowed (c .before .before .before .before .before .before .before)))
     (λ z. c .before .before .before .before .before .before .if2 .left (s .pre .2 ∙ z))
 
 pub go-alone-spec : {M : Type 1} → statement M

@@ -63,7 +63,7 @@ put-node-requires c κs =
     (pre .3) in
     let before = asked .within in
     let after = asked .put (q .result) (message-grows _ (a .channel) (r .result) (q .result) (q .ensures)) in
-    (pre .0, pre .1, pre .2, asked .inside, search needs)
+    (pre .0, pre .1, pre .2, asked .inside, search needs, pre .3 .wakes)
 
 same-length : tie.Need-same-length
 same-length c = search needs

@@ -14,8 +14,8 @@ Inv-loop program l count c k t i₀ i = (i ≤ count) × NoneYet program l k t c
 abbrev μ-loop : tie.MeasureT-loop
 μ-loop program l count c k t i₀ i = count - i
 
-word-requires : tie.Need-word-requires Inv-loop μ-loop
-word-requires c κs = search needs
+began-requires : tie.Need-began-requires Inv-loop μ-loop
+began-requires c κs = let p = c .before .before .pre in let b = p .3 (c .before .before .args .c) (p .2) in (p .0, omega (arith, p .1, p .2), b .1, b .2)
 
 loop-holds : tie.Need-loop-holds Inv-loop μ-loop
 loop-holds c = (search needs, λ v j h. absurd (omega arith))
@@ -23,14 +23,15 @@ loop-holds c = (search needs, λ v j h. absurd (omega arith))
 hears-requires : tie.Need-hears-requires Inv-loop μ-loop
 hears-requires c κs =
     let f = c .before .before .before .before .before .before in
-    (search needs, search needs, f .pre .3 (c .before .before .loop .i) (search needs))
+    let b = f .pre .3 (c .before .before .loop .i) (search needs) in
+    (search needs, search needs, b .0, b .1, b .2)
 
 returns : tie.Need-returns Inv-loop μ-loop
 returns c =
     let h = c .before .before .before .before in
     let f = h .before .before .before .before in
     let a = f .args in
-    found (a .program .now) (a .words .now) (a .channel) (h .before .word .result) (a .count) (a .c) (h .loop .i) (search needs) (h .before .word .ensures) (h .loop .inv .1)
+    found (a .program .now) (a .words .now) (a .channel) (h .before .began .result) (a .count) (a .c) (h .loop .i) (search needs) (h .before .began .ensures) (h .loop .inv .1)
     (search needs)
     (c .before .before .if1 .taken)
     (c .before .hears .result)
@@ -48,7 +49,7 @@ loop-again c =
     let h = c .before .before in
     let a = h .before .before .before .before .args in (
       search needs,
-      one-more (a .program .now) (a .words .now) (a .channel) (h .before .word .result) (a .c) (h .loop .i) (h .loop .inv .1)
+      one-more (a .program .now) (a .words .now) (a .channel) (h .before .began .result) (a .c) (h .loop .i) (h .loop .inv .1)
           (λ v n. ⊎-elim (λ w. sym (w .1 .ensures v) ∙ w .2 .left) (λ w. absurd (n (w .left))) (c .if1 .came)),
     )
 
@@ -56,7 +57,7 @@ returns-2 : tie.Need-returns-2 Inv-loop μ-loop
 returns-2 c =
     let h = c .before in
     let a = h .before .before .before .before .args in
-    not-found (a .program .now) (a .words .now) (a .channel) (h .before .word .result) (a .count) (a .c) (h .loop .i) (search needs) (h .before .word .ensures) (h .loop .inv .1) (search needs)
+    not-found (a .program .now) (a .words .now) (a .channel) (h .before .began .result) (a .count) (a .c) (h .loop .i) (search needs) (h .before .began .ensures) (h .loop .inv .1) (search needs)
 
 pub listener-spec : {M : Type 1} → statement M
 listener-spec =
@@ -64,7 +65,7 @@ listener-spec =
     (tie.spec
     Inv-loop
     μ-loop
-    word-requires
+    began-requires
     loop-holds
     hears-requires
     returns

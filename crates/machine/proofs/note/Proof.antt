@@ -1,17 +1,58 @@
 -- `machine::note` meets its contract. Assumes nothing.
-use Rattle.machine.specs.Running.{readyAt}
-use Rattle.registers.specs.Words.{wordIn, nodeIn}
-use Rattle.stand.specs.Stands.{lastTick}
-use Rattle.node.specs.Views.{opIn, nodeOf}
-use Rattle.rows.specs.Rows.{rowsOf}
-use Rattle.model.specs.Run.{standOf}
-use lib.ListN.{drop, set}
-use Prim.Native.Nat.{ℕ, _+_, _*_, _%_}
-use mathlib.Core.List.{List}
-use mathlib.Core.Path.{_≡_, ap, _∙_}
+use mathlib.Core.Path.{_≡_, sym, ap, subst, _∙_}
+use mathlib.Core.List.{List, []}
+use Prim.Native.Nat.{ℕ, _%_, _≤_}
+use native.Mathlib.Omega.{arith}
 use borrow.Author.Needs.{needs}
+use lib.IntN.{ℤ}
+use lib.ListN.{drop}
+use Rattle.model.specs.Run.{standOf, windowEnd}
+use Rattle.rows.specs.Rows.{rowsOf}
+use Rattle.node.specs.declared.Counts.{Counts}
+use Rattle.node.specs.Views.{opIn, nodeOf}
+use Rattle.stand.specs.Stands.{never, dueTick, lastTick}
+use Rattle.registers.specs.Words.{wordIn, nodeIn, heldIn}
+use Rattle.machine.specs.Running.{readyAt}
+use Rattle.machine.proofs.Ops.{due-most, last-most}
 use Rattle.machine.proofs.note.Statement.{statement}
 use Rattle.machine.proofs.note.Tie as tie
+
+-- the start
+abbrev start : (c : tie.After-last-by) → tie.Start
+start c = c .before .before .before .before .before .before .before .before .before .before .before .before .before .before
+
+-- what was read of the node
+op-there : (c : tie.After-last-by) → let a = start c .args in c .before .before .before .before .before .before .before .before .before .before .op-at .result ≡ opIn (drop (wordIn (a .words .now) (a .c) 0) (a .part .now))
+op-there c =
+    let a = start c .args in
+    c .before .before .before .before .before .before .before .before .before .before .op-at .ensures ∙ ap (λ (i : ℕ). opIn (drop i (a .part .now))) (start c .pre .4)
+
+window-there : (c : tie.After-last-by) → let a = start c .args in c .before .before .before .before .before .half .result ≡ wordIn (a .words .now) (a .c) 7 % 65536
+window-there c = c .before .before .before .before .before .half .ensures ∙ ap (λ (x : ℕ). x % 65536) (c .before .before .before .before .before .before .word2 .ensures)
+
+next-there : (c : tie.After-last-by) → let a = start c .args in c .before .before .next-ready .result ≡ readyAt (rowsOf (a .rows .now) (a .passages)) (wordIn (a .words .now) (a .c) 25)
+next-there c =
+    let a = start c .args in
+    c .before .before .next-ready .ensures .0 ∙ ap (readyAt (rowsOf (a .rows .now) (a .passages))) (c .before .before .before .word3 .ensures)
+
+next-most : (c : tie.After-last-by) → let a = start c .args in readyAt (rowsOf (a .rows .now) (a .passages)) (wordIn (a .words .now) (a .c) 25) ≤ never
+next-most c = subst (λ (k : ℕ). k ≤ never) (next-there c) (c .before .before .next-ready .ensures .1)
+
+-- when it is due, and when it is late, by its own clock
+due-is : (c : tie.After-last-by) → let a = start c .args in (held : Counts) (v : List ℤ)
+    → c .before .due-by .result ≡ dueTick (nodeOf (a .part .now) held (nodeIn (a .words .now) v (a .c))) (standOf (nodeOf (a .part .now) held (nodeIn (a .words .now) v (a .c))))
+due-is c held v =
+    let a = start c .args in
+    c .before .due-by .ensures (a .part .now) held (nodeIn (a .words .now) v (a .c)) (op-there c) (c .before .before .before .before .before .before .before .before .word .ensures) (window-there c)
+
+last-is : (c : tie.After-last-by) → let a = start c .args in (held : Counts) (v : List ℤ)
+    → c .last-by .result
+    ≡ lastTick (nodeOf (a .part .now) held (nodeIn (a .words .now) v (a .c))) (readyAt (rowsOf (a .rows .now) (a .passages)) (wordIn (a .words .now) (a .c) 25)) (standOf (nodeOf (a .part .now) held (nodeIn (a .words .now) v (a .c))))
+last-is c held v =
+    let a = start c .args in
+    let r = nodeOf (a .part .now) held (nodeIn (a .words .now) v (a .c)) in
+    c .last-by .ensures (a .part .now) held (nodeIn (a .words .now) v (a .c)) (op-there c) (c .before .before .before .before .before .before .before .before .word .ensures) (window-there c)
+    ∙ ap (λ (m : ℕ). lastTick r m (standOf r)) (next-there c)
 
 op-at-requires : tie.Need-op-at-requires
 op-at-requires c κs = search needs
@@ -37,31 +78,32 @@ due-by-requires c κs = search needs
 last-by-requires : tie.Need-last-by-requires
 last-by-requires c κs = search needs
 
-put-word-requires : tie.Need-put-word-requires
-put-word-requires c κs = search needs
-
-put-word-requires-2 : tie.Need-put-word-requires-2
-put-word-requires-2 c κs = search needs
+put-ticks-requires : tie.Need-put-ticks-requires
+put-ticks-requires c κs =
+    let d = c .before in
+    let s = start d in
+    let a = s .args in
+    let r = nodeOf (a .part .now) (heldIn (a .words .now) (a .c)) (nodeIn (a .words .now) [] (a .c)) in
+    let end : windowEnd r ≤ never = omega (arith, s .pre .3) in (
+      s .pre .0,
+      s .pre .2,
+      s .pre .5,
+      subst (λ (k : ℕ). k ≤ never) (sym (due-is d (heldIn (a .words .now) (a .c)) [])) (due-most r (standOf r) end),
+      subst (λ (k : ℕ). k ≤ never) (sym (last-is d (heldIn (a .words .now) (a .c)) [])) (last-most r _ (standOf r) end (next-most d)),
+    )
 
 same-length : tie.Need-same-length
 same-length c = search needs
 
 returns : tie.Need-returns
 returns c =
-    let s = c .before .before .before .before .before .before .before .before .before .before .before .before .before .before .before .before .before .before .before .before .before .before in
-    let a = s .args in
-    let pc : c .before .before .before .before .before .before .before .before .before .before .before .before .before .before .before .before .before .before .op-at .result ≡ opIn (drop (wordIn (a .words .now) (a .c) 0) (a .part .now)) = c .before .before .before .before .before .before .before .before .before .before .before .before .before .before .before .before .before .before .op-at .ensures ∙ ap (λ (i : ℕ). opIn (drop i (a .part .now))) (s .pre .4) in
-    let d : c .before .before .before .before .before .before .before .before .before .before .before .before .before .half .result ≡ wordIn (a .words .now) (a .c) 7 % 65536 = c .before .before .before .before .before .before .before .before .before .before .before .before .before .half .ensures ∙ rw (c .before .before .before .before .before .before .before .before .before .before .before .before .before .before .word2 .ensures) in
-    let next : c .before .before .before .before .before .before .before .before .before .before .next-ready .result ≡ readyAt (rowsOf (a .rows .now) (a .passages)) (wordIn (a .words .now) (a .c) 25) =
-    c .before .before .before .before .before .before .before .before .before .before .next-ready .ensures ∙ ap (readyAt (rowsOf (a .rows .now) (a .passages))) (c .before .before .before .before .before .before .before .before .before .before .before .word3 .ensures) in
+    let d = c .before .before .before .before in
     record {
-      due = c .before .before .before .before .before .before .before .before .before .due-by .result;
-      last = c .before .before .before .before .before .before .before .before .last-by .result;
-      dues = λ held v. c .before .before .before .before .before .before .before .before .before .due-by .ensures (a .part .now) held (nodeIn (a .words .now) v (a .c)) pc (c .before .before .before .before .before .before .before .before .before .before .before .before .before .before .before .before .word .ensures) d;
-      lasts = λ held v.
-          c .before .before .before .before .before .before .before .before .last-by .ensures (a .part .now) held (nodeIn (a .words .now) v (a .c)) pc (c .before .before .before .before .before .before .before .before .before .before .before .before .before .before .before .before .word .ensures) d
-          ∙ ap (λ (m : ℕ). lastTick (nodeOf (a .part .now) held (nodeIn (a .words .now) v (a .c))) m (standOf (nodeOf (a .part .now) held (nodeIn (a .words .now) v (a .c))))) next;
-      put = c .before .before .put-word2 .ensures ∙ ap (λ (x : List ℕ). set x (a .c * 32 + 27) (c .before .before .before .before .before .before .before .before .last-by .result)) (c .before .before .before .before .before .before .put-word .ensures);
+      due = d .before .due-by .result;
+      last = d .last-by .result;
+      dues = due-is d;
+      lasts = last-is d;
+      put = c .before .before .put-ticks .ensures;
     }
 
 pub note-spec : {M : Type 1} → statement M
@@ -76,7 +118,6 @@ note-spec =
     next-ready-requires
     due-by-requires
     last-by-requires
-    put-word-requires
-    put-word-requires-2
+    put-ticks-requires
     same-length
     returns)

@@ -1,7 +1,7 @@
 -- `machine::put_node` meets its contract. Assumes nothing.
 use Rattle.machine.proofs.Lent.{lent-is}
 use Rattle.registers.proofs.Frames.{stored-eight}
-use Rattle.machine.proofs.NodeMoves.{still-inside, node-noted, place-stored, time-stored}
+use Rattle.machine.proofs.NodeMoves.{still-inside, node-noted, place-stored, time-stored, wake-stored}
 use native.Mathlib.Omega.{arith}
 use borrow.Author.Needs.{needs}
 use Rattle.machine.proofs.put_node.Statement.{statement}
@@ -48,6 +48,7 @@ note-requires c κs =
       s .pre .2,
       time-stored (st .ensures) (s .pre .4),
       place-stored (st .ensures),
+      wake-stored (st .ensures) (s .pre .5),
     )
 
 same-length : tie.Need-same-length

@@ -8,7 +8,7 @@ use Rattle.model.specs.Reader.{byte}
 use Rattle.registers.specs.Words.{wordIn, nodeIn, heldIn, partIn}
 use Rattle.machine.proofs.Lent.{lent}
 use Rattle.machine.proofs.Frames.{same-stands}
-use Rattle.machine.proofs.Loads.{Loaded, inside, pc-low, channel, sends-safe, stands-there, all-inside, op-still}
+use Rattle.machine.proofs.Loads.{Loaded, inside, pc-low, channel, sends-safe, stands-there, all-heard, op-still}
 use Rattle.machine.proofs.Sending.{unheard, taken}
 use Rattle.machine.proofs.send_message.Statement.{statement}
 use Rattle.machine.proofs.send_message.Tie as tie
@@ -64,7 +64,7 @@ byte-at-requires c κs = search needs
 listener-requires : tie.Need-listener-requires
 listener-requires c κs =
     let f = start (c .before .before .before) in
-    (search needs, search needs, search needs, all-inside (f .pre .0))
+    (search needs, search needs, search needs, all-heard (f .pre .0))
 
 same-length : tie.Need-same-length
 same-length c = search needs
@@ -73,11 +73,11 @@ same-length-2 : tie.Need-same-length-2
 same-length-2 c = search needs
 
 returns : tie.Need-returns
-returns c H tick written out =
+returns c H tick written out wake =
     let d = c .before .before .before .before .before in
     let f = start d in
     let a = f .args in
-    unheard (a .program .now) (a .rows .now) (a .passages) H (a .count) tick (a .c) (a .words .now) (a .values .now) out written (f .pre .0 .most) (f .pre .1) (f .pre .2) (c .before .before .before .byte-at .result)
+    unheard (a .program .now) (a .rows .now) (a .passages) H (a .count) tick (a .c) (a .words .now) (a .values .now) out written (f .pre .0 .most) (f .pre .1) wake (f .pre .2) (c .before .before .before .byte-at .result)
     (on-channel (c .before .before .before))
     (c .before .listener .result)
     (c .if1 .taken)
@@ -112,13 +112,13 @@ same-length-3 : tie.Need-same-length-3
 same-length-3 c = search needs
 
 returns-2 : tie.Need-returns-2
-returns-2 c H tick written out =
+returns-2 c H tick written out wake =
     let d = c .before .before .before .before .before .before .before .before .before .before .before .before .before .before .before .before .before in
     let f = start d in
     let a = f .args in
     let k = c .before .before .before .before .before .before .before .before .before .before .before .before .before .before .before .byte-at in
     let i = c .before .before .before .before .before .before .before .before .before .before .before .before .before .listener in
-    taken (a .program .now) (a .rows .now) (a .passages) H (a .count) tick (a .c) (a .words .now) (a .values .now) out written (f .pre .0 .most) (f .pre .1) (f .pre .2) (k .result)
+    taken (a .program .now) (a .rows .now) (a .passages) H (a .count) tick (a .c) (a .words .now) (a .values .now) out written (f .pre .0 .most) (f .pre .1) wake (f .pre .2) (k .result)
     (on-channel (c .before .before .before .before .before .before .before .before .before .before .before .before .before .before .before))
     (i .result)
     (omega (arith, c .before .before .before .before .before .before .before .before .before .before .before .before .if1 .left))

@@ -13,15 +13,15 @@ use Rattle.meetings.proofs.count_met.Statement.{statement}
 use Rattle.meetings.proofs.count_met.Tie as tie
 
 abbrev Inv-loop : tie.InvT-loop
-Inv-loop table rows count i horizon question met₀ j₀ met j = (j ≤ count) × (met ≤ j) × Counted (metBy question (readOf table .table) horizon (rowPassage rows i)) rows count j met
+Inv-loop table rows count i horizon question spread met₀ j₀ met j = (j ≤ count) × (met ≤ j) × Counted (metBy spread question (readOf table .table) horizon (rowPassage rows i)) rows count j met
 
 abbrev μ-loop : tie.MeasureT-loop
-μ-loop table rows count i horizon question met₀ j₀ met j = count - j
+μ-loop table rows count i horizon question spread met₀ j₀ met j = count - j
 
 loop-holds : tie.Need-loop-holds Inv-loop μ-loop
 loop-holds c =
     let a = c .before .before .args in
-    (omega arith, omega arith, counted-start (metBy (a .question) (readOf (a .table .now) .table) (a .horizon) (rowPassage (a .rows .now) (a .i))) (a .rows .now) (a .count))
+    (omega arith, omega arith, counted-start (metBy (a .spread) (a .question) (readOf (a .table .now) .table) (a .horizon) (rowPassage (a .rows .now) (a .i))) (a .rows .now) (a .count))
 
 is-met-requires : tie.Need-is-met-requires Inv-loop μ-loop
 is-met-requires c κs =
@@ -43,7 +43,7 @@ loop-again c =
     let e = c .before .before .before .before .before .before in
     let a = e .args in
     let l = c .before .before .before .loop in
-    let p = metBy (a .question) (readOf (a .table .now) .table) (a .horizon) (rowPassage (a .rows .now) (a .i)) in
+    let p = metBy (a .spread) (a .question) (readOf (a .table .now) .table) (a .horizon) (rowPassage (a .rows .now) (a .i)) in
     ⊎-elim
     (λ w. (omega (arith, e .pre .1), omega (arith, l .inv .1, w .1), subst (λ (k : ℕ). Counted p (a .rows .now) (a .count) (l .j + 1) k) (sym (w .1)) (counted-in p (a .rows .now) (a .count) (l .j) (l .met) (c .before .is-met .result) (c .before .before .loop-test .taken) (c .before .is-met .ensures) (l .inv .2) (w .0 .taken))))
     (λ w. (omega (arith, e .pre .1), omega (arith, l .inv .1, w .1), subst (λ (k : ℕ). Counted p (a .rows .now) (a .count) (l .j + 1) k) (sym (w .1)) (counted-out p (a .rows .now) (a .count) (l .j) (l .met) (c .before .is-met .result) (c .before .before .loop-test .taken) (c .before .is-met .ensures) (l .inv .2) (w .0 .left))))
@@ -53,7 +53,7 @@ returns : tie.Need-returns Inv-loop μ-loop
 returns c =
     let a = c .before .before .before .before .args in
     let l = c .before .loop in
-    (counted-done (metBy (a .question) (readOf (a .table .now) .table) (a .horizon) (rowPassage (a .rows .now) (a .i))) (a .rows .now) (a .count) (l .j) (l .met) (omega arith) (l .inv .2), omega (arith, l .inv .0, l .inv .1))
+    (counted-done (metBy (a .spread) (a .question) (readOf (a .table .now) .table) (a .horizon) (rowPassage (a .rows .now) (a .i))) (a .rows .now) (a .count) (l .j) (l .met) (omega arith) (l .inv .2), omega (arith, l .inv .0, l .inv .1))
 
 pub count-met-spec : {M : Type 1} → statement M
 count-met-spec =

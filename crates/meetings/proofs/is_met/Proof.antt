@@ -40,19 +40,19 @@ returns : tie.Need-returns
 returns c =
     let a = c .before .before .before .before .before .args in
     let T = readOf (a .table .now) .table in
-    asked-10 T (a .horizon) (rowPassage (a .rows .now) (a .i)) (rowPassage (a .rows .now) (a .j)) (c .is-met .result) (c .before .enum-told .given .1) (c .is-met .ensures)
+    asked-10 (a .spread) T (a .horizon) (rowPassage (a .rows .now) (a .i)) (rowPassage (a .rows .now) (a .j)) (c .is-met .result) (c .before .enum-told .given .1) (c .is-met .ensures)
 
 returns-2 : tie.Need-returns-2
 returns-2 c =
     let a = c .before .before .before .before .before .before .args in
     let T = readOf (a .table .now) .table in
-    asked-11 T (a .horizon) (rowPassage (a .rows .now) (a .i)) (rowPassage (a .rows .now) (a .j)) (c .may-hear .result) (c .before .before .enum-told2 .given .1) (c .may-hear .ensures)
+    asked-11 (a .spread) T (a .horizon) (rowPassage (a .rows .now) (a .i)) (rowPassage (a .rows .now) (a .j)) (c .may-hear .result) (c .before .before .enum-told2 .given .1) (c .may-hear .ensures)
 
 returns-3 : tie.Need-returns-3
 returns-3 c =
     let a = c .before .before .before .before .before .before .before .before .args in
     let T = readOf (a .table .now) .table in
-    asked-12 T (a .horizon) (rowPassage (a .rows .now) (a .i)) (rowPassage (a .rows .now) (a .j)) (c .both .result) (c .before .is-send .result) (c .before .before .may-hear2 .result) (c .before .before .before .before .enum-told3 .given .1) (c .both .ensures) (c .before .is-send .ensures) (c .before .before .may-hear2 .ensures)
+    asked-12 (a .spread) T (a .horizon) (rowPassage (a .rows .now) (a .i)) (rowPassage (a .rows .now) (a .j)) (c .both .result) (c .before .is-send .result) (c .before .before .may-hear2 .result) (c .before .before .before .before .enum-told3 .given .1) (c .both .ensures) (c .before .is-send .ensures) (c .before .before .may-hear2 .ensures)
 
 pub is-met-spec : {M : Type 1} → statement M
 is-met-spec =

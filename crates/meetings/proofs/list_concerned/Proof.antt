@@ -40,7 +40,7 @@ returns c =
     let a = c .before .before .before .before .before .before .before .before .before .before .args in
     let T = readOf (a .table .now) .table in
     let S = rowsOf (a .rows .now) (a .count) in
-    passed (collides T (a .horizon) S) S (a .rows .now) (c .before .before .before .before .before .before .first-collision .result) (c .before .before .before .before .before .before .first-collision .ensures .0) (λ v. 10) (sendsMet T (a .horizon) S) (from11 T (a .horizon) S) (concerned11 T (a .horizon) S) (a .list .now) (c .before .before .list-unheard .result) _ (c .before .before .before .before .enum-told .given .1) (c .before .before .list-unheard .ensures)
+    passed (collides (a .spread) T (a .horizon) S) S (a .rows .now) (c .before .before .before .before .before .before .first-collision .result) (c .before .before .before .before .before .before .first-collision .ensures .0) (λ v. 10) (sendsMet (a .spread) T (a .horizon) S) (from11 (a .spread) T (a .horizon) S) (concerned11 (a .spread) T (a .horizon) S) (a .list .now) (c .before .before .list-unheard .result) _ (c .before .before .before .before .enum-told .given .1) (c .before .before .list-unheard .ensures)
 
 same-length-2 : tie.Need-same-length-2
 same-length-2 c = search needs
@@ -51,7 +51,7 @@ returns-2 c =
     let a = c .before .before .before .before .before .before .before .before .before .before .before .args in
     let T = readOf (a .table .now) .table in
     let S = rowsOf (a .rows .now) (a .count) in
-    failed (collides T (a .horizon) S) S (a .rows .now) (c .before .before .before .before .before .before .before .first-collision .result) (c .before .before .before .before .before .before .before .first-collision .ensures .0) (λ v. 10) (sendsMet T (a .horizon) S) (from11 T (a .horizon) S) (concerned11 T (a .horizon) S) (a .list .now) (c .before .before .list-fault .result) _ (c .before .before .before .before .before .fault .given .0 .0) (c .before .before .before .before .before .fault .given .1) (c .before .before .list-fault .ensures)
+    failed (collides (a .spread) T (a .horizon) S) S (a .rows .now) (c .before .before .before .before .before .before .before .first-collision .result) (c .before .before .before .before .before .before .before .first-collision .ensures .0) (λ v. 10) (sendsMet (a .spread) T (a .horizon) S) (from11 (a .spread) T (a .horizon) S) (concerned11 (a .spread) T (a .horizon) S) (a .list .now) (c .before .before .list-fault .result) _ (c .before .before .before .before .before .fault .given .0 .0) (c .before .before .before .before .before .fault .given .1) (c .before .before .list-fault .ensures)
 
 pub list-concerned-spec : {M : Type 1} → statement M
 list-concerned-spec =

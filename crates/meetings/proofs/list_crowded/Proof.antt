@@ -38,7 +38,7 @@ returns c =
     let a = c .before .before .before .before .before .before .before .args in
     let T = readOf (a .table .now) .table in
     let S = rowsOf (a .rows .now) (a .count) in
-    passed (crowded T (a .horizon) S) S (a .rows .now) (c .before .before .before .first-crowded .result) (c .before .before .before .first-crowded .ensures .0) (λ v. 12) (sendsHeard T (a .horizon) S) (accepted S) [] (a .list .now) (c .nothing .result) _ (c .before .enum-told .given .1) (says-none Accepted (a .list .now) (c .nothing .result) (c .nothing .ensures .0) (c .nothing .ensures .1) (c .nothing .ensures .2))
+    passed (crowded (a .spread) T (a .horizon) S) S (a .rows .now) (c .before .before .before .first-crowded .result) (c .before .before .before .first-crowded .ensures .0) (λ v. 12) (sendsHeard (a .spread) T (a .horizon) S) (accepted S) [] (a .list .now) (c .nothing .result) _ (c .before .enum-told .given .1) (says-none Accepted (a .list .now) (c .nothing .result) (c .nothing .ensures .0) (c .nothing .ensures .1) (c .nothing .ensures .2))
 
 same-length : tie.Need-same-length
 same-length c = search needs
@@ -48,7 +48,7 @@ returns-2 c =
     let a = c .before .before .before .before .before .before .before .before .before .before .before .args in
     let T = readOf (a .table .now) .table in
     let S = rowsOf (a .rows .now) (a .count) in
-    failed (crowded T (a .horizon) S) S (a .rows .now) (c .before .before .before .before .before .before .before .first-crowded .result) (c .before .before .before .before .before .before .before .first-crowded .ensures .0) (λ v. 12) (sendsHeard T (a .horizon) S) (accepted S) ([]) (a .list .now) (c .before .before .list-fault .result) _ (c .before .before .before .before .before .fault .given .0 .0) (c .before .before .before .before .before .fault .given .1) (c .before .before .list-fault .ensures)
+    failed (crowded (a .spread) T (a .horizon) S) S (a .rows .now) (c .before .before .before .before .before .before .before .first-crowded .result) (c .before .before .before .before .before .before .before .first-crowded .ensures .0) (λ v. 12) (sendsHeard (a .spread) T (a .horizon) S) (accepted S) ([]) (a .list .now) (c .before .before .list-fault .result) _ (c .before .before .before .before .before .fault .given .0 .0) (c .before .before .before .before .before .fault .given .1) (c .before .before .list-fault .ensures)
 
 pub list-crowded-spec : {M : Type 1} → statement M
 list-crowded-spec =

@@ -37,8 +37,8 @@ mul-if1 c = search needs
 returns : tie.Need-returns
 returns c =
     let a = c .before .before .before .before .before .before .before .args in
-    let P = foundBy (a .question) (readOf (a .table .now) .table) (a .horizon) (rowsOf (a .rows .now) (a .count)) (rowPassage (a .rows .now) (a .i)) in
-    says-short (Refused (numberAsked (a .question) (readOf (a .table .now) .table) (rowsOf (a .rows .now) (a .count)) (rowPassage (a .rows .now) (a .i))) (num (a .rows .now) (a .i) 0)) (a .list .now) _ (c .before .refused .ensures ∙ ap (λ (m : ℕ). Refused m (num (a .rows .now) (a .i) 0)) (c .before .before .number-of .ensures)) P (c .before .before .before .count-met .result + 1) (omega (arith, c .before .before .before .count-met .ensures .0)) (c .if1 .taken) refl refl
+    let P = foundBy (a .spread) (a .question) (readOf (a .table .now) .table) (a .horizon) (rowsOf (a .rows .now) (a .count)) (rowPassage (a .rows .now) (a .i)) in
+    says-short (Refused (numberAsked (a .spread) (a .question) (readOf (a .table .now) .table) (rowsOf (a .rows .now) (a .count)) (rowPassage (a .rows .now) (a .i))) (num (a .rows .now) (a .i) 0)) (a .list .now) _ (c .before .refused .ensures ∙ ap (λ (m : ℕ). Refused m (num (a .rows .now) (a .i) 0)) (c .before .before .number-of .ensures)) P (c .before .before .before .count-met .result + 1) (omega (arith, c .before .before .before .count-met .ensures .0)) (c .if1 .taken) refl refl
 
 put-met-requires : tie.Need-put-met-requires
 put-met-requires c κs = search needs
@@ -49,9 +49,9 @@ same-length c = search needs
 returns-2 : tie.Need-returns-2
 returns-2 c =
     let a = c .before .before .before .before .before .before .before .before .before .before .before .args in
-    let P = foundBy (a .question) (readOf (a .table .now) .table) (a .horizon) (rowsOf (a .rows .now) (a .count)) (rowPassage (a .rows .now) (a .i)) in
+    let P = foundBy (a .spread) (a .question) (readOf (a .table .now) .table) (a .horizon) (rowsOf (a .rows .now) (a .count)) (rowPassage (a .rows .now) (a .i)) in
     let k : c .before .before .before .before .before .before .before .count-met .result + 1 ≡ length P = omega (arith, c .before .before .before .before .before .before .before .count-met .ensures .0) in
-    says-laid (Refused (numberAsked (a .question) (readOf (a .table .now) .table) (rowsOf (a .rows .now) (a .count)) (rowPassage (a .rows .now) (a .i))) (num (a .rows .now) (a .i) 0)) (a .list .now) _ (c .before .before .before .before .before .refused .ensures ∙ ap (λ (m : ℕ). Refused m (num (a .rows .now) (a .i) 0)) (c .before .before .before .before .before .before .number-of .ensures)) P (c .before .before .before .before .before .before .before .count-met .result + 1) k (omega (arith, c .before .before .before .before .if1 .left)) _
+    says-laid (Refused (numberAsked (a .spread) (a .question) (readOf (a .table .now) .table) (rowsOf (a .rows .now) (a .count)) (rowPassage (a .rows .now) (a .i))) (num (a .rows .now) (a .i) 0)) (a .list .now) _ (c .before .before .before .before .before .refused .ensures ∙ ap (λ (m : ℕ). Refused m (num (a .rows .now) (a .i) 0)) (c .before .before .before .before .before .before .number-of .ensures)) P (c .before .before .before .before .before .before .before .count-met .result + 1) k (omega (arith, c .before .before .before .before .if1 .left)) _
     (c .before .before .put-met .ensures ∙ ap (λ (m : ℕ). each sevenOf P ++ drop (m * 7) (a .list .now)) (sym k)) refl refl
 
 pub list-fault-spec : {M : Type 1} → statement M

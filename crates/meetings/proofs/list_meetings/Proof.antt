@@ -39,7 +39,7 @@ returns c =
     let e = c .before .before .before .before .before .before .before .before .before in
     let a = e .args in
     let r = c .before .before .before .before .before .schedule-rows in
-    subst (λ (k : MeetingsCall). Says k (c .nothing .result) (a .list .now)) (sym (scheduled-not (a .table .now) (a .list .now) (e .pre .0) (r .result) (r .last .1 .1 .0) (r .ensures) (c .before .before .verdict .given .1)))
+    subst (λ (k : MeetingsCall). Says k (c .nothing .result) (a .list .now)) (sym (scheduled-not (a .spread) (e .pre .2) (a .table .now) (a .list .now) (e .pre .0) (r .result) (r .last .1 .1 .0) (r .ensures) (c .before .before .verdict .given .1)))
     (says-none _ (a .list .now) (c .nothing .result) (c .nothing .ensures .0) (c .nothing .ensures .1) (c .nothing .ensures .2))
 
 same-length : tie.Need-same-length
@@ -51,7 +51,7 @@ returns-2 c =
     let a = e .args in
     let r = c .before .before .before .before .before .before .before .before .before .schedule-rows in
     let w = c .before .before .list-concerned in
-    subst (λ (k : MeetingsCall). Says k (w .result) (w .last .1 .1 .1 .1 .0)) (of-rows (a .table .now) (a .list .now) (e .pre .0) (r .result) (r .last .1 .1 .0) (r .ensures) (c .before .before .before .before .before .before .enum-told .given .1) (c .before .before .before .before .before .horizon .result) (c .before .before .before .before .before .horizon .ensures)) (w .ensures)
+    subst (λ (k : MeetingsCall). Says k (w .result) (w .last .1 .1 .1 .1 .0)) (of-rows (a .spread) (e .pre .2) (a .table .now) (a .list .now) (e .pre .0) (r .result) (r .last .1 .1 .0) (r .ensures) (c .before .before .before .before .before .before .enum-told .given .1) (c .before .before .before .before .before .horizon .result) (c .before .before .before .before .before .horizon .ensures)) (w .ensures)
 
 pub list-meetings-spec : {M : Type 1} → statement M
 list-meetings-spec =

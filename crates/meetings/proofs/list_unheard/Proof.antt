@@ -39,7 +39,7 @@ returns c =
     let a = c .before .before .before .before .before .before .before .before .before .before .args in
     let T = readOf (a .table .now) .table in
     let S = rowsOf (a .rows .now) (a .count) in
-    passed (unheard T (a .horizon) S) S (a .rows .now) (c .before .before .before .before .before .before .first-unheard .result) (c .before .before .before .before .before .before .first-unheard .ensures .0) (unheardNumber T S) (listenersMet T S) (from12 T (a .horizon) S) (concerned12 T (a .horizon) S) (a .list .now) (c .before .before .list-crowded .result) _ (c .before .before .before .before .enum-told .given .1) (c .before .before .list-crowded .ensures)
+    passed (unheard (a .spread) T (a .horizon) S) S (a .rows .now) (c .before .before .before .before .before .before .first-unheard .result) (c .before .before .before .before .before .before .first-unheard .ensures .0) (unheardNumber (a .spread) T S) (listenersMet (a .spread) T S) (from12 (a .spread) T (a .horizon) S) (concerned12 (a .spread) T (a .horizon) S) (a .list .now) (c .before .before .list-crowded .result) _ (c .before .before .before .before .enum-told .given .1) (c .before .before .list-crowded .ensures)
 
 same-length-2 : tie.Need-same-length-2
 same-length-2 c = search needs
@@ -49,7 +49,7 @@ returns-2 c =
     let a = c .before .before .before .before .before .before .before .before .before .before .before .args in
     let T = readOf (a .table .now) .table in
     let S = rowsOf (a .rows .now) (a .count) in
-    failed (unheard T (a .horizon) S) S (a .rows .now) (c .before .before .before .before .before .before .before .first-unheard .result) (c .before .before .before .before .before .before .before .first-unheard .ensures .0) (unheardNumber T S) (listenersMet T S) (from12 T (a .horizon) S) (concerned12 T (a .horizon) S) (a .list .now) (c .before .before .list-fault .result) _ (c .before .before .before .before .before .fault .given .0 .0) (c .before .before .before .before .before .fault .given .1) (c .before .before .list-fault .ensures)
+    failed (unheard (a .spread) T (a .horizon) S) S (a .rows .now) (c .before .before .before .before .before .before .before .first-unheard .result) (c .before .before .before .before .before .before .before .first-unheard .ensures .0) (unheardNumber (a .spread) T S) (listenersMet (a .spread) T S) (from12 (a .spread) T (a .horizon) S) (concerned12 (a .spread) T (a .horizon) S) (a .list .now) (c .before .before .list-fault .result) _ (c .before .before .before .before .before .fault .given .0 .0) (c .before .before .before .before .before .fault .given .1) (c .before .before .list-fault .ensures)
 
 pub list-unheard-spec : {M : Type 1} → statement M
 list-unheard-spec =

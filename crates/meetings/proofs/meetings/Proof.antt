@@ -1,54 +1,23 @@
 -- `meetings::meetings` meets its contract. Assumes nothing.
-use mathlib.Core.Path.{sym, subst}
-use borrow.Author.Needs.{needs}
+use mathlib.Core.Path.{ap, _∙_}
 use Rattle.model.specs.Meetings.{MeetingsCall}
-use Rattle.table.proofs.Answered.{was-valid, its-starts, read-refused}
-use Rattle.meetings.specs.Asked.{Says}
-use Rattle.meetings.proofs.Listing.{says-none, read-not}
+use Rattle.model.proofs.Run.CallsApart.{meetings-together}
+use borrow.Author.Needs.{needs}
 use Rattle.meetings.proofs.meetings.Statement.{statement}
 use Rattle.meetings.proofs.meetings.Tie as tie
 
-read-requires : tie.Need-read-requires
-read-requires c κs = search needs
-
-enum-known-verdict : tie.Need-enum-known-verdict
-enum-known-verdict c = search needs
-
-nothing-requires : tie.Need-nothing-requires
-nothing-requires c κs = search needs
-
-enum-told : tie.Need-enum-told
-enum-told c = search needs
-
-list-meetings-requires : tie.Need-list-meetings-requires
-list-meetings-requires c κs =
-    let bs = c .before .before .before .before .before .before .before .args .table .now in
-    let r = c .before .before .before .before .read in
-    (was-valid bs (r .result) (r .ensures) (c .before .before .enum-told .given .1), its-starts bs (r .result) (r .ensures) (c .before .before .enum-told .given .1))
-
-returns : tie.Need-returns
-returns c =
-    let a = c .before .before .before .before .before .before .before .args in
-    let r = c .before .before .before .before .read in
-    let k = subst (λ (k : MeetingsCall). Says k (c .nothing .result) (a .list .now)) (sym (read-not (a .table .now) (a .list .now) (read-refused (a .table .now) (r .result) (r .ensures) (c .before .before .verdict .given .1))))
-    (says-none _ (a .list .now) (c .nothing .result) (c .nothing .ensures .0) (c .nothing .ensures .1) (c .nothing .ensures .2)) in
-    (k .table, k .verdict, k .size, k .lent)
+meetings-spread-requires : tie.Need-meetings-spread-requires
+meetings-spread-requires c κs = search needs
 
 same-length : tie.Need-same-length
 same-length c = search needs
 
-returns-2 : tie.Need-returns-2
-returns-2 c = search needs
+returns : tie.Need-returns
+returns c =
+    let a = c .before .before .before .before .before .before .args in
+    let w = c .before .before .meetings-spread in
+    let e = meetings-together (a .table .now) (a .list .now) in
+    (w .ensures .0 ∙ ap (λ (k : MeetingsCall). k .table) e, w .ensures .1 ∙ ap (λ (k : MeetingsCall). k .verdict) e, w .ensures .2 ∙ ap (λ (k : MeetingsCall). k .size) e, w .ensures .3 ∙ ap (λ (k : MeetingsCall). k .lent) e)
 
 pub meetings-spec : {M : Type 1} → statement M
-meetings-spec =
-    tie.close
-    (tie.spec
-    read-requires
-    enum-known-verdict
-    nothing-requires
-    enum-told
-    list-meetings-requires
-    returns
-    same-length
-    returns-2)
+meetings-spec = tie.close (tie.spec meetings-spread-requires same-length returns)

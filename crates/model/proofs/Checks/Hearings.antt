@@ -4,22 +4,22 @@ use mathlib.Core.Logic.{_↔_}
 use mathlib.Core.Bool.{Bool, true, false, cond, _&&_, not}
 use mathlib.Core.List.{List, [], _∷_}
 use mathlib.Core.Option.{Option, none, some}
-use Prim.Native.Nat.{ℕ, zero, suc, _≤_, _<_}
+use Prim.Native.Nat.{ℕ, zero, suc, _+_, _≤_, _<_, max, min}
 use native.Mathlib.Omega.{arith}
-use borrow.Author.Tests.{ltb-true, ltb-false, not-true}
+use borrow.Author.Tests.{ltb-true, ltb-false, leb-true, le-leb, not-true}
+use lib.Dec.{leb}
 use lib.ListN.{length, getD}
 use Rattle.model.specs.declared.Hearing.{Hearing}
 use Rattle.model.specs.declared.Hearing.the-variants.{Well, Nobody, Several, LateStart, EarlyEnd}
 use Rattle.model.specs.Lists.{only, first, _∈_, here, Answer, accepted, refused}
 use Rattle.model.specs.Table.{Table}
 use Rattle.model.specs.Schedule.{Passage}
-use Rattle.model.specs.Checks.{startsEarlier, endsLater, isSend, mayHear, heardWell, hearingOf, hearingNumber, heardAs, unheardNumber, collides, unheard, crowded, faultOf, faultBy, checked, noPassage, passageAt, Hears, Heard}
-use Rattle.model.specs.Hearings.{Alone, StartsLate, EndsSoon, HeardTwice, Says, FirstAtFault}
+use Rattle.model.specs.Checks.{near, startsEarlier, endsLater, isSend, mayHear, heardWell, hearingOf, hearingNumber, heardAs, unheardNumber, collides, unheard, crowded, faultOf, faultBy, checked, noPassage, passageAt}
+use Rattle.model.specs.Hearings.{HearsWithin, Alone, HeardWell, StartsLate, EndsSoon, HeardTwice, Says, FirstAtFault}
 use Rattle.model.proofs.Basics.Bools.{clash, and-is}
 use Rattle.model.proofs.Basics.Members.{in-at, number-of, not-true-is, only-is, only-none, once-is}
 use Rattle.model.proofs.Reader.Parts.{refused-clash}
-use Rattle.model.proofs.Checks.Heard.{Windows}
-use Rattle.model.proofs.Checks.Independence.{may-hear-is}
+use Rattle.model.proofs.Checks.Heard.{Windows, hears-is}
 
 -- ## Heard well, or one of the four
 
@@ -31,27 +31,27 @@ isWell LateStart = false
 isWell EarlyEnd = false
 
 -- 11 finds no fault exactly where the hearing has none
-pub well-hears : (s : Passage) (l : List Passage) → heardWell s l ≡ isWell (hearingOf s l)
-well-hears s [] = refl
-well-hears s (r ∷ []) = go (startsEarlier r s) (endsLater r s)
+pub well-hears : (G : ℕ) (s : Passage) (l : List Passage) → heardWell G s l ≡ isWell (hearingOf G s l)
+well-hears G s [] = refl
+well-hears G s (r ∷ []) = go (startsEarlier G r s) (endsLater G r s)
   where
     go : (a b : Bool) → a && b ≡ isWell (cond a (cond b Well EarlyEnd) LateStart)
     go true true = refl
     go true false = refl
     go false b = refl
-well-hears s (r ∷ q ∷ rs) = refl
+well-hears G s (r ∷ q ∷ rs) = refl
 
 -- a send is at fault exactly if it is not heard well
-pub unheard-is : (T : Table) (H : ℕ) (S : List Passage) (s : Passage) → (unheard T H S s ≡ true) ↔ (isSend T H s ≡ true) × (isWell (heardAs T S s) ≡ false)
-unheard-is T H S s = (
+pub unheard-is : (G : ℕ) (T : Table) (H : ℕ) (S : List Passage) (s : Passage) → (unheard G T H S s ≡ true) ↔ (isSend T H s ≡ true) × (isWell (heardAs G T S s) ≡ false)
+unheard-is G T H S s = (
   λ e.
-      let h = and-is (isSend T H s) (not (heardWell s l)) .0 e in
-      (h .0, sym (well-hears s l) ∙ not-true (heardWell s l) (h .1)),
-  λ h. let f : heardWell s l ≡ false = well-hears s l ∙ h .1 in rw (h .0, f),
+      let h = and-is (isSend T H s) (not (heardWell G s l)) .0 e in
+      (h .0, sym (well-hears G s l) ∙ not-true (heardWell G s l) (h .1)),
+  λ h. let f : heardWell G s l ≡ false = well-hears G s l ∙ h .1 in rw (h .0, f),
 )
   where
     l : List Passage
-    l = only (λ r. mayHear T r s) S
+    l = only (λ r. mayHear G T r s) S
 
 -- each fault has a number of its own
 pub numbers-apart : (h k : Hearing) → hearingNumber h ≡ hearingNumber k → h ≡ k
@@ -83,6 +83,33 @@ numbers-apart EarlyEnd EarlyEnd e = refl
 
 -- ## What is said of a send, by ticks
 
+-- a passage may hear a send exactly if it is a receive window of another component that names the channel, and a tick of the one lies at most G
+-- from a tick of the other: those nearest to each other do, if any
+pub may-hear-is : (G : ℕ) (T : Table) (r s : Passage) → r .ready ≤ r .end → s .ready ≤ s .end → (mayHear G T r s ≡ true) ↔ HearsWithin G T r s
+may-hear-is G T r s a b = (
+  λ e.
+      let h = hears-is G T r s .0 e in
+      let n = and-is (leb (r .ready) (s .end + G)) (leb (s .ready) (r .end + G)) .0 (h .3) in
+      let x = leb-true (r .ready) (s .end + G) (n .0) in
+      let y = leb-true (s .ready) (r .end + G) (n .1) in
+      record {
+        receive = h .0;
+        other = h .1;
+        named = h .2;
+        heardAt = max (r .ready) (min (r .end) (s .ready));
+        sentAt = max (s .ready) (min (s .end) (r .ready));
+        inReceive = record { from = omega arith; to = omega arith };
+        inSend = record { from = omega arith; to = omega arith };
+        close = (omega arith, omega arith);
+      },
+  λ h.
+      let n : near G r s ≡ true = rw (
+        le-leb (r .ready) (s .end + G) (omega (arith, h .inReceive .from, h .inSend .to, h .close)),
+        le-leb (s .ready) (r .end + G) (omega (arith, h .inReceive .to, h .inSend .from, h .close)),
+      ) in
+      hears-is G T r s .1 (h .receive, h .other, h .named, n),
+)
+
 -- two of a list pass a test: two numbers
 two-of : {A : Type 0} (p : A → Bool) (d : A) (S : List A) {r q : A} {rs : List A} → only p S ≡ r ∷ q ∷ rs
     → (i j : ℕ) × (i < j) × (j < length S) × (p (getD S i d) ≡ true) × (p (getD S j d) ≡ true)
@@ -102,57 +129,55 @@ two-of p d (x ∷ S) {r} {q} {rs} e = go (two-of p d S) (p x) refl e
         (0, suc (n .0), omega arith, omega (arith, n .1), t, subst (λ v. p v ≡ true) (sym (n .2)) (h .1))
     go ih false t k = let (i, j, a, b, u, v) = ih k in (suc i, suc j, omega arith, omega arith, u, v)
 
-module _ (T : Table) (S : List Passage) (wins : Windows S) (s : Passage) (m : s ∈ S) where
+module _ (G : ℕ) (T : Table) (S : List Passage) (wins : Windows S) (s : Passage) (m : s ∈ S) where
   abbrev p : Passage → Bool
-  p r = mayHear T r s
+  p r = mayHear G T r s
 
-  hears-at : (j : ℕ) → j < length S → p (passageAt S j) ≡ true → Hears T (passageAt S j) s
-  hears-at j u = may-hear-is T (passageAt S j) s (wins (passageAt S j) (in-at noPassage S j u)) (wins s m) .0
+  hears-at : (j : ℕ) → j < length S → p (passageAt S j) ≡ true → HearsWithin G T (passageAt S j) s
+  hears-at j u = may-hear-is G T (passageAt S j) s (wins (passageAt S j) (in-at noPassage S j u)) (wins s m) .0
 
-  heard-at : (j : ℕ) → j < length S → Hears T (passageAt S j) s → p (passageAt S j) ≡ true
-  heard-at j u = may-hear-is T (passageAt S j) s (wins (passageAt S j) (in-at noPassage S j u)) (wins s m) .1
+  heard-at : (j : ℕ) → j < length S → HearsWithin G T (passageAt S j) s → p (passageAt S j) ≡ true
+  heard-at j u = may-hear-is G T (passageAt S j) s (wins (passageAt S j) (in-at noPassage S j u)) (wins s m) .1
 
   -- the send is heard as it is said
-  pub hearing-is : Says T S s (heardAs T S s)
+  pub hearing-is : Says G T S s (heardAs G T S s)
   hearing-is = go (only p S) refl
     where
-      single : (r : Passage) (i : ℕ) → passageAt S i ≡ r → Alone T S s i → (a b : Bool) → startsEarlier r s ≡ a → endsLater r s ≡ b
-          → Says T S s (cond a (cond b Well EarlyEnd) LateStart)
+      single : (r : Passage) (i : ℕ) → passageAt S i ≡ r → Alone G T S s i → (a b : Bool) → startsEarlier G r s ≡ a → endsLater G r s ≡ b
+          → Says G T S s (cond a (cond b Well EarlyEnd) LateStart)
       single r i e o true true f g =
           record {
             index = i;
-            there = o .there;
-            hears = o .hears;
-            earlier = subst (λ (v : Passage). v .ready < s .ready) (sym e) (ltb-true (r .ready) (s .ready) f);
-            later = subst (λ (v : Passage). s .end < v .end) (sym e) (ltb-true (s .end) (r .end) g);
-            alone = o .alone;
+            single = o;
+            earlier = subst (λ (v : Passage). v .ready + G < s .ready) (sym e) (ltb-true (r .ready + G) (s .ready) f);
+            later = subst (λ (v : Passage). s .end + G < v .end) (sym e) (ltb-true (s .end + G) (r .end) g);
           }
       single r i e o true false f g =
           record {
             index = i;
             single = o;
-            early = subst (λ (v : Passage). v .ready < s .ready) (sym e) (ltb-true (r .ready) (s .ready) f);
-            soon = subst (λ (v : Passage). v .end ≤ s .end) (sym e) (ltb-false (s .end) (r .end) g);
+            early = subst (λ (v : Passage). v .ready + G < s .ready) (sym e) (ltb-true (r .ready + G) (s .ready) f);
+            soon = subst (λ (v : Passage). v .end ≤ s .end + G) (sym e) (ltb-false (s .end + G) (r .end) g);
           }
       single r i e o false b f g =
           record {
             index = i;
             single = o;
-            late = subst (λ (v : Passage). s .ready ≤ v .ready) (sym e) (ltb-false (r .ready) (s .ready) f);
+            late = subst (λ (v : Passage). s .ready ≤ v .ready + G) (sym e) (ltb-false (r .ready + G) (s .ready) f);
           }
 
-      go : (l : List Passage) → only p S ≡ l → Says T S s (hearingOf s l)
+      go : (l : List Passage) → only p S ≡ l → Says G T S s (hearingOf G s l)
       go [] e = λ j u h. clash (sym (only-none p S .0 e (passageAt S j) (in-at noPassage S j u)) ∙ heard-at j u h)
       go (r ∷ []) e =
           let h = only-is p S .0 (subst (λ l. r ∈ l) (sym e) (here refl)) in
           let n = number-of noPassage (h .0) in
           let there : p (passageAt S (n .0)) ≡ true = subst (λ v. p v ≡ true) (sym (n .2)) (h .1) in
-          let o : Alone T S s (n .0) = record {
+          let o : Alone G T S s (n .0) = record {
             there = n .1;
             hears = hears-at (n .0) (n .1) there;
             alone = λ j u k. once-is p noPassage S .0 (omega (arith, ap length e)) j (n .0) u (n .1) (heard-at j u k) there;
           } in
-          single r (n .0) (n .2) o (startsEarlier r s) (endsLater r s) refl refl
+          single r (n .0) (n .2) o (startsEarlier G r s) (endsLater G r s) refl refl
       go (r ∷ q ∷ rs) e =
           let (i, j, a, b, u, v) = two-of p noPassage S e in
           record {
@@ -166,56 +191,52 @@ module _ (T : Table) (S : List Passage) (wins : Windows S) (s : Passage) (m : s 
 
 -- ## No two of them are said of one send
 
-module _ (T : Table) (S : List Passage) (s : Passage) where
-  -- the window that alone hears it
-  well-alone : (h : Heard T S s) → Alone T S s (h .index)
-  well-alone h = record { there = h .there; hears = h .hears; alone = h .alone }
-
+module _ (G : ℕ) (T : Table) (S : List Passage) (s : Passage) where
   -- where one alone hears it, it is not heard by none ..
-  not-nobody : {i : ℕ} → Alone T S s i → Says T S s Nobody → ⊥
+  not-nobody : {i : ℕ} → Alone G T S s i → Says G T S s Nobody → ⊥
   not-nobody {i} a n = n i (a .there) (a .hears)
 
   -- .. nor twice
-  not-twice : {i : ℕ} → Alone T S s i → HeardTwice T S s → ⊥
+  not-twice : {i : ℕ} → Alone G T S s i → HeardTwice G T S s → ⊥
   not-twice a t =
       omega (arith, t .apart, t .there, a .alone (t .one) (omega (arith, t .apart, t .there)) (t .hearsOne), a .alone (t .other) (t .there) (t .hearsOther))
 
   -- none is not two
-  not-both : Says T S s Nobody → HeardTwice T S s → ⊥
+  not-both : Says G T S s Nobody → HeardTwice G T S s → ⊥
   not-both n t = n (t .other) (t .there) (t .hearsOther)
 
   -- two that alone hear it are one
-  same-one : {i j : ℕ} → Alone T S s i → Alone T S s j → i ≡ j
+  same-one : {i j : ℕ} → Alone G T S s i → Alone G T S s j → i ≡ j
   same-one {i} a b = b .alone i (a .there) (a .hears)
 
   -- well heard, it is not late ..
-  not-late : Heard T S s → StartsLate T S s → ⊥
+  not-late : HeardWell G T S s → StartsLate G T S s → ⊥
   not-late h l =
-      omega (arith, subst (λ (k : ℕ). passageAt S k .ready < s .ready) (same-one (well-alone h) (l .single)) (h .earlier), l .late)
+      omega (arith, subst (λ (k : ℕ). passageAt S k .ready + G < s .ready) (same-one (h .single) (l .single)) (h .earlier), l .late)
 
   -- .. and does not end too soon
-  not-soon : Heard T S s → EndsSoon T S s → ⊥
+  not-soon : HeardWell G T S s → EndsSoon G T S s → ⊥
   not-soon h e =
-      omega (arith, subst (λ (k : ℕ). s .end < passageAt S k .end) (same-one (well-alone h) (e .single)) (h .later), e .soon)
+      omega (arith, subst (λ (k : ℕ). s .end + G < passageAt S k .end) (same-one (h .single) (e .single)) (h .later), e .soon)
 
   -- late is not early enough
-  not-early : StartsLate T S s → EndsSoon T S s → ⊥
+  not-early : StartsLate G T S s → EndsSoon G T S s → ⊥
   not-early l e =
-      omega (arith, subst (λ (k : ℕ). s .ready ≤ passageAt S k .ready) (same-one (l .single) (e .single)) (l .late), e .early)
+      omega (arith, subst (λ (k : ℕ). s .ready ≤ passageAt S k .ready + G) (same-one (l .single) (e .single)) (l .late), e .early)
 
   -- one answer alone is said of a send
-  pub hearing-only : (h k : Hearing) → Says T S s h → Says T S s k → h ≡ k
+  pub hearing-only : (h k : Hearing) → Says G T S s h → Says G T S s k → h ≡ k
   hearing-only Well Well a b = refl
-  hearing-only Well Nobody a b = absurd (not-nobody (well-alone a) b)
-  hearing-only Well Several a b = absurd (not-twice (well-alone a) b)
+  hearing-only Well Nobody a b = absurd (not-nobody (a .single) b)
+  hearing-only Well Several a b = absurd (not-twice (a .single) b)
   hearing-only Well LateStart a b = absurd (not-late a b)
   hearing-only Well EarlyEnd a b = absurd (not-soon a b)
-  hearing-only Nobody Well a b = absurd (not-nobody (well-alone b) a)
+  hearing-only Nobody Well a b = absurd (not-nobody (b .single) a)
   hearing-only Nobody Nobody a b = refl
   hearing-only Nobody Several a b = absurd (not-both a b)
   hearing-only Nobody LateStart a b = absurd (not-nobody (b .single) a)
   hearing-only Nobody EarlyEnd a b = absurd (not-nobody (b .single) a)
-  hearing-only Several Well a b = absurd (not-twice (well-alone b) a)
+  hearing-only Several Well a b = absurd (not-twice (b .single) a)
   hearing-only Several Nobody a b = absurd (not-both b a)
   hearing-only Several Several a b = refl
   hearing-only Several LateStart a b = absurd (not-twice (b .single) a)
@@ -268,20 +289,20 @@ not-others EarlyEnd = (λ e. omega (arith, e), λ e. omega (arith, e))
 refused-same : {A : Type 0} {n m c d : ℕ} → _≡_ {A = Answer A} (refused n c) (refused m d) → (n ≡ m) × (c ≡ d)
 refused-same e = (cc, cc)
 
-module _ (T : Table) (H : ℕ) (S : List Passage) (wins : Windows S) where
+module _ (G : ℕ) (T : Table) (H : ℕ) (S : List Passage) (wins : Windows S) where
   -- a passage by its number is said to be heard as it is
-  says-at : (i : ℕ) → i < length S → Says T S (passageAt S i) (heardAs T S (passageAt S i))
-  says-at i u = hearing-is T S wins (passageAt S i) (in-at noPassage S i u)
+  says-at : (i : ℕ) → i < length S → Says G T S (passageAt S i) (heardAs G T S (passageAt S i))
+  says-at i u = hearing-is G T S wins (passageAt S i) (in-at noPassage S i u)
 
   -- what is said of it is how it is heard
-  said-at : (i : ℕ) → i < length S → (h : Hearing) → Says T S (passageAt S i) h → heardAs T S (passageAt S i) ≡ h
-  said-at i u h a = hearing-only T S (passageAt S i) (heardAs T S (passageAt S i)) h (says-at i u) a
+  said-at : (i : ℕ) → i < length S → (h : Hearing) → Says G T S (passageAt S i) h → heardAs G T S (passageAt S i) ≡ h
+  said-at i u h a = hearing-only G T S (passageAt S i) (heardAs G T S (passageAt S i)) h (says-at i u) a
 
   -- sends before the first at fault are heard well
-  well-at : (j : ℕ) → j < length S → unheard T H S (passageAt S j) ≡ false → isSend T H (passageAt S j) ≡ true → Heard T S (passageAt S j)
-  well-at j u f e = go (heardAs T S (passageAt S j)) (says-at j u) (λ k. clash (sym f ∙ unheard-is T H S (passageAt S j) .1 (e, k)))
+  well-at : (j : ℕ) → j < length S → unheard G T H S (passageAt S j) ≡ false → isSend T H (passageAt S j) ≡ true → HeardWell G T S (passageAt S j)
+  well-at j u f e = go (heardAs G T S (passageAt S j)) (says-at j u) (λ k. clash (sym f ∙ unheard-is G T H S (passageAt S j) .1 (e, k)))
     where
-      go : (h : Hearing) → Says T S (passageAt S j) h → (isWell h ≡ false → ⊥) → Heard T S (passageAt S j)
+      go : (h : Hearing) → Says G T S (passageAt S j) h → (isWell h ≡ false → ⊥) → HeardWell G T S (passageAt S j)
       go Well a k = a
       go Nobody a k = absurd (k refl)
       go Several a k = absurd (k refl)
@@ -289,58 +310,58 @@ module _ (T : Table) (H : ℕ) (S : List Passage) (wins : Windows S) where
       go EarlyEnd a k = absurd (k refl)
 
   -- the first send that 11 finds at fault is the first with a fault, by ticks
-  found-is : (h : Hearing) → isWell h ≡ false → first (collides T H S) S ≡ none → (s : Passage)
-      → ((first (unheard T H S) S ≡ some s) × (heardAs T S s ≡ h)) ↔ ((i : ℕ) × FirstAtFault T H S h i × (passageAt S i ≡ s))
+  found-is : (h : Hearing) → isWell h ≡ false → first (collides G T H S) S ≡ none → (s : Passage)
+      → ((first (unheard G T H S) S ≡ some s) × (heardAs G T S s ≡ h)) ↔ ((i : ℕ) × FirstAtFault G T H S h i × (passageAt S i ≡ s))
   found-is h fault none-meet s = (to, from)
     where
-      to : (first (unheard T H S) S ≡ some s) × (heardAs T S s ≡ h) → (i : ℕ) × FirstAtFault T H S h i × (passageAt S i ≡ s)
+      to : (first (unheard G T H S) S ≡ some s) × (heardAs G T S s ≡ h) → (i : ℕ) × FirstAtFault G T H S h i × (passageAt S i ≡ s)
       to (e, q) =
-          let (i, u, f, t, k) = first-at (unheard T H S) noPassage S e in
-          let sent = unheard-is T H S s .0 t in
-          let heard : heardAs T S (passageAt S i) ≡ h = ap (heardAs T S) f ∙ q in (
+          let (i, u, f, t, k) = first-at (unheard G T H S) noPassage S e in
+          let sent = unheard-is G T H S s .0 t in
+          let heard : heardAs G T S (passageAt S i) ≡ h = ap (heardAs G T S) f ∙ q in (
             i,
             record {
               apart = none-meet;
               there = u;
               before = λ j v. well-at j (omega arith) (k j v);
               sends = ap (isSend T H) f ∙ sent .0;
-              says = subst (Says T S (passageAt S i)) heard (says-at i u);
+              says = subst (Says G T S (passageAt S i)) heard (says-at i u);
             },
             f,
           )
 
-      from : (i : ℕ) × FirstAtFault T H S h i × (passageAt S i ≡ s) → (first (unheard T H S) S ≡ some s) × (heardAs T S s ≡ h)
+      from : (i : ℕ) × FirstAtFault G T H S h i × (passageAt S i ≡ s) → (first (unheard G T H S) S ≡ some s) × (heardAs G T S s ≡ h)
       from (i, a, f) =
-          let heard : heardAs T S (passageAt S i) ≡ h = said-at i (a .there) h (a .says) in
-          let here-fault : unheard T H S (passageAt S i) ≡ true = unheard-is T H S (passageAt S i) .1 (a .sends, ap isWell heard ∙ fault) in
-          let none-before : (j : ℕ) → j < i → unheard T H S (passageAt S j) ≡ false = λ j v.
-          not-true-is (unheard T H S (passageAt S j)) .1 (λ e.
-          let k = unheard-is T H S (passageAt S j) .0 e in
+          let heard : heardAs G T S (passageAt S i) ≡ h = said-at i (a .there) h (a .says) in
+          let here-fault : unheard G T H S (passageAt S i) ≡ true = unheard-is G T H S (passageAt S i) .1 (a .sends, ap isWell heard ∙ fault) in
+          let none-before : (j : ℕ) → j < i → unheard G T H S (passageAt S j) ≡ false = λ j v.
+          not-true-is (unheard G T H S (passageAt S j)) .1 (λ e.
+          let k = unheard-is G T H S (passageAt S j) .0 e in
           let w = said-at j (omega (arith, a .there)) Well (a .before j v (k .0)) in
           clash (sym (k .1) ∙ ap isWell w)) in
-          (at-first (unheard T H S) noPassage S i (a .there) here-fault none-before ∙ ap some f, ap (heardAs T S) (sym f) ∙ heard)
+          (at-first (unheard G T H S) noPassage S i (a .there) here-fault none-before ∙ ap some f, ap (heardAs G T S) (sym f) ∙ heard)
 
   -- 11 exactly if the first send at fault is heard by nobody, 15 if by several, 16 if its listener starts late, 17 if it ends too soon
   pub refused-is : (h : Hearing) → isWell h ≡ false → (c : ℕ)
-      → (checked T H S ≡ refused (hearingNumber h) c) ↔ ((i : ℕ) × FirstAtFault T H S h i × (passageAt S i .component ≡ c))
+      → (checked G T H S ≡ refused (hearingNumber h) c) ↔ ((i : ℕ) × FirstAtFault G T H S h i × (passageAt S i .component ≡ c))
   unfolding checked
-  refused-is h fault c = (to (first (collides T H S) S) refl (first (unheard T H S) S) refl (first (crowded T H S) S), from)
+  refused-is h fault c = (to (first (collides G T H S) S) refl (first (unheard G T H S) S) refl (first (crowded G T H S) S), from)
     where
       Told : Type 0
-      Told = (i : ℕ) × FirstAtFault T H S h i × (passageAt S i .component ≡ c)
+      Told = (i : ℕ) × FirstAtFault G T H S h i × (passageAt S i .component ≡ c)
 
-      to : (a : Option Passage) → first (collides T H S) S ≡ a → (b : Option Passage) → first (unheard T H S) S ≡ b → (d : Option Passage)
-          → faultOf 10 a (faultBy (unheardNumber T S) b (faultOf 12 d (accepted S))) ≡ refused (hearingNumber h) c → Told
+      to : (a : Option Passage) → first (collides G T H S) S ≡ a → (b : Option Passage) → first (unheard G T H S) S ≡ b → (d : Option Passage)
+          → faultOf 10 a (faultBy (unheardNumber G T S) b (faultOf 12 d (accepted S))) ≡ refused (hearingNumber h) c → Told
       to (some v) f b g d e = absurd (not-others h .0 (sym (refused-same e .0)))
       to none f (some s) g d e =
           let k = refused-same e in
-          let (i, a, q) = found-is h fault f s .0 (g, numbers-apart (heardAs T S s) h (k .0)) in
+          let (i, a, q) = found-is h fault f s .0 (g, numbers-apart (heardAs G T S s) h (k .0)) in
           (i, a, ap (λ (v : Passage). v .component) q ∙ k .1)
       to none f none g (some v) e = absurd (not-others h .1 (sym (refused-same e .0)))
       to none f none g none e = refused-clash (hearingNumber h) c S (sym e)
 
-      from : Told → checked T H S ≡ refused (hearingNumber h) c
+      from : Told → checked G T H S ≡ refused (hearingNumber h) c
       from (i, a, q) =
           let k = found-is h fault (a .apart) (passageAt S i) .1 (i, a, refl) in
-          let number : unheardNumber T S (passageAt S i) ≡ hearingNumber h = ap hearingNumber (k .1) in
+          let number : unheardNumber G T S (passageAt S i) ≡ hearingNumber h = ap hearingNumber (k .1) in
           rw (a .apart, k .0) (ap₂ {C = Answer (List Passage)} (λ (n d : ℕ). refused n d) number q)

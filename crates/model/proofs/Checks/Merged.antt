@@ -42,25 +42,25 @@ as-fault EarlyEnd e = refl
 -- ## Checks 10 to 12
 
 -- the questions 10 to 12 as they stand, with any first question, and with one number for all four faults
-pub merged-faults : (T : Table) (H : ℕ) (S : List Passage) (a : Option Passage)
-    → merged (faultOf 10 a (faultBy (unheardNumber T S) (first (unheard T H S) S) (faultOf 12 (first (crowded T H S) S) (accepted S))))
-    ≡ faultOf 10 a (faultOf 11 (first (unheard T H S) S) (faultOf 12 (first (crowded T H S) S) (accepted S)))
-merged-faults T H S a = go a (first (unheard T H S) S) (λ s e. told s (first-some (unheard T H S) S e .1)) (first (crowded T H S) S)
+pub merged-faults : (G : ℕ) (T : Table) (H : ℕ) (S : List Passage) (a : Option Passage)
+    → merged (faultOf 10 a (faultBy (unheardNumber G T S) (first (unheard G T H S) S) (faultOf 12 (first (crowded G T H S) S) (accepted S))))
+    ≡ faultOf 10 a (faultOf 11 (first (unheard G T H S) S) (faultOf 12 (first (crowded G T H S) S) (accepted S)))
+merged-faults G T H S a = go a (first (unheard G T H S) S) (λ s e. told s (first-some (unheard G T H S) S e .1)) (first (crowded G T H S) S)
   where
-    told : (s : Passage) → unheard T H S s ≡ true → asEleven (unheardNumber T S s) ≡ 11
-    told s e = as-fault (heardAs T S s) (unheard-is T H S s .0 e .1)
+    told : (s : Passage) → unheard G T H S s ≡ true → asEleven (unheardNumber G T S s) ≡ 11
+    told s e = as-fault (heardAs G T S s) (unheard-is G T H S s .0 e .1)
 
-    go : (a b : Option Passage) → ((s : Passage) → b ≡ some s → asEleven (unheardNumber T S s) ≡ 11) → (d : Option Passage)
-        → merged (faultOf 10 a (faultBy (unheardNumber T S) b (faultOf 12 d (accepted S)))) ≡ faultOf 10 a (faultOf 11 b (faultOf 12 d (accepted S)))
+    go : (a b : Option Passage) → ((s : Passage) → b ≡ some s → asEleven (unheardNumber G T S s) ≡ 11) → (d : Option Passage)
+        → merged (faultOf 10 a (faultBy (unheardNumber G T S) b (faultOf 12 d (accepted S)))) ≡ faultOf 10 a (faultOf 11 b (faultOf 12 d (accepted S)))
     go (some v) b f d = refl
     go none (some s) f d = ap {B = Answer (List Passage)} (λ n. refused n (s .component)) (f s refl)
     go none none f (some v) = refl
     go none none f none = refl
 
 -- the same number up to the four, of the same component
-pub same-answer : (T : Table) (H : ℕ) (S : List Passage) → merged (checked T H S) ≡ checkedAs11 T H S
+pub same-answer : (G : ℕ) (T : Table) (H : ℕ) (S : List Passage) → merged (checked G T H S) ≡ checkedAs11 G T H S
 unfolding checked checkedAs11
-same-answer T H S = merged-faults T H S (first (collides T H S) S)
+same-answer G T H S = merged-faults G T H S (first (collides G T H S) S)
 
 -- an answer is an acceptance exactly if it is one as read
 pub accepts-merged : {A : Type 0} (a : Answer A) (x : A) → (a ≡ accepted x) ↔ (merged a ≡ accepted x)
@@ -71,10 +71,10 @@ accepts-merged (refused n c) x = (
 )
 
 -- so the same schedules are accepted
-pub same-accepted : (T : Table) (H : ℕ) (S S′ : List Passage) → (checked T H S ≡ accepted S′) ↔ (checkedAs11 T H S ≡ accepted S′)
-same-accepted T H S S′ =
-    let h = accepts-merged (checked T H S) S′ in
-    (λ e. sym (same-answer T H S) ∙ h .0 e, λ e. h .1 (same-answer T H S ∙ e))
+pub same-accepted : (G : ℕ) (T : Table) (H : ℕ) (S S′ : List Passage) → (checked G T H S ≡ accepted S′) ↔ (checkedAs11 G T H S ≡ accepted S′)
+same-accepted G T H S S′ =
+    let h = accepts-merged (checked G T H S) S′ in
+    (λ e. sym (same-answer G T H S) ∙ h .0 e, λ e. h .1 (same-answer G T H S ∙ e))
 
 -- ## 1 to 12
 
@@ -85,14 +85,14 @@ after-merged most u (accepted x) f g h k = k x refl
 after-merged most u (refused n c) f g h k = ap {B = Answer _} (λ m. refused m c) (as-below n (omega (arith, h)))
 
 -- 7 to 12, whatever 10 to 12 asked
-pub schedule-merged : (t : Read) (earlier : List Passage → Answer (List Passage)) → ((S : List Passage) → merged (checked (t .table) (t .horizon) S) ≡ earlier S)
+pub schedule-merged : (t : Read) (earlier : List Passage → Answer (List Passage)) → ((S : List Passage) → merged (checked 0 (t .table) (t .horizon) S) ≡ earlier S)
     → merged (acceptedScheduleOf t) ≡ (schedule limit (t .table) (t .horizon) after earlier)
 unfolding acceptedSchedule
 schedule-merged t earlier h =
-    after-merged 9 (omega arith) (schedule limit (t .table) (t .horizon)) (checked (t .table) (t .horizon)) earlier (schedule-up-to limit (t .table) (t .horizon)) (λ S e. h S)
+    after-merged 9 (omega arith) (schedule limit (t .table) (t .horizon)) (checked 0 (t .table) (t .horizon)) earlier (schedule-up-to limit (t .table) (t .horizon)) (λ S e. h S)
 
 pub same-schedule-as-11 : (t : Read) → merged (acceptedScheduleOf t) ≡ acceptedScheduleAs11 t
-same-schedule-as-11 t = schedule-merged t (checkedAs11 (t .table) (t .horizon)) (same-answer (t .table) (t .horizon))
+same-schedule-as-11 t = schedule-merged t (checkedAs11 0 (t .table) (t .horizon)) (same-answer 0 (t .table) (t .horizon))
 
 -- 1 to 12
 pub read-merged : {A : Type 0} (bs : List ℕ) (f g : Read → Answer A) → ((t : Read) → readTable bs ≡ accepted t → merged (f t) ≡ g t)

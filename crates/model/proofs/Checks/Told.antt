@@ -48,7 +48,7 @@ was-refused {A} (refused m d) {n} {c} e =
 abbrev pub ToldOf : List ℕ → Hearing → ℕ → Type 0
 ToldOf bytes h c =
     (t : Read) × (S : List Passage) × (i : ℕ) × (readTable bytes ≡ accepted t) × (schedule limit (t .table) (t .horizon) ≡ accepted S)
-    × FirstAtFault (t .table) (t .horizon) S h i
+    × FirstAtFault 0 (t .table) (t .horizon) S h i
     × (passageAt S i .component ≡ c)
 
 pub told-is : (bytes : List ℕ) (h : Hearing) → isWell h ≡ false → (c : ℕ) → (checkCall bytes ≡ Refused (hearingNumber h) c) ↔ ToldOf bytes h c
@@ -56,19 +56,19 @@ unfolding checkCall acceptedScheduleIn acceptedSchedule
 told-is bytes h fault c = (to, from)
   where
     law : (t : Read) (S : List Passage) → schedule limit (t .table) (t .horizon) ≡ accepted S
-        → (checked (t .table) (t .horizon) S ≡ refused (hearingNumber h) c) ↔ ((i : ℕ) × FirstAtFault (t .table) (t .horizon) S h i × (passageAt S i .component ≡ c))
-    law t S q = refused-is (t .table) (t .horizon) S (windows (is-schedule limit (t .table) (t .horizon) S .0 q)) h fault c
+        → (checked 0 (t .table) (t .horizon) S ≡ refused (hearingNumber h) c) ↔ ((i : ℕ) × FirstAtFault 0 (t .table) (t .horizon) S h i × (passageAt S i .component ≡ c))
+    law t S q = refused-is 0 (t .table) (t .horizon) S (windows (is-schedule limit (t .table) (t .horizon) S .0 q)) h fault c
 
     to : verdictOf (readTable bytes after acceptedScheduleOf) ≡ Refused (hearingNumber h) c → ToldOf bytes h c
     to e =
         let high = above h fault in
         let (t, r, u) = after-refused 6 (readTable bytes) acceptedScheduleOf (read-up-to bytes) (omega (arith, high)) (was-refused (readTable bytes after acceptedScheduleOf) e) in
-        let (S, q, v) = after-refused 9 (schedule limit (t .table) (t .horizon)) (checked (t .table) (t .horizon)) (schedule-up-to limit (t .table) (t .horizon)) high u in
+        let (S, q, v) = after-refused 9 (schedule limit (t .table) (t .horizon)) (checked 0 (t .table) (t .horizon)) (schedule-up-to limit (t .table) (t .horizon)) high u in
         let (i, a, k) = law t S q .0 v in
         (t, S, i, r, q, a, k)
 
     from : ToldOf bytes h c → verdictOf (readTable bytes after acceptedScheduleOf) ≡ Refused (hearingNumber h) c
     from (t, S, i, r, q, a, k) =
         ap (λ (x : Answer Read). verdictOf (x after acceptedScheduleOf)) r
-        ∙ ap (λ (x : Answer (List Passage)). verdictOf (x after checked (t .table) (t .horizon))) q
+        ∙ ap (λ (x : Answer (List Passage)). verdictOf (x after checked 0 (t .table) (t .horizon))) q
         ∙ ap verdictOf (law t S q .1 (i, a, k))

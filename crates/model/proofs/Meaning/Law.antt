@@ -28,7 +28,7 @@ use Rattle.model.proofs.Network.Steps.{sends-only}
 use Rattle.model.proofs.Network.Ways.{leftOn}
 use Rattle.model.proofs.Network.Partners.{component-there, fits-in, heard-message, hears-now}
 use Rattle.model.proofs.Reader.Limits.{read-limits}
-use Rattle.model.proofs.Run.Tied.{Given, given}
+use Rattle.model.proofs.Run.Tied.{Given, given, at-zero}
 use Rattle.model.proofs.Meaning.Path.{sound-start, start-free}
 use Rattle.model.proofs.Meaning.Heard.{steps-within, within-passage, Spoken, heard-from}
 use Rattle.model.proofs.Meaning.Step.{put-same, put-other}
@@ -40,7 +40,7 @@ use Rattle.model.proofs.Meaning.Stays.{pass-put, stepped-put, leads-on,
 free-place : {p : PathPassage} (v : Passage) → p .entry ≡ v .entry → p .waiting ≡ none → p ≡ placeIn v false
 free-place v e f = ap₂ (λ (x : Entry) (o : Option Taken). record { entry = x; waiting = o }) e f
 
-module _ {t : Read} {H : ℕ} {S : List Passage} (G : Given t H S) {path : List Label} {s : State} (O : OnSchedule (t .table) S path s) {a : ℕ} (Z : Sending (t .table) H S path s a) where
+module _ {t : Read} {H : ℕ} {S : List Passage} (G : Given t H S []) {path : List Label} {s : State} (O : OnSchedule (t .table) S path s) {a : ℕ} (Z : Sending (t .table) H S path s a) where
   -- the table
   abbrev T : Table
   T = t .table
@@ -66,8 +66,8 @@ module _ {t : Read} {H : ℕ} {S : List Passage} (G : Given t H S) {path : List 
   channel = subst (λ (c : ℕ). channelOf (arcOf (componentOf T c) (N a .edge)) ≡ some (Z .channel)) (mine .1) (Z .sends)
 
   -- the one receive window that 11 found
-  R : Listener T S (N a)
-  R = heard-law T H S (G .checks) (N a) (mine .0) sends
+  R : Listener 0 T S (N a)
+  R = heard-law 0 T H S (at-zero G) (N a) (mine .0) sends
 
   -- its component
   abbrev b : ℕ
@@ -94,8 +94,8 @@ module _ {t : Read} {H : ℕ} {S : List Passage} (G : Given t H S) {path : List 
       go (inr (inr i)) = absurd (omega (arith, from-entry f, R .earlier, Z .ready, B .before))
 
   -- it hears the sender
-  hears : mayHear T (N b) (N a) ≡ true
-  hears = subst (λ (x : Passage). mayHear T x (N a) ≡ true) is-now (R .hears)
+  hears : mayHear 0 T (N b) (N a) ≡ true
+  hears = subst (λ (x : Passage). mayHear 0 T x (N a) ≡ true) is-now (R .hears)
 
   -- it began before now
   begun : N b .ready ≤ s .tick
@@ -107,17 +107,17 @@ module _ {t : Read} {H : ℕ} {S : List Passage} (G : Given t H S) {path : List 
 
   -- its edge receives
   receives : listens (arcOf (componentOf T b) (N b .edge)) ≡ true
-  receives = subst (λ (c : ℕ). listens (arcOf (componentOf T c) (N b .edge)) ≡ true) (yours .1) (hears-is T (N b) (N a) .0 hears .0)
+  receives = subst (λ (c : ℕ). listens (arcOf (componentOf T c) (N b .edge)) ≡ true) (yours .1) (hears-is 0 T (N b) (N a) .0 hears .0)
 
   -- and names the channel
   named : names (arcOf (componentOf T b) (N b .edge)) (some (Z .channel)) ≡ true
   named =
       subst (λ (c : ℕ). names (arcOf (componentOf T c) (N b .edge)) (some (Z .channel)) ≡ true) (yours .1)
-      (ap (names (passageArc T (N b))) (sym (Z .sends)) ∙ hears-is T (N b) (N a) .0 hears .2)
+      (ap (names (passageArc T (N b))) (sym (Z .sends)) ∙ hears-is 0 T (N b) (N a) .0 hears .2)
 
   -- the two are different
   differ : a ≡ b → ⊥
-  differ e = others-is (N b) (N a) .0 (hears-is T (N b) (N a) .0 hears .1) (yours .1 ∙ (sym e ∙ sym (mine .1)))
+  differ e = others-is (N b) (N a) .0 (hears-is 0 T (N b) (N a) .0 hears .1) (yours .1 ∙ (sym e ∙ sym (mine .1)))
 
   -- ## It has taken nothing
 
@@ -142,9 +142,9 @@ module _ {t : Read} {H : ℕ} {S : List Passage} (G : Given t H S) {path : List 
           let ch : channelOf (arcOf (componentOf T c) (y .edge)) ≡ some (Z .channel) =
           subst (λ (n : ℕ). channelOf (arcOf (componentOf T c) n) ≡ some (Z .channel)) (q .0) (p .channel) in
           let n =
-          hears-now (G .most) T H S (G .sched) (G .checks) (p .at) c b (Z .channel) y (N b) (o .0) (yours .0) (o .1) (yours .1) (p .differ) ch receives named (i .0) (i .1) (j .0) (j .1)
+          hears-now (G .most) T H S (G .sched) (at-zero G) (p .at) c b (Z .channel) y (N b) (o .0) (yours .0) (o .1) (yours .1) (p .differ) ch receives named (i .0) (i .1) (j .0) (j .1)
           (omega (arith, p .before, Z .below)) in
-          single-law T H S (G .checks) (N b) (N a) y (yours .0) (mine .0) (o .0) sends (n .0) hears (n .1)
+          single-law 0 T H S (at-zero G) (N b) (N a) y (yours .0) (mine .0) (o .0) sends (n .0) hears (n .1)
 
       -- so that the two are one
       one : (y : Passage) → y ∈ own c S → N a ≡ y → c ≡ a
@@ -173,7 +173,7 @@ module _ {t : Read} {H : ℕ} {S : List Passage} (G : Given t H S) {path : List 
           q = subst (λ (x : Option Taken). TakenAs x (N b)) e (B .beside .taken)
 
           message : w .message ≡ some (Z .channel)
-          message = q .1 ∙ (heard-message (G .most) T H S (G .sched) (G .checks) (N a) (N b) (mine .0) (yours .0) sends hears ∙ Z .sends)
+          message = q .1 ∙ (heard-message (G .most) T H S (G .sched) (at-zero G) (N a) (N b) (mine .0) (yours .0) sends hears ∙ Z .sends)
 
           listening : listens (arcOf (componentOf T b) (w .edge)) ≡ true
           listening = subst (λ (n : ℕ). listens (arcOf (componentOf T b) n) ≡ true) (sym (q .0)) receives
@@ -219,7 +219,7 @@ module _ {t : Read} {H : ℕ} {S : List Passage} (G : Given t H S) {path : List 
           let o = own-in c S (K .listed) in
           let i = within-passage (K .fits) (K .beside .entry) refl (steps-within (sound G O .since c hc) kc none) in
           let m =
-          hears-now (G .most) T H S (G .sched) (G .checks) (s .tick) a c k (N a) (N c) (mine .0) (o .0) (mine .1) (o .1) n ch li na (Z .ready) (A .before) (i .0) (i .1) (Z .below) in
+          hears-now (G .most) T H S (G .sched) (at-zero G) (s .tick) a c k (N a) (N c) (mine .0) (o .0) (mine .1) (o .1) n ch li na (Z .ready) (A .before) (i .0) (i .1) (Z .below) in
           sym (o .1) ∙ ap (λ (x : Passage). x .component) (R .unique (N c) (o .0) (m .1))
 
   -- ## The path with it
@@ -277,7 +277,7 @@ module _ {t : Read} {H : ℕ} {S : List Passage} (G : Given t H S) {path : List 
       said = sym (A .fits .said (sends-only (arcOf (componentOf T a) (N a .edge)) (Z .channel) channel))
 
       heard : sent ≡ N b .message
-      heard = channel ∙ (sym (Z .sends) ∙ sym (heard-message (G .most) T H S (G .sched) (G .checks) (N a) (N b) (mine .0) (yours .0) sends hears))
+      heard = channel ∙ (sym (Z .sends) ∙ sym (heard-message (G .most) T H S (G .sched) (at-zero G) (N a) (N b) (mine .0) (yours .0) sends hears))
 
       go : (x : Bool) → eqb c b ≡ x → (y : Bool) → eqb c a ≡ y → Kept c (passageIn after c)
       go true q y r =

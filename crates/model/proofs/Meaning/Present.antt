@@ -48,7 +48,7 @@ inside-before {C} {v} now p f e (some w) k i l =
     (subst (λ (x : Entry). Inside C now (record { entry = x; waiting = p .waiting }) (some w)) e i) in
     inl (omega (arith, f .end, a, ap (λ (x : Entry). x .tick) e))
 
-module _ {t : Read} {H : ℕ} {S : List Passage} (G : Given t H S) {path : List Label} {s : State} (O : OnSchedule (t .table) S path s) where
+module _ {t : Read} {H : ℕ} {S : List Passage} (G : Given t H S []) {path : List Label} {s : State} (O : OnSchedule (t .table) S path s) where
   -- the path step by step
   pub steps : Along (t .table) (start (t .table)) path s
   steps = along (t .table) (start (t .table)) path s (O .valid)

@@ -4,7 +4,7 @@ use mathlib.Core.Logic.{_↔_, _⊎_, inl, inr}
 use mathlib.Core.Bool.{Bool, true, false}
 use mathlib.Core.List.{List, _∷_}
 use mathlib.Core.Option.{some}
-use Prim.Native.Nat.{ℕ, _≤_, _<_}
+use Prim.Native.Nat.{ℕ, _+_, _≤_, _<_}
 use native.Mathlib.Omega.{arith}
 use borrow.Author.Tests.{eqb-true, eqb-false, le-leb}
 use lib.Dec.{eqb}
@@ -12,7 +12,7 @@ use Rattle.model.specs.Lists.{_∈_, here, there, accepted}
 use Rattle.model.specs.Table.{Table, size, componentOf, arcOf}
 use Rattle.model.specs.Window.{sends, receives, channelOf, listens}
 use Rattle.model.specs.Schedule.{Passage, passageArc, own, names, others}
-use Rattle.model.specs.Checks.{shareTick, isSend, isReceive, mayHear, checked}
+use Rattle.model.specs.Checks.{near, isSend, isReceive, mayHear, checked}
 use Rattle.model.specs.Chains.{IsSchedule}
 use Rattle.model.proofs.Basics.Bools.{clash}
 use Rattle.model.proofs.Reader.Parts.{some-clash}
@@ -96,7 +96,7 @@ module _ (limit : ℕ) (T : Table) (H : ℕ) (S : List Passage) (sched : IsSched
 
   -- a send below the horizon and a receive that hears it: both are ahead, or neither is
   abbrev pub Paired : (ℕ → List Passage) → Type 0
-  Paired A = (s r : Passage) → s ∈ S → r ∈ S → isSend T H s ≡ true → mayHear T r s ≡ true → (s ∈ A (s .component)) ↔ (r ∈ A (r .component))
+  Paired A = (s r : Passage) → s ∈ S → r ∈ S → isSend T H s ≡ true → mayHear 0 T r s ≡ true → (s ∈ A (s .component)) ↔ (r ∈ A (r .component))
 
   -- so at the start
   pub paired-start : Paired (λ c. own c S)
@@ -104,7 +104,7 @@ module _ (limit : ℕ) (T : Table) (H : ℕ) (S : List Passage) (sched : IsSched
 
   -- so where both of a pair are taken away, or neither is
   pub paired-without : (A B : ℕ → List Passage) {P : Passage → Type 0} → Paired A → Without S A B P
-      → ((s r : Passage) → s ∈ S → r ∈ S → isSend T H s ≡ true → mayHear T r s ≡ true → P s ↔ P r) → Paired B
+      → ((s r : Passage) → s ∈ S → r ∈ S → isSend T H s ≡ true → mayHear 0 T r s ≡ true → P s ↔ P r) → Paired B
   paired-without A B {P} p w both s r ms mr es h = (
     λ i. elim (w .split r mr (p s r ms mr es h .0 (w .back s ms i))) [
       | inl q ↦ absurd (w .gone s ms (both s r ms mr es h .1 q) i)
@@ -116,18 +116,18 @@ module _ (limit : ℕ) (T : Table) (H : ℕ) (S : List Passage) (sched : IsSched
     ],
   )
 
-  module _ (ok : checked T H S ≡ accepted S) where
+  module _ (ok : checked 0 T H S ≡ accepted S) where
     -- the message of a receive that hears a send is a channel
-    pub heard-message : (s r : Passage) → s ∈ S → r ∈ S → isSend T H s ≡ true → mayHear T r s ≡ true → r .message ≡ channelOf (passageArc T s)
+    pub heard-message : (s r : Passage) → s ∈ S → r ∈ S → isSend T H s ≡ true → mayHear 0 T r s ≡ true → r .message ≡ channelOf (passageArc T s)
     heard-message s r ms mr es h =
-        let l = heard-law T H S ok s ms es in
+        let l = heard-law 0 T H S ok s ms es in
         let e : r ≡ l .passage = l .unique r mr h in
-        let early : r .ready < s .ready = subst (λ (x : Passage). x .ready < s .ready) (sym e) (l .earlier) in
-        let late : s .end < r .end = subst (λ (x : Passage). s .end < x .end) (sym e) (l .later) in
-        all-in (sched .messages) mr ∙ message-law T H S windows ok s r ms mr es h early late
+        let early : r .ready < s .ready = omega (arith, l .earlier, ap (λ (x : Passage). x .ready) e) in
+        let late : s .end < r .end = omega (arith, l .later, ap (λ (x : Passage). x .end) e) in
+        all-in (sched .messages) mr ∙ message-law 0 T H S windows ok s r ms mr es h early late
 
     -- a passage whose work is finished alone is in no pair
-    pub alone-unpaired : (τ : ℕ) (v : Passage) → v ∈ S → Alone (componentOf T (v .component)) τ v → (s r : Passage) → s ∈ S → r ∈ S → isSend T H s ≡ true → mayHear T r s ≡ true
+    pub alone-unpaired : (τ : ℕ) (v : Passage) → v ∈ S → Alone (componentOf T (v .component)) τ v → (s r : Passage) → s ∈ S → r ∈ S → isSend T H s ≡ true → mayHear 0 T r s ≡ true
         → (s ≡ v) ↔ (r ≡ v)
     alone-unpaired τ v m a s r ms mr es h = (
       λ e. absurd (not-send a (subst (λ (x : Passage). isSend T H x ≡ true) e es)),
@@ -143,23 +143,23 @@ module _ (limit : ℕ) (T : Table) (H : ℕ) (S : List Passage) (sched : IsSched
 
         not-heard : Alone (componentOf T (v .component)) τ v → r ≡ v → ⊥
         not-heard (internal e) i =
-            let l : listens (passageArc T v) ≡ true = subst (λ (x : Passage). isReceive T x ≡ true) i (hears-is T r s .0 h .0) in
+            let l : listens (passageArc T v) ≡ true = subst (λ (x : Passage). isReceive T x ≡ true) i (hears-is 0 T r s .0 h .0) in
             clash (sym (ap receives e) ∙ l)
         not-heard (timeout e n t) i = some-clash (sym (ap (λ (x : Passage). x .message) (sym i) ∙ heard-message s r ms mr es h ∙ k .1) ∙ n)
 
     -- a send and a receive that finish together are a pair, and in no other
-    pub together-paired : (v w : Passage) → v ∈ S → w ∈ S → isSend T H v ≡ true → mayHear T w v ≡ true
-        → (s r : Passage) → s ∈ S → r ∈ S → isSend T H s ≡ true → mayHear T r s ≡ true → ((s ≡ v) ⊎ (s ≡ w)) ↔ ((r ≡ v) ⊎ (r ≡ w))
+    pub together-paired : (v w : Passage) → v ∈ S → w ∈ S → isSend T H v ≡ true → mayHear 0 T w v ≡ true
+        → (s r : Passage) → s ∈ S → r ∈ S → isSend T H s ≡ true → mayHear 0 T r s ≡ true → ((s ≡ v) ⊎ (s ≡ w)) ↔ ((r ≡ v) ⊎ (r ≡ w))
     together-paired v w mv mw ev hw s r ms mr es h = (
       λ e. elim e [
         | inl i ↦
-            let l = heard-law T H S ok v mv ev in
-            inr (l .unique r mr (subst (λ (x : Passage). mayHear T r x ≡ true) i h) ∙ sym (l .unique w mw hw))
-        | inr i ↦ absurd (not-both w (subst (λ (x : Passage). isSend T H x ≡ true) i es) (hears-is T w v .0 hw .0))
+            let l = heard-law 0 T H S ok v mv ev in
+            inr (l .unique r mr (subst (λ (x : Passage). mayHear 0 T r x ≡ true) i h) ∙ sym (l .unique w mw hw))
+        | inr i ↦ absurd (not-both w (subst (λ (x : Passage). isSend T H x ≡ true) i es) (hears-is 0 T w v .0 hw .0))
       ],
       λ e. elim e [
-        | inl i ↦ absurd (not-both v ev (subst (λ (x : Passage). isReceive T x ≡ true) i (hears-is T r s .0 h .0)))
-        | inr i ↦ inl (single-law T H S ok w s v mw ms mv es ev (subst (λ (x : Passage). mayHear T x s ≡ true) i h) hw)
+        | inl i ↦ absurd (not-both v ev (subst (λ (x : Passage). isReceive T x ≡ true) i (hears-is 0 T r s .0 h .0)))
+        | inr i ↦ inl (single-law 0 T H S ok w s v mw ms mv es ev (subst (λ (x : Passage). mayHear 0 T x s ≡ true) i h) hw)
       ],
     )
       where
@@ -170,13 +170,13 @@ module _ (limit : ℕ) (T : Table) (H : ℕ) (S : List Passage) (sched : IsSched
     pub hears-now : (τ a b k : ℕ) (v w : Passage) → v ∈ S → w ∈ S → v .component ≡ a → w .component ≡ b → (a ≡ b → ⊥)
         → channelOf (arcOf (componentOf T a) (v .edge)) ≡ some k → listens (arcOf (componentOf T b) (w .edge)) ≡ true
         → names (arcOf (componentOf T b) (w .edge)) (some k) ≡ true → v .ready ≤ τ → τ ≤ v .end → w .ready ≤ τ → τ ≤ w .end → τ < H
-        → (isSend T H v ≡ true) × (mayHear T w v ≡ true)
+        → (isSend T H v ≡ true) × (mayHear 0 T w v ≡ true)
     hears-now τ a b k v w mv mw ca cb ne ch li na r₁ e₁ r₂ e₂ below =
         let ch′ : channelOf (passageArc T v) ≡ some k = subst (λ (c : ℕ). channelOf (arcOf (componentOf T c) (v .edge)) ≡ some k) (sym ca) ch in
         let li′ : listens (passageArc T w) ≡ true = subst (λ (c : ℕ). listens (arcOf (componentOf T c) (w .edge)) ≡ true) (sym cb) li in
         let na′ : names (passageArc T w) (some k) ≡ true = subst (λ (c : ℕ). names (arcOf (componentOf T c) (w .edge)) (some k) ≡ true) (sym cb) na in
-        let share : shareTick w v ≡ true = rw (le-leb (w .ready) (v .end) (omega arith), le-leb (v .ready) (w .end) (omega arith)) in
+        let share : near 0 w v ≡ true = rw (le-leb (w .ready) (v .end + 0) (omega arith), le-leb (v .ready) (w .end + 0) (omega arith)) in
         let other : others w v ≡ true = others-is w v .1 (λ e. ne (sym ca ∙ sym e ∙ cb)) in (
           send-is T H v .1 (k, ch′, omega arith),
-          hears-is T w v .1 (li′, other, ap (names (passageArc T w)) ch′ ∙ na′, share),
+          hears-is 0 T w v .1 (li′, other, ap (names (passageArc T w)) ch′ ∙ na′, share),
         )

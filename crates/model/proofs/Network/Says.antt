@@ -2,22 +2,25 @@
 -- Assumes nothing.
 use mathlib.Core.Path.{_≡_, refl, sym, ap, ap₂, subst, _∙_}
 use mathlib.Core.Bool.{Bool, true, false, cond}
-use mathlib.Core.List.{List, [], _∷_, _++_, map, append-nil, append-cancel-right}
+use mathlib.Core.List.{List, [], _∷_, _++_, map}
 use mathlib.Core.Option.{Option, none, some}
-use Prim.Native.Nat.{ℕ, _≤_, _<_}
+use Prim.Native.Nat.{ℕ, suc, _+_, _≤_, _<_}
 use native.Mathlib.Omega.{arith}
 use borrow.Author.Tests.{le-leb}
 use lib.Dec.{leb}
+use lib.ListN.{length, length-append}
 use lib.Seq.{append-snoc}
 use Rattle.model.specs.Lists.{only, All, empty, more}
 use Rattle.model.specs.Table.{Component, Table, size, componentOf}
 use Rattle.model.specs.Schedule.{Passage, own}
 use Rattle.model.specs.Network.{PathPassage, Taken, Label, start, follow, passagesOn, Work, worksOn, Observation, observation, takenOr, observationsOn}
 use Rattle.model.specs.Demand3.{TakenAs, PassAs, SteppedBefore, Begins}
+use Rattle.model.proofs.Basics.Members.{only-append}
+use Rattle.model.proofs.Schedule.Own.{all-then}
 use Rattle.model.proofs.Network.Passage.{Fits, takenOf}
 use Rattle.model.proofs.Network.Links.{Links, first-fits, next-links, next-later}
 use Rattle.model.proofs.Network.Ways.{way-passages}
-use Rattle.model.proofs.Network.Lanes.{Lane, lane, laneAt, place, stateOf, waited, ahead, aheadOf, Good, place-at, at-work}
+use Rattle.model.proofs.Network.Lanes.{Lane, laneAt, place, stateOf, waited, Good, place-at}
 use Rattle.model.proofs.Network.Reached.{Reached, map-append}
 
 -- ## Passages
@@ -69,29 +72,46 @@ one-more C c τ v w e os vs f i h =
     go false = h
 
 -- the observations are those of the passages left and of the present one, if it is ready
-observed-as : {H : ℕ} {C : Component} (c τ : ℕ) (past : List Passage) (K : Lane) (ns : List Passage) → All (λ v. Fits C v × (v .end ≤ τ)) past → Good H C τ K
-    → observationsOn C c τ (passed past K) (map (λ v. v .edge) (past ++ (K .passage ∷ ns))) ≡ map (seen C c) (only (readyBy τ) (past ++ (K .passage ∷ [])))
+observed-as : {H : ℕ} {C : Component} {τ : ℕ} (c t : ℕ) (past : List Passage) (K : Lane) (ns : List Passage) → All (λ v. Fits C v × (v .end ≤ τ)) past → Good H C τ K
+    → observationsOn C c t (passed past K) (map (λ v. v .edge) (past ++ (K .passage ∷ ns))) ≡ map (seen C c) (only (readyBy t) (past ++ (K .passage ∷ [])))
 unfolding observationsOn
-observed-as {C = C} c τ [] K ns empty g =
-    one-more C c τ (K .passage) (place K .waiting) (K .passage .edge) [] [] (first-fits (g .linked)) (edge (K .done)) refl
+observed-as {C = C} c t [] K ns empty g =
+    one-more C c t (K .passage) (place K .waiting) (K .passage .edge) [] [] (first-fits (g .linked)) (edge (K .done)) refl
   where
-    edge : (t : Bool) → takenOr (cond t (some (takenOf (K .passage))) none) (K .passage .edge) ≡ K .passage .edge
+    edge : (b : Bool) → takenOr (cond b (some (takenOf (K .passage))) none) (K .passage .edge) ≡ K .passage .edge
     edge true = refl
     edge false = refl
-observed-as {C = C} c τ (v ∷ past) K ns (more f o) g =
-    one-more C c τ v (some (takenOf v)) (v .edge)
-    (observationsOn C c τ (passed past K) (map (λ v. v .edge) (past ++ (K .passage ∷ ns))))
+observed-as {C = C} c t (v ∷ past) K ns (more f o) g =
+    one-more C c t v (some (takenOf v)) (v .edge)
+    (observationsOn C c t (passed past K) (map (λ v. v .edge) (past ++ (K .passage ∷ ns))))
     (past ++ (K .passage ∷ []))
     (f .0)
     refl
-    (observed-as c τ past K ns o g)
+    (observed-as c t past K ns o g)
 
--- the passages left were all ready
-past-ready : {C : Component} (τ : ℕ) (past : List Passage) (v : Passage) → All (λ w. Fits C w × (w .end ≤ τ)) past
-    → only (readyBy τ) (past ++ (v ∷ [])) ≡ past ++ cond (readyBy τ v) (v ∷ []) []
-past-ready τ [] v empty = refl
-past-ready τ (w ∷ past) v (more f o) =
-    rw (le-leb (w .ready) τ (omega (arith, f .0 .window, f .1))) (ap (λ (l : List Passage). w ∷ l) (past-ready τ past v o))
+-- ## First parts of a list
+
+-- of two first parts the shorter is the first part of the longer
+first-part : {A : Type 0} (xs us ys vs : List A) → xs ++ us ≡ ys ++ vs → length xs ≤ length ys → (zs : List A) × (ys ≡ xs ++ zs)
+first-part [] us ys vs e h = (ys, refl)
+first-part (x ∷ xs) us [] vs e h = absurd (omega arith)
+first-part (x ∷ xs) us (y ∷ ys) vs e h =
+    let i : y ≡ x = cc in
+    let j : xs ++ us ≡ ys ++ vs = cc in
+    let r = first-part xs us ys vs j (omega arith) in
+    (r .0, ap₂ (λ (a : _) (l : List _). a ∷ l) i (r .1))
+
+-- with first parts of one length the rests are the same
+pub same-rest : {A : Type 0} (xs us ys vs : List A) → xs ++ us ≡ ys ++ vs → length xs ≡ length ys → us ≡ vs
+same-rest [] us [] vs e h = e
+same-rest [] us (y ∷ ys) vs e h = absurd (omega arith)
+same-rest (x ∷ xs) us [] vs e h = absurd (omega arith)
+same-rest (x ∷ xs) us (y ∷ ys) vs e h = let j : xs ++ us ≡ ys ++ vs = cc in same-rest xs us ys vs j (omega arith)
+
+-- all of them
+pub only-all : {A : Type 0} (p : A → Bool) {xs : List A} → All (λ x. p x ≡ true) xs → only p xs ≡ xs
+only-all p empty = refl
+only-all p (more {x = x} {xs = xs} e a) = ap (λ (b : Bool). cond b (x ∷ only p xs) (only p xs)) e ∙ ap (λ (l : List _). x ∷ l) (only-all p a)
 
 -- ## The laws
 
@@ -121,64 +141,34 @@ module _ (T : Table) (H : ℕ) (S : List Passage) (p : List Label) (τ : ℕ) (L
       (subst (λ (vs : List Passage). SteppedBefore τ (passed (r .past c) (laneAt L c)) vs) (r .stands c h .whole)
       (stepped-before (r .past c) (laneAt L c) (r .stands c h .good)))
 
-  -- the observations of component c on it, up to its tick
-  abbrev pub shown : ℕ → List Observation
-  shown c = observationsOn (componentOf T c) c τ (passagesOn T c (start T) p) (map (λ v. v .edge) (own c S))
-
-  -- they are the schedule's, of the passages entered so far that are ready
-  pub reached-shown : (c : ℕ) → c < size T → shown c ≡ map (seen (componentOf T c) c) (only (readyBy τ) (r .past c ++ (laneAt L c .passage ∷ [])))
-  reached-shown c h =
-      ap₂ (λ (ps : List PathPassage) (vs : List Passage). observationsOn (componentOf T c) c τ ps (map (λ v. v .edge) vs)) (reached-passages c) (sym (r .stands c h .whole))
-      ∙ observed-as c τ (r .past c) (laneAt L c) (laneAt L c .next) (r .stands c h .over) (r .stands c h .good)
-
-  -- all passages left are among them
-  pub reached-shown-past : (c : ℕ) → c < size T
-      → shown c ≡ map (seen (componentOf T c) c) (r .past c ++ cond (readyBy τ (laneAt L c .passage)) (laneAt L c .passage ∷ []) [])
-  reached-shown-past c h = reached-shown c h ∙ ap (map (seen (componentOf T c) c)) (past-ready τ (r .past c) (laneAt L c .passage) (r .stands c h .over))
-
-  -- the passages whose work is finished are shown first
-  pub reached-shows-finished : (c : ℕ) → c < size T → (fin : List Passage) → fin ++ ahead (laneAt L c) ≡ own c S
-      → Begins (map (seen (componentOf T c) c) fin) (shown c)
-  reached-shows-finished c h fin e = go (K .done) refl e
+  -- up to a tick: passages of the schedule that were ready by then are shown first, if no more than those entered
+  pub reached-shows-first : (c : ℕ) → c < size T → (t : ℕ) (xs us : List Passage) → xs ++ us ≡ own c S → All (λ v. v .ready ≤ t) xs → length xs ≤ suc (length (r .past c))
+      → Begins (map (seen (componentOf T c) c) xs) (observationsOn (componentOf T c) c t (passagesOn T c (start T) p) (map (λ v. v .edge) (own c S)))
+  reached-shows-first c h t xs us e a l =
+      record { rest = map (seen C c) later; is = sym (map-append (seen C c) xs later) ∙ (ap (map (seen C c)) (sym ready) ∙ sym shown) }
     where
-      K : Lane
-      K = laneAt L c
+      C : Component
+      C = componentOf T c
 
-      part : Bool → List Passage
-      part t = cond t (K .passage ∷ []) []
+      -- the passages entered so far
+      ys : List Passage
+      ys = r .past c ++ (laneAt L c .passage ∷ [])
 
-      go : (t : Bool) → K .done ≡ t → fin ++ aheadOf t (K .passage) (K .next) ≡ own c S → Begins (map (seen (componentOf T c) c) fin) (shown c)
-      go true d i =
-          let ready : readyBy τ (K .passage) ≡ true = le-leb (K .passage .ready) τ (r .stands c h .good .begun d) in
-          let same : fin ≡ r .past c ++ (K .passage ∷ []) =
-          append-cancel-right fin (r .past c ++ (K .passage ∷ [])) (K .next) (i ∙ sym (append-snoc (r .past c) (K .passage) (K .next) ∙ r .stands c h .whole)) in
-          record {
-            rest = [];
-            is =
-                append-nil (map (seen (componentOf T c) c) fin)
-                ∙ ap (map (seen (componentOf T c) c)) (same ∙ ap (λ (t : Bool). r .past c ++ part t) (sym ready))
-                ∙ sym (reached-shown-past c h);
-          }
-      go false d i =
-          let same : fin ≡ r .past c = append-cancel-right fin (r .past c) (K .passage ∷ K .next) (i ∙ sym (r .stands c h .whole)) in
-          record {
-            rest = map (seen (componentOf T c) c) (part (readyBy τ (K .passage)));
-            is =
-                ap (λ (x : List Passage). map (seen (componentOf T c) c) x ++ map (seen (componentOf T c) c) (part (readyBy τ (K .passage)))) same
-                ∙ sym (map-append (seen (componentOf T c) c) (r .past c) (part (readyBy τ (K .passage))))
-                ∙ sym (reached-shown-past c h);
-          }
+      whole : ys ++ laneAt L c .next ≡ own c S
+      whole = append-snoc (r .past c) (laneAt L c .passage) (laneAt L c .next) ∙ r .stands c h .whole
 
-  -- so is the first passage ahead, once it is ready
-  pub reached-shows-ready : (c : ℕ) → c < size T → (fin : List Passage) (v : Passage) (vs : List Passage) → ahead (laneAt L c) ≡ v ∷ vs → v .ready ≤ τ
-      → fin ++ (v ∷ vs) ≡ own c S → shown c ≡ map (seen (componentOf T c) c) (fin ++ (v ∷ []))
-  reached-shows-ready c h fin v vs a ready e =
-      let s = r .stands c h in
-      let k : laneAt L c ≡ lane v false vs = at-work (laneAt L c) (s .good) (r .settled c h) v vs a ready in
-      let w : r .past c ++ (v ∷ vs) ≡ own c S = ap (λ (K : Lane). r .past c ++ (K .passage ∷ K .next)) (sym k) ∙ s .whole in
-      let same : r .past c ≡ fin = append-cancel-right (r .past c) fin (v ∷ vs) (w ∙ sym e) in
-      let b : readyBy τ v ≡ true = le-leb (v .ready) τ ready in
-      reached-shown-past c h
-      ∙ ap (λ (K : Lane). map (seen (componentOf T c) c) (r .past c ++ cond (readyBy τ (K .passage)) (K .passage ∷ []) [])) k
-      ∙ ap (λ (t : Bool). map (seen (componentOf T c) c) (r .past c ++ cond t (v ∷ []) [])) b
-      ∙ ap (λ (x : List Passage). map (seen (componentOf T c) c) (x ++ (v ∷ []))) same
+      part : (zs : List Passage) × (ys ≡ xs ++ zs)
+      part = first-part xs us ys (laneAt L c .next) (e ∙ sym whole) (omega (arith, length-append (r .past c) (laneAt L c .passage ∷ [])))
+
+      later : List Passage
+      later = only (readyBy t) (part .0)
+
+      ready : only (readyBy t) ys ≡ xs ++ later
+      ready =
+          ap (only (readyBy t)) (part .1)
+          ∙ (only-append (readyBy t) xs (part .0) ∙ ap (λ (l : List Passage). l ++ later) (only-all (readyBy t) (all-then (λ v i. le-leb (v .ready) t i) a)))
+
+      shown : observationsOn C c t (passagesOn T c (start T) p) (map (λ v. v .edge) (own c S)) ≡ map (seen C c) (only (readyBy t) ys)
+      shown =
+          ap₂ (λ (ps : List PathPassage) (vs : List Passage). observationsOn C c t ps (map (λ v. v .edge) vs)) (reached-passages c) (sym (r .stands c h .whole))
+          ∙ observed-as c t (r .past c) (laneAt L c) (laneAt L c .next) (r .stands c h .over) (r .stands c h .good)

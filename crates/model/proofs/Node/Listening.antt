@@ -15,7 +15,7 @@ use Rattle.model.specs.Window.{Entry, Pick, receives, listens}
 use Rattle.model.specs.Program.{Statement, setTo, addTo, updateOf}
 use Rattle.model.specs.Network.{hearsOn}
 use Rattle.model.specs.Machine.{Node}
-use Rattle.model.specs.Run.{Setting, Stand, sleeping, sending, listening, finishing, adding, working, taking, elsewhere, nowhere, stand, standAt, standOf, names, hears, due}
+use Rattle.model.specs.Run.{Setting, Stand, sleeping, sending, listening, finishing, adding, working, taking, elsewhere, nowhere, stand, standAt, standOf, names, offsetOf, hears, due}
 use Rattle.model.proofs.Basics.Bools.{clash, and-is}
 use Rattle.model.proofs.Node.Choosing.{Asleep, asleep-sleeping}
 use Rattle.model.proofs.Node.Working.{Doing, updating, toSend, toListen, Working}
@@ -141,22 +141,22 @@ names-internal c taking e = refl
 names-internal c elsewhere e = refl
 names-internal c nowhere e = refl
 
--- what it means that node r hears the sender on channel c
-pub record Hearing (C : Component) (i : ℕ) (at : Entry) (r : Node) (c : ℕ) (sender : Node) : Type 0 where
+-- what it means that node n, r, hears on channel c a sender whose window began at that common tick
+pub record Hearing (g : Setting) (C : Component) (i : ℕ) (at : Entry) (n : ℕ) (r : Node) (c since : ℕ) : Type 0 where
   pub pick : Pick
   pub atWork : Working C i at pick r
   pub action : listens (arcOf C (pick .edge)) ≡ true
   pub named : any (λ q. eqb (q .channel) c) (arcOf C (pick .edge) .pairs) ≡ true
-  pub began : at .tick + pick .ready ≤ sender .t
+  pub began : at .tick + pick .ready + offsetOf g n ≤ since
 
-module _ {C : Component} {i : ℕ} {at : Entry} {r : Node} (c : ℕ) (sender : Node) where
+module _ (s : Setting) {C : Component} {i : ℕ} {at : Entry} {r : Node} (c since n : ℕ) where
   -- on the way to a sleep it hears nothing
-  pub heading-hears : Heading C i at r → hears c sender r ≡ false
-  heading-hears g = ap (λ (t : Bool). t && isNone (r .goes) && leb (r .t) (sender .t)) (names-way c (standOf r) (heading-stand g))
+  pub heading-hears : Heading C i at r → hears s c since n r ≡ false
+  heading-hears g = ap (λ (t : Bool). t && isNone (r .goes) && leb (r .t + offsetOf s n) since) (names-way c (standOf r) (heading-stand g))
 
   -- nor asleep
-  pub asleep-hears : {k : Pick} → Asleep C i at k r → hears c sender r ≡ false
-  asleep-hears g = ap (λ (t : Bool). t && isNone (r .goes) && leb (r .t) (sender .t)) (ap (names c) (asleep-sleeping g))
+  pub asleep-hears : {k : Pick} → Asleep C i at k r → hears s c since n r ≡ false
+  asleep-hears g = ap (λ (t : Bool). t && isNone (r .goes) && leb (r .t + offsetOf s n) since) (ap (names c) (asleep-sleeping g))
 
   working-names : {k : Pick} → Working C i at k r → names c (standOf r) ≡ hearsOn (arcOf C (k .edge)) (some c)
   working-names {k} g = go (actionOf C k) (working-as g)
@@ -167,21 +167,21 @@ module _ {C : Component} {i : ℕ} {at : Entry} {r : Node} (c : ℕ) (sender : N
       go Receive e = ap (names c) e
 
   -- at work it hears a sender on the channels of its receive edge, one whose ready is its own or later
-  pub working-hears : {k : Pick} → Working C i at k r → hears c sender r ≡ hearsOn (arcOf C (k .edge)) (some c) && leb (at .tick + k .ready) (sender .t)
+  pub working-hears : {k : Pick} → Working C i at k r → hears s c since n r ≡ hearsOn (arcOf C (k .edge)) (some c) && leb (at .tick + k .ready + offsetOf s n) since
   working-hears {k} g =
-      ap (λ (t : Bool). t && isNone (r .goes) && leb (r .t) (sender .t)) (working-names g)
-      ∙ (ap (λ (o : Option ℕ). named && isNone o && leb (r .t) (sender .t)) (g .goes)
-      ∙ (ap (λ (t : Bool). t && leb (r .t) (sender .t)) (and-true named)
-      ∙ ap (λ (n : ℕ). named && leb n (sender .t)) (g .t)))
+      ap (λ (t : Bool). t && isNone (r .goes) && leb (r .t + offsetOf s n) since) (working-names g)
+      ∙ (ap (λ (o : Option ℕ). named && isNone o && leb (r .t + offsetOf s n) since) (g .goes)
+      ∙ (ap (λ (t : Bool). t && leb (r .t + offsetOf s n) since) (and-true named)
+      ∙ ap (λ (m : ℕ). named && leb (m + offsetOf s n) since) (g .t)))
     where
       named : Bool
       named = hearsOn (arcOf C (k .edge)) (some c)
 
   -- a node that hears is at work on a receive edge that names the channel
-  pub phase-hears : Phase C i at r → hears c sender r ≡ true → Hearing C i at r c sender
+  pub phase-hears : Phase C i at r → hears s c since n r ≡ true → Hearing s C i at n r c since
   phase-hears (isHeading g) e = clash (sym (heading-hears g) ∙ e)
   phase-hears (isAsleep k g) e = clash (sym (asleep-hears g) ∙ e)
   phase-hears (isWorking k g) e =
-      let h = and-is (hearsOn (arcOf C (k .edge)) (some c)) (leb (at .tick + k .ready) (sender .t)) .0 (sym (working-hears g) ∙ e) in
-      let n = and-is (listens (arcOf C (k .edge))) (any (λ q. eqb (q .channel) c) (arcOf C (k .edge) .pairs)) .0 (h .0) in
-      record { pick = k; atWork = g; action = n .0; named = n .1; began = leb-true (at .tick + k .ready) (sender .t) (h .1) }
+      let h = and-is (hearsOn (arcOf C (k .edge)) (some c)) (leb (at .tick + k .ready + offsetOf s n) since) .0 (sym (working-hears g) ∙ e) in
+      let m = and-is (listens (arcOf C (k .edge))) (any (λ q. eqb (q .channel) c) (arcOf C (k .edge) .pairs)) .0 (h .0) in
+      record { pick = k; atWork = g; action = m .0; named = m .1; began = leb-true (at .tick + k .ready + offsetOf s n) since (h .1) }

@@ -12,21 +12,21 @@ use Rattle.model.specs.Lists.{isNone}
 use Rattle.model.specs.Table.{Component}
 use Rattle.model.specs.Limits.{ComponentIn}
 use Rattle.model.specs.Window.{Entry, Pick, choice}
-use Rattle.model.specs.Run.{Setting, Run, forbidden, on, Stand, sleeping, sending, listening, finishing, adding, working, taking, elsewhere, nowhere, standOf, nodeOf, windowEnd, listeners, sent, finishes}
+use Rattle.model.specs.Run.{Setting, ownTick, Run, forbidden, on, Stand, sleeping, sending, listening, finishing, adding, working, taking, elsewhere, nowhere, standOf, nodeOf, windowEnd, listeners, sent, finishes}
 use Rattle.model.proofs.Node.Choosing.{Coded, Asleep}
 use Rattle.model.proofs.Node.Working.{Working}
 use Rattle.model.proofs.Node.Phase.{Heading, Phase, AtStand, phase-at, actionOf}
 
 -- why the choice of node c is not allowed in state s
-pub data NotAllowed (C : Component) (i : ℕ) (at : Entry) (s : Run) (c : ℕ) : Type 0 where
+pub data NotAllowed (g : Setting) (C : Component) (i : ℕ) (at : Entry) (s : Run) (c : ℕ) : Type 0 where
   -- "sleep unless the tick is t"
-  earlySleep : (k : Pick) → Asleep C i at k (nodeOf s c) → eqb (s .tick) (nodeOf s c .t) ≡ false → NotAllowed C i at s c
+  earlySleep : (k : Pick) → Asleep C i at k (nodeOf s c) → eqb (ownTick g c (s .tick)) (nodeOf s c .t) ≡ false → NotAllowed g C i at s c
   -- "a listen unless its window ends now"
-  earlyListen : (k : Pick) → Working C i at k (nodeOf s c) → actionOf C k ≡ Receive → eqb (s .tick) (windowEnd (nodeOf s c)) ≡ false → NotAllowed C i at s c
+  earlyListen : (k : Pick) → Working C i at k (nodeOf s c) → actionOf C k ≡ Receive → eqb (ownTick g c (s .tick)) (windowEnd (nodeOf s c)) ≡ false → NotAllowed g C i at s c
   -- "a take with nothing kept": the schedule finds no edge there
-  nothingKept : Heading C i at (nodeOf s c) → standOf (nodeOf s c) ≡ taking → choice C at ≡ none → NotAllowed C i at s c
+  nothingKept : Heading C i at (nodeOf s c) → standOf (nodeOf s c) ≡ taking → choice C at ≡ none → NotAllowed g C i at s c
   -- "a send without a listener"
-  unheard : (k : Pick) (a : ℕ) → Working C i at k (nodeOf s c) → actionOf C k ≡ Send a → listeners s c a ≡ [] → NotAllowed C i at s c
+  unheard : (k : Pick) (a : ℕ) → Working C i at k (nodeOf s c) → actionOf C k ≡ Send a → listeners g s c a ≡ [] → NotAllowed g C i at s c
 
 on-clash : {A : Type 0} (s : Run) → on s ≡ forbidden → A
 on-clash s e = absurd (let z : _≡_ {A = ℕ} 0 1 = cc in omega arith)
@@ -51,13 +51,13 @@ nobody g s c k (i ∷ is) e = on-clash _ e
 
 -- a node's choice that is not allowed
 pub not-allowed : {p : List ℕ} {channels : ℕ} {C : Component} {i : ℕ} {at : Entry} (g : Setting) (s : Run) (c : ℕ) → Coded p C → ComponentIn channels C
-    → Phase C i at (nodeOf s c) → finishes g s c (standOf (nodeOf s c)) ≡ forbidden → NotAllowed C i at s c
+    → Phase C i at (nodeOf s c) → finishes g s c (standOf (nodeOf s c)) ≡ forbidden → NotAllowed g C i at s c
 not-allowed {p} {channels} {C} {i} {at} g s c coded fits phase e = go (standOf (nodeOf s c)) refl (phase-at coded fits phase) e
   where
-    go : (x : Stand) → standOf (nodeOf s c) ≡ x → AtStand p C i at (nodeOf s c) x → finishes g s c x ≡ forbidden → NotAllowed C i at s c
-    go sleeping q h e = earlySleep (h .pick) (h .asleep) (test-fails (eqb (s .tick) (nodeOf s c .t)) _ e)
-    go (sending a) q h e = unheard (h .pick) a (h .atWork) (h .action) (nobody g s c a (listeners s c a) e)
-    go (listening qs) q h e = earlyListen (h .pick) (h .atWork) (h .action) (test-fails (eqb (s .tick) (windowEnd (nodeOf s c))) _ e)
+    go : (x : Stand) → standOf (nodeOf s c) ≡ x → AtStand p C i at (nodeOf s c) x → finishes g s c x ≡ forbidden → NotAllowed g C i at s c
+    go sleeping q h e = earlySleep (h .pick) (h .asleep) (test-fails (eqb (ownTick g c (s .tick)) (nodeOf s c .t)) _ e)
+    go (sending a) q h e = unheard (h .pick) a (h .atWork) (h .action) (nobody g s c a (listeners g s c a) e)
+    go (listening qs) q h e = earlyListen (h .pick) (h .atWork) (h .action) (test-fails (eqb (ownTick g c (s .tick)) (windowEnd (nodeOf s c))) _ e)
     go finishing q h e = on-clash _ e
     go (adding v z) q h e = on-clash _ (rw (h .ranged) at e)
     go working q h e = on-clash _ e

@@ -12,7 +12,7 @@ use Rattle.model.specs.Table.{Component, Read}
 use Rattle.model.specs.Window.{Entry, Pick}
 use Rattle.model.specs.Schedule.{Passage, own}
 use Rattle.model.specs.Machine.{Node}
-use Rattle.model.specs.Run.{Setting, settingOf, readyOfNth, taking, standOf, windowEnd, overdue, late}
+use Rattle.model.specs.Run.{Setting, settingAt, readyOfNth, taking, standOf, windowEnd, overdue, late}
 use Rattle.model.specs.Demand3.{endBefore, readyBefore, lateIn, readyIs, endIs, DueIn, NotDueIn}
 use Rattle.model.proofs.Node.Choosing.{Asleep, asleep-sleeping}
 use Rattle.model.proofs.Node.Working.{Working}
@@ -86,16 +86,16 @@ overdue-is s (v ∷ vs) (suc i) now = overdue-is s vs i now
 
 -- ## Late
 
-module _ {C : Component} {i : ℕ} {at : Entry} {r : Node} (t : Read) (S : List Passage) (now c : ℕ) where
+module _ {C : Component} {i : ℕ} {at : Entry} {r : Node} (t : Read) (H : ℕ) (S : List Passage) (offs : List ℕ) (now c : ℕ) where
   -- on the way to a sleep
-  pub heading-late-same : Heading C i at r → late (settingOf t S) now c r (standOf r) ≡ lateIn (own c S) now r (standOf r)
-  heading-late-same g = heading-late (settingOf t S) now c g ∙ (overdue-is (settingOf t S) (own c S) i now ∙ sym (heading-late-in (own c S) now g))
+  pub heading-late-same : Heading C i at r → late (settingAt t H S offs) now c r (standOf r) ≡ lateIn (own c S) now r (standOf r)
+  heading-late-same g = heading-late (settingAt t H S offs) now c g ∙ (overdue-is (settingAt t H S offs) (own c S) i now ∙ sym (heading-late-in (own c S) now g))
 
   -- at work in passage i
   pub working-late-same : {j : Pick} {w : Passage} → Begins c C at w → Nth (own c S) i w → Working C i at j r
-      → late (settingOf t S) now c r (standOf r) ≡ lateIn (own c S) now r (standOf r)
+      → late (settingAt t H S offs) now c r (standOf r) ≡ lateIn (own c S) now r (standOf r)
   working-late-same {j} {w} b m g =
-      working-late (settingOf t S) now c g
+      working-late (settingAt t H S offs) now c g
       ∙ (ap (λ (n : ℕ). ltb n now) (sym (working-end g) ∙ working-passage b g .end)
       ∙ (sym (end-before-nth m now) ∙ sym (working-late-in (own c S) now g)))
 

@@ -1,4 +1,4 @@
--- The observations of a run of an accepted table fit their bytes, so what the call `run` wrote is read back as them. Assumes nothing.
+-- The observations of a run of an accepted table fit their bytes, so what the calls `run_apart` and `run` wrote is read back as them. Assumes nothing.
 use mathlib.Core.Path.{_≡_, refl, sym, ap, subst, _∙_}
 use mathlib.Core.Bool.{Bool, true, false, cond}
 use mathlib.Core.List.{List, [], _∷_, _++_, map}
@@ -11,18 +11,19 @@ use lib.Dec.{leb, ltb, eqb}
 use lib.IntN.{ℤ, pos, negsuc}
 use lib.ListN.{length, drop, length-map}
 use Rattle.model.specs.declared.Verdict.the-variants.{Accepted}
-use Rattle.model.specs.Lists.{only, All, empty, more, each, Answer, accepted}
+use Rattle.model.specs.Lists.{only, All, empty, more, each, Answer, accepted, refused}
 use Rattle.model.specs.Table.{Component, Read, noLocation, size, componentOf, locationOf, arcOf}
 use Rattle.model.specs.Limits.{Int16}
 use Rattle.model.specs.Reader.{readTable}
 use Rattle.model.specs.Window.{Entry, inRange, readyOf}
 use Rattle.model.specs.Schedule.{Passage, own}
-use Rattle.model.specs.Checks.{acceptedScheduleOf}
+use Rattle.model.specs.Checks.{acceptedScheduleAt}
 use Rattle.model.specs.Network.{PathPassage, Taken, Observation, observation, takenOr, observationsOn, passagesOn, start}
-use Rattle.model.specs.Run.{settingOf, run, observationBytes}
+use Rattle.model.specs.Run.{settingAt, run, observationBytes}
 use Rattle.model.specs.Demand3.{TakenAs, PassAs}
-use Rattle.model.specs.Calls.{RunCall, notRun, ran, runWith, runCall, runPlanned, runRead}
-use Rattle.model.specs.Observations.{readObservation, readObservations, ObservationsRead}
+use Rattle.model.specs.Apart.{Permitted, clockOn}
+use Rattle.model.specs.Calls.{RunCall, spreadFine, readAt, offsetsFine, notRun, ran, runWithAt, runCallAt, runPlannedAt, runReadAt, runCall}
+use Rattle.model.specs.Observations.{readObservation, readObservations, ObservationsReadAt, ObservationsRead}
 use Rattle.model.proofs.Basics.Bools.{and-is}
 use Rattle.model.proofs.Basics.Words.{all-before}
 use Rattle.model.proofs.Basics.Walk.{all-at, list-back}
@@ -33,8 +34,9 @@ use Rattle.model.proofs.Schedule.Passages.{Entered, entered}
 use Rattle.model.proofs.Node.Working.{arc-in}
 use Rattle.model.proofs.Network.Says.{seen}
 use Rattle.model.proofs.Reader.Limits.{read-limits}
-use Rattle.model.proofs.Run.Tied.{Given, given, component-in}
-use Rattle.model.proofs.Run.Promise.{promised}
+use Rattle.model.proofs.Run.Tied.{Given, given-apart, component-in}
+use Rattle.model.proofs.Run.Apart.{promised-apart}
+use Rattle.model.proofs.Run.CallsApart.{offsets-fine, run-together}
 use Rattle.model.proofs.Run.Few.{of-nodes}
 use Rattle.model.proofs.Observations.Size.{observation-long}
 use Rattle.model.proofs.Observations.One.{Fits, observation-back}
@@ -51,7 +53,7 @@ small-tick : {n H : ℕ} → H ≤ 60000 → (n ≡ 0) ⊎ (n < H) → n ≤ 600
 small-tick h (inl e) = omega arith
 small-tick h (inr e) = omega arith
 
-module _ {t : Read} {S : List Passage} (G : Given t (t .horizon) S) where
+module _ {t : Read} {S : List Passage} {offs : List ℕ} (G : Given t (t .horizon) S offs) where
   -- what a passage of component c shows fits its bytes
   passage-fits : (c : ℕ) → c < size (t .table) → (v : Passage) → Entered (t .horizon) c (componentOf (t .table) c) v → Fits (t .table) (seen (componentOf (t .table) c) c v)
   passage-fits c h v k =
@@ -105,21 +107,21 @@ shown-all P C c last (p ∷ ps) (v ∷ vs) h (more q a) = go (leb (o .tick) last
 
 -- ## What a run shows
 
-module _ (bytes : List ℕ) (t : Read) (S : List Passage) (r : readTable bytes ≡ accepted t) (e : acceptedScheduleOf t ≡ accepted S) (cs : List ℕ) where
+module _ (G : ℕ) (bytes : List ℕ) (t : Read) (S : List Passage) (r : readTable bytes ≡ accepted t) (e : acceptedScheduleAt G t ≡ accepted S) (offs : List ℕ) (p : Permitted G (size (t .table)) offs) (cs : List ℕ) where
   -- the observations of the run
   abbrev os : List Observation
-  os = run (settingOf t S) cs .state .observations
+  os = run (settingAt t (t .horizon) S offs) cs .state .observations
 
   -- what is given
-  given′ : Given t (t .horizon) S
-  given′ = given t S (read-limits bytes t r) e
+  given′ : Given t (t .horizon) S offs
+  given′ = given-apart G t S offs (read-limits bytes t r) e p
 
   -- those of one node fit
   node-fits : (c : ℕ) → c < size (t .table) → All (Fits (t .table)) (only (λ o. eqb (o .component) c) os)
   node-fits c h =
-      let d = promised bytes t S r e cs in
+      let d = promised-apart G bytes t S r e offs p cs in
       let b = d .observed c h in
-      let a = shown-all (Fits (t .table)) (componentOf (t .table) c) c (d .last .tick) (passagesOn (t .table) c (start (t .table)) (d .path)) (own c S) (d .scheduled c h) (own-fit given′ c h) in
+      let a = shown-all (Fits (t .table)) (componentOf (t .table) c) c (clockOn t (t .horizon) S offs cs c) (passagesOn (t .table) c (start (t .table)) (d .path)) (own c S) (d .scheduled c h) (own-fit given′ c h) in
       all-before _ (b .rest) (subst (All (Fits (t .table))) (sym (b .is)) a)
 
   -- all of them fit
@@ -130,22 +132,42 @@ module _ (bytes : List ℕ) (t : Read) (S : List Passage) (r : readTable bytes �
   pub read-back : (rest : List ℕ) → readObservations (t .table) (length os) (each observationBytes os ++ rest) ≡ os
   read-back rest = list-back observationBytes 32 observation-long (readObservation (t .table)) (Fits (t .table)) (λ o r. observation-back (t .table) o r) fit rest
 
--- the call `run`: what it wrote is read back
-pub observations-read : (table choices lent : List ℕ) → ObservationsRead table choices lent
-unfolding runCall
-observations-read table choices lent t S r e = subst Back (sym same) (go (ltb (length lent) (length S * 32)) (ltb 1000000 (length choices)))
+-- the call `run_apart`: what it wrote is read back
+pub observations-read-at : (G : ℕ) (table offs choices lent : List ℕ) → ObservationsReadAt G table offs choices lent
+unfolding runCallAt
+observations-read-at G table offs choices lent t S r e = subst Back (sym same) (by-spread (ltb 1000 G))
   where
     shown : List Observation
-    shown = run (settingOf t S) choices .state .observations
+    shown = run (settingAt t (t .horizon) S offs) choices .state .observations
 
     -- of this answer
     Back : RunCall → Type 0
     Back c = c .verdict ≡ Accepted → readObservations (t .table) (c .size) (c .lent) ≡ shown
 
-    same : runCall table choices lent ≡ runWith t S choices lent
-    same = ap (λ (x : Answer Read). runRead x choices lent) r ∙ ap (λ (x : Answer (List Passage)). runPlanned t x choices lent) e
+    same : runCallAt G table offs choices lent ≡ runReadAt G (cond (ltb 1000 G) (refused 19 255) (accepted t)) offs choices lent
+    same = ap (λ (x : Answer Read). runReadAt G (spreadFine G x) offs choices lent) r
 
-    go : (x y : Bool) → Back (cond x (notRun 13 255 lent) (cond y (notRun 14 255 lent) (ran (run (settingOf t S) choices) lent)))
-    go true y v = absurd (let z : _≡_ {A = ℕ} 0 1 = cc in omega arith)
-    go false true v = absurd (let z : _≡_ {A = ℕ} 0 1 = cc in omega arith)
-    go false false v = read-back table t S r e choices (drop (length (each observationBytes shown)) lent)
+    go : (x y z : Bool) → offsetsFine G (size (t .table)) offs ≡ z
+        → Back
+        (cond x (notRun 13 255 lent)
+        (cond y (notRun 14 255 lent) (cond z (ran (run (settingAt t (t .horizon) S offs) choices) lent) (notRun 20 255 lent))))
+    go true y z q v = absurd (let w : _≡_ {A = ℕ} 0 1 = cc in omega arith)
+    go false true z q v = absurd (let w : _≡_ {A = ℕ} 0 1 = cc in omega arith)
+    go false false false q v = absurd (let w : _≡_ {A = ℕ} 0 1 = cc in omega arith)
+    go false false true q v =
+        read-back G table t S r e offs (offsets-fine G (size (t .table)) offs .0 q) choices (drop (length (each observationBytes shown)) lent)
+
+    by-plan : Back (runPlannedAt G t (acceptedScheduleAt G t) offs choices lent)
+    by-plan =
+        subst Back (sym (ap (λ (x : Answer (List Passage)). runPlannedAt G t x offs choices lent) e))
+        (go (ltb (length lent) (length S * 32)) (ltb 1000000 (length choices)) (offsetsFine G (size (t .table)) offs) refl)
+
+    by-spread : (w : Bool) → Back (runReadAt G (cond w (refused 19 255) (accepted t)) offs choices lent)
+    by-spread true v = absurd (let w : _≡_ {A = ℕ} 0 1 = cc in omega arith)
+    by-spread false v = by-plan v
+
+-- the call `run`, with neither
+pub observations-read : (table choices lent : List ℕ) → ObservationsRead table choices lent
+observations-read table choices lent t S r e =
+    subst (λ (c : RunCall). c .verdict ≡ Accepted → readObservations (t .table) (c .size) (c .lent) ≡ run (settingAt t (t .horizon) S []) choices .state .observations)
+    (run-together table choices lent) (observations-read-at 0 table [] choices lent t S r e)

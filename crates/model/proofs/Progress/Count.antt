@@ -9,7 +9,7 @@ use Rattle.model.specs.Table.{Read, size, componentOf, locationOf}
 use Rattle.model.specs.Schedule.{Passage, own}
 use Rattle.model.specs.Program.{locationBlock}
 use Rattle.model.specs.Machine.{Node}
-use Rattle.model.specs.Run.{settingTo, nodeOf, startRun, run}
+use Rattle.model.specs.Run.{settingAt, nodeOf, startRun, run}
 use Rattle.model.proofs.Program.BlockLaw.{trials-test}
 use Rattle.model.proofs.Program.Decode.{start-code}
 use Rattle.model.proofs.Node.Choosing.{trialsAt}
@@ -41,13 +41,13 @@ total-times (suc n) f = omega (arith, total-times n f)
 
 -- ## The start
 
-module _ {t : Read} {H : ℕ} {S : List Passage} (G : Given t H S) where
+module _ {t : Read} {H : ℕ} {S : List Passage} {offs : List ℕ} (G : Given t H S offs) where
   -- the start lies before the horizon
-  pub start-live : Live G (startRun (settingTo t H S))
+  pub start-live : Live G (startRun (settingAt t H S offs))
   start-live = record { tied = tied-start G; below = omega (arith, G .least) }
 
   -- a node starts in the block of its initial location
-  start-light : (c : ℕ) → c < size (t .table) → weight (nodeOf (startRun (settingTo t H S)) c .rest) ≤ 609
+  start-light : (c : ℕ) → c < size (t .table) → weight (nodeOf (startRun (settingAt t H S offs)) c .rest) ≤ 609
   unfolding locationBlock
   start-light c h =
       let C = componentOf (t .table) c in
@@ -59,13 +59,13 @@ module _ {t : Read} {H : ℕ} {S : List Passage} (G : Given t H S) where
       )
 
   -- what all nodes have to do
-  start-toil : toilOf t S (startRun (settingTo t H S)) ≤ length S * 626 + size (t .table) * 1235
+  start-toil : toilOf t S (startRun (settingAt t H S offs)) ≤ length S * 626 + size (t .table) * 1235
   start-toil =
       let n = size (t .table) in
-      let each = total-least n (λ c. length (own c S) * 626 + 1235) (toilAt S (startRun (settingTo t H S))) (λ c h. omega (arith, start-light c h)) in
+      let each = total-least n (λ c. length (own c S) * 626 + 1235) (toilAt S (startRun (settingAt t H S offs))) (λ c h. omega (arith, start-light c h)) in
       omega (arith, each, total-times n (λ c. length (own c S)), own-few n S)
 
   -- a run carries out no more choices than that and the ticks
-  pub carried-few : (cs : List ℕ) → run (settingTo t H S) cs .state .used ≤ H + (length S * 626 + size (t .table) * 1235)
+  pub carried-few : (cs : List ℕ) → run (settingAt t H S offs) cs .state .used ≤ H + (length S * 626 + size (t .table) * 1235)
   unfolding run
   carried-few cs = omega (arith, uses G cs start-live, start-toil)

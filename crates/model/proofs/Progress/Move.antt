@@ -16,7 +16,7 @@ use Rattle.model.specs.Window.{inRange, valueAt}
 use Rattle.model.specs.Schedule.{Passage, own}
 use Rattle.model.specs.Program.{programBytes}
 use Rattle.model.specs.Machine.{Node, partBytes}
-use Rattle.model.specs.Run.{Setting, settingTo, Run, noNode, nodeOf, Stand, sleeping, sending, listening, finishing, adding, working, taking, elsewhere, nowhere, standOf, windowEnd, names, hears, listeners, takesMessage, Outcome, forbidden, on, finished, sent, finishes, choose1}
+use Rattle.model.specs.Run.{Setting, settingAt, Run, noNode, nodeOf, Stand, sleeping, sending, listening, finishing, adding, working, taking, elsewhere, nowhere, standOf, windowEnd, ownTick, awake, began, names, hears, listeners, takesMessage, Outcome, forbidden, on, finished, sent, finishes, choose1}
 use Rattle.model.proofs.Basics.Bools.{clash, and-is}
 use Rattle.model.proofs.Basics.Members.{only-is}
 use Rattle.model.proofs.Run.Tied.{Given, Tied}
@@ -97,11 +97,11 @@ module _ (g : Setting) (s : Run) (c : ℕ) (u : Run) where
   sent-nodes k (i ∷ is) h e = speaks i k (h i (here refl)) (same-nodes _ e)
 
   -- a listener stands at a listen that names the channel
-  named : (k i : ℕ) → i ∈ listeners s c k → names k (standOf (nodeOf s i)) ≡ true
+  named : (k i : ℕ) → i ∈ listeners g s c k → names k (standOf (nodeOf s i)) ≡ true
   named k i m =
-      let a = only-is (λ i. not (eqb i c) && hears k (nodeOf s c) (nodeOf s i)) (below (length (s .nodes))) .0 m in
-      let b = and-is (not (eqb i c)) (hears k (nodeOf s c) (nodeOf s i)) .0 (a .1) in
-      let d = and-is (names k (standOf (nodeOf s i)) && isNone (nodeOf s i .goes)) (leb (nodeOf s i .t) (nodeOf s c .t)) .0 (b .1) in
+      let a = only-is (λ i. not (eqb i c) && hears g k (began g c (nodeOf s c)) i (nodeOf s i)) (below (length (s .nodes))) .0 m in
+      let b = and-is (not (eqb i c)) (hears g k (began g c (nodeOf s c)) i (nodeOf s i)) .0 (a .1) in
+      let d = and-is (names k (standOf (nodeOf s i)) && isNone (nodeOf s i .goes)) (leb (began g i (nodeOf s i)) (began g c (nodeOf s c))) .0 (b .1) in
       and-is (names k (standOf (nodeOf s i))) (isNone (nodeOf s i .goes)) .0 (d .0) .0
 
   -- elsewhere than at a take nothing need be kept
@@ -110,9 +110,9 @@ module _ (g : Setting) (s : Run) (c : ℕ) (u : Run) where
 
   -- by what the node stands at
   finishes-carried : (x : Stand) → standOf (nodeOf s c) ≡ x → finishes g s c x ≡ on u → Carried g s c u
-  finishes-carried sleeping q e = record { nodes = moves (test-nodes (eqb (s .tick) (nodeOf s c .t)) _ e); kept = λ f. other q f refl }
-  finishes-carried (sending k) q e = record { nodes = sent-nodes k (listeners s c k) (named k) e; kept = λ f. other q f refl }
-  finishes-carried (listening qs) q e = record { nodes = moves (test-nodes (eqb (s .tick) (windowEnd (nodeOf s c))) _ e); kept = λ f. other q f refl }
+  finishes-carried sleeping q e = record { nodes = moves (test-nodes (eqb (ownTick g c (s .tick)) (nodeOf s c .t)) _ e); kept = λ f. other q f refl }
+  finishes-carried (sending k) q e = record { nodes = sent-nodes k (listeners g s c k) (named k) e; kept = λ f. other q f refl }
+  finishes-carried (listening qs) q e = record { nodes = moves (test-nodes (eqb (ownTick g c (s .tick)) (windowEnd (nodeOf s c))) _ e); kept = λ f. other q f refl }
   finishes-carried finishing q e = record { nodes = moves (same-nodes _ e); kept = λ f. other q f refl }
   finishes-carried (adding v z) q e = record { nodes = moves (test-nodes (inRange (valueAt (nodeOf s c .values) v +ℤ z)) _ e); kept = λ f. other q f refl }
   finishes-carried working q e = record { nodes = moves (same-nodes _ e); kept = λ f. other q f refl }
@@ -140,64 +140,69 @@ toilAt S s d = toil (length (own d S)) (nodeOf s d)
 abbrev pub toilOf : Read → List Passage → Run → ℕ
 toilOf t S s = total (size (t .table)) (toilAt S s)
 
-module _ {t : Read} {H : ℕ} {S : List Passage} (G : Given t H S) {s : Run} (k : Tied G s) where
+module _ {t : Read} {H : ℕ} {S : List Passage} {offs : List ℕ} (G : Given t H S offs) {s : Run} (k : Tied G s) where
   -- the nodes of a choice carried out
-  pub carried : (c : ℕ) → c < size (t .table) → (u : Run) → choose1 (settingTo t H S) s c ≡ on u → Carried (settingTo t H S) s c u
+  pub carried : (c : ℕ) → c < size (t .table) → (u : Run) → choose1 (settingAt t H S offs) s c ≡ on u → Carried (settingAt t H S offs) s c u
   unfolding choose1
   carried c h u e =
-      finishes-carried (settingTo t H S) s c u (standOf (nodeOf s c)) refl
-      (rw (ne-eqb c 255 (λ i. omega (arith, G .limits .mostComponents)), lt-ltb c (length (s .nodes)) (omega (arith, k .full))) at e)
+      finishes-carried (settingAt t H S offs) s c u (standOf (nodeOf s c)) refl
+      (chosen (awake (settingAt t H S offs) c (s .tick))
+      (rw (ne-eqb c 255 (λ i. omega (arith, G .limits .mostComponents)), lt-ltb c (length (s .nodes)) (omega (arith, k .full))) at e))
+    where
+      chosen : (x : Bool) → cond (true && x) (finishes (settingAt t H S offs) s c (standOf (nodeOf s c))) forbidden ≡ on u → finishes (settingAt t H S offs) s c (standOf (nodeOf s c)) ≡ on u
+      chosen true f = f
+      chosen false f = absurd (let z : _≡_ {A = ℕ} 0 1 = cc in omega arith)
 
   -- a choice carried out is a tick or a node
-  pub whose : (b : ℕ) (u : Run) → choose1 (settingTo t H S) s b ≡ on u → (b ≡ 255) ⊎ (b < size (t .table))
+  pub whose : (b : ℕ) (u : Run) → choose1 (settingAt t H S offs) s b ≡ on u → (b ≡ 255) ⊎ (b < size (t .table))
   unfolding choose1
-  whose b u e = go (eqb b 255) refl (ltb b (length (s .nodes))) refl _ _ e
+  whose b u e = go (eqb b 255) refl (ltb b (length (s .nodes))) refl (awake (settingAt t H S offs) b (s .tick)) _ _ e
     where
-      go : (x : Bool) → eqb b 255 ≡ x → (y : Bool) → ltb b (length (s .nodes)) ≡ y → (tick node : Outcome) → cond x tick (cond y node forbidden) ≡ on u
+      go : (x : Bool) → eqb b 255 ≡ x → (y : Bool) → ltb b (length (s .nodes)) ≡ y → (w : Bool) (tick node : Outcome) → cond x tick (cond (y && w) node forbidden) ≡ on u
           → (b ≡ 255) ⊎ (b < size (t .table))
-      go true p y q tick node f = inl (eqb-true b 255 p)
-      go false p true q tick node f = inr (omega (arith, ltb-true b (length (s .nodes)) q, k .full))
-      go false p false q tick node f = never (settingTo t H S) s b u f
+      go true p y q w tick node f = inl (eqb-true b 255 p)
+      go false p true q w tick node f = inr (omega (arith, ltb-true b (length (s .nodes)) q, k .full))
+      go false p false q w tick node f = never (settingAt t H S offs) s b u f
 
   -- a node that finished its statement has less to do
-  less : (d : ℕ) → d < size (t .table) → (standOf (nodeOf s d) ≡ taking → isNone (nodeOf s d .kept) ≡ false) → toil (length (own d S)) (finished (settingTo t H S) s d) < toilAt S s d
+  less : (d : ℕ) → d < size (t .table) → (standOf (nodeOf s d) ≡ taking → isNone (nodeOf s d .kept) ≡ false) → toil (length (own d S)) (finished (settingAt t H S offs) s d) < toilAt S s d
   less d h kept = node-falls G h (k .ties d h) kept
 
   -- so has node d, if that is the node
   less-at : (c d : ℕ) → d < size (t .table) → (standOf (nodeOf s c) ≡ taking → isNone (nodeOf s c .kept) ≡ false) → d ≡ c
-      → toil (length (own d S)) (finished (settingTo t H S) s c) < toilAt S s d
+      → toil (length (own d S)) (finished (settingAt t H S offs) s c) < toilAt S s d
   less-at c d h kept e =
-      subst (λ (j : ℕ). toil (length (own j S)) (finished (settingTo t H S) s c) < toilAt S s j) (sym e) (less c (subst (λ (j : ℕ). j < size (t .table)) e h) kept)
+      subst (λ (j : ℕ). toil (length (own j S)) (finished (settingAt t H S offs) s c) < toilAt S s j) (sym e) (less c (subst (λ (j : ℕ). j < size (t .table)) e h) kept)
 
   -- a node at a listen is not at a take
   no-take : (a i : ℕ) → names a (standOf (nodeOf s i)) ≡ true → standOf (nodeOf s i) ≡ taking → isNone (nodeOf s i .kept) ≡ false
   no-take a i n e = clash (ap (names a) (sym e) ∙ n)
 
   -- what all nodes have yet to do falls with each choice of a node
-  pub choice-falls : (c : ℕ) → c < size (t .table) → (u : Run) → choose1 (settingTo t H S) s c ≡ on u → toilOf t S u < toilOf t S s
+  pub choice-falls : (c : ℕ) → c < size (t .table) → (u : Run) → choose1 (settingAt t H S offs) s c ≡ on u → toilOf t S u < toilOf t S s
   choice-falls c h u e = go (carried c h u e .nodes)
     where
       kept : standOf (nodeOf s c) ≡ taking → isNone (nodeOf s c .kept) ≡ false
       kept = carried c h u e .kept
 
       one : List Node
-      one = set (s .nodes) c (finished (settingTo t H S) s c)
+      one = set (s .nodes) c (finished (settingAt t H S offs) s c)
 
       there : (d : ℕ) → d < size (t .table) → d < length (s .nodes)
       there d b = omega (arith, k .full)
 
       there′ : (d : ℕ) → d < size (t .table) → d < length one
-      there′ d b = omega (arith, k .full, length-set (s .nodes) c (finished (settingTo t H S) s c))
+      there′ d b = omega (arith, k .full, length-set (s .nodes) c (finished (settingAt t H S offs) s c))
 
       one-least : (d : ℕ) → d < size (t .table) → toil (length (own d S)) (getD one d noNode) ≤ toilAt S s d
       one-least d b =
-          put-at (λ (x : Node). toil (length (own d S)) x ≤ toilAt S s d) (s .nodes) c (finished (settingTo t H S) s c) d (there d b)
+          put-at (λ (x : Node). toil (length (own d S)) x ≤ toilAt S s d) (s .nodes) c (finished (settingAt t H S offs) s c) d (there d b)
           (λ q. let f = less-at c d b kept q in omega arith)
           (omega arith)
 
       one-falls : toil (length (own c S)) (getD one c noNode) < toilAt S s c
       one-falls =
-          subst (λ (x : Node). toil (length (own c S)) x < toilAt S s c) (sym (getD-set-same (s .nodes) c (finished (settingTo t H S) s c) noNode (there c h))) (less c h kept)
+          subst (λ (x : Node). toil (length (own c S)) x < toilAt S s c) (sym (getD-set-same (s .nodes) c (finished (settingAt t H S offs) s c) noNode (there c h))) (less c h kept)
 
       all-fall : (l : List Node) → u .nodes ≡ l → ((d : ℕ) → d < size (t .table) → toil (length (own d S)) (getD l d noNode) ≤ toilAt S s d)
           → toil (length (own c S)) (getD l c noNode) < toilAt S s c → toilOf t S u < toilOf t S s
@@ -208,7 +213,7 @@ module _ {t : Read} {H : ℕ} {S : List Passage} (G : Given t H S) {s : Run} (k 
           h
           (subst (λ (x : List Node). toil (length (own c S)) (getD x c noNode) < toilAt S s c) (sym q) b)
 
-      go : Moves (settingTo t H S) s c u → toilOf t S u < toilOf t S s
+      go : Moves (settingAt t H S offs) s c u → toilOf t S u < toilOf t S s
       go (moves q) = all-fall one q one-least one-falls
       go (speaks i a n q) =
           let m = takesMessage (partBytes (programBytes t) i) a (nodeOf s i) in

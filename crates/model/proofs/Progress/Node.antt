@@ -96,7 +96,7 @@ module _ {p : List ℕ} {channels : ℕ} {C : Component} (codes : Coded p C) (fi
 -- ## One node
 
 -- node c of a state that is the schedule's has less to do after its statement
-pub node-falls : {t : Read} {H : ℕ} {S : List Passage} (G : Given t H S) {c τ : ℕ} {r : Node} {os : List Observation} {ahead : List Passage} → c < size (t .table)
+pub node-falls : {t : Read} {H : ℕ} {S : List Passage} {offs : List ℕ} (G : Given t H S offs) {c τ : ℕ} {r : Node} {os : List Observation} {ahead : List Passage} → c < size (t .table)
     → Tie (t .table) H S c τ r os ahead → (standOf r ≡ taking → isNone (r .kept) ≡ false)
     → toil (length (own c S)) (finish (partBytes (programBytes t) c) r (r .rest)) < toil (length (own c S)) r
 node-falls {t} {H} {S} G {c} {τ} {r} {os} {ahead} h k kept = go (k .held)

@@ -1,27 +1,27 @@
 -- A table of version 1 gets what document 01 gave it: verdict, schedule, program, run and meetings; and the chart of that schedule. The verdict is
 -- document 01's with 15 to 17 read as 11 (document 02, wish 3). Assumes nothing.
 use mathlib.Core.Path.{_≡_, refl, sym, ap, subst, _∙_}
-use mathlib.Core.Bool.{Bool, true, false, cond, _&&_}
+use mathlib.Core.Bool.{Bool, true, false, cond, _&&_, not}
 use mathlib.Core.List.{List, [], _∷_}
 use mathlib.Core.Option.{Option, none, some}
-use Prim.Native.Nat.{ℕ, zero, suc, _*_}
+use Prim.Native.Nat.{ℕ, zero, suc, _+_, _*_}
 use native.Mathlib.Omega.{arith}
 use borrow.Author.Tests.{eq-eqb}
 use lib.Dec.{leb, ltb, eqb}
 use lib.ListN.{length, drop, getD, replicate}
 use Rattle.model.specs.Lists.{any, only, first, each, Answer, accepted, refused, _after_}
-use Rattle.model.specs.Table.{Component, Read, bandOf}
+use Rattle.model.specs.Table.{Component, Table, Read, bandOf}
 use Rattle.model.specs.Limits.{InLimits}
 use Rattle.model.specs.Reader.{byte, word, readComponents, lengthFine, countFine, bodyStart, bandsAt, bandsFine, versionFine, readWith, readTable}
 use Rattle.model.specs.Schedule.{Passage, others, schedule}
-use Rattle.model.specs.Checks.{shareTick, disturb, isSend, meets, collides, unheard, crowded, limit, checked, acceptedSchedule, acceptedScheduleOf}
+use Rattle.model.specs.Checks.{near, disturb, isSend, isReceive, meets, collides, mayHear, heardWell, unheard, two, crowded, limit, checked, acceptedSchedule, acceptedScheduleOf}
 use Rattle.model.specs.Program.{programBytes}
 use Rattle.model.specs.Run.{settingOf, run}
 use Rattle.model.specs.Calls.{verdictOf, scheduleWith, bytesWith, acceptedScheduleIn, checkCall, scheduleCall, programIn, translateCall, notRun, ran, runWith, runPlanned, runRead, runCall}
-use Rattle.model.specs.Meetings.{sendsMet, listenersMet, sendsHeard, withMet, concerned, concernedIn, listOr, meetingsIn, meetingsCall}
+use Rattle.model.specs.Meetings.{sendsMet, listenersMet, sendsHeard, withMet, concerned, concernedAt, listOr, meetingsIn, meetingsCall}
 use Rattle.model.specs.Chart.{chart, chartIn, chartCall}
 use Rattle.model.specs.Hearings.{merged, mergedVerdict, mergedCall, mergedRun, mergedMeetings}
-use Rattle.model.specs.Versions.{readWith01, readTable01, meets01, collides01, checked01, acceptedScheduleOf01, programBytes01, checkCall01, scheduleCall01, translateCall01, chartCall01, runWith01, runRead01, runCall01, concerned01, meetingsIn01, meetingsCall01}
+use Rattle.model.specs.Versions.{readWith01, readTable01, shareTick, meets01, mayHear01, heardWell01, unheard01, crowded01, collides01, checked01, acceptedScheduleOf01, programBytes01, checkCall01, scheduleCall01, translateCall01, chartCall01, runWith01, runRead01, runCall01, concerned01, meetingsIn01, meetingsCall01}
 use Rattle.model.proofs.Basics.Bools.{and-is}
 use Rattle.model.proofs.Reader.Bands.{zeros-small}
 use Rattle.model.proofs.Reader.Parts.{after-ok, cond-accepted, accepted-same}
@@ -51,6 +51,41 @@ module _ (p q : Passage → Bool) (f : (o : Passage) → p o ≡ q o) where
   first-same : (l : List Passage) → first p l ≡ first q l
   first-same [] = refl
   first-same (o ∷ l) = rw (f o, first-same l)
+
+-- ## The questions of 10 to 12 at the spread 0
+
+share-same : (v w : Passage) → near 0 v w ≡ shareTick v w
+share-same v w =
+    let a : w .end + 0 ≡ w .end = omega arith in
+    let b : v .end + 0 ≡ v .end = omega arith in
+    rw (a, b)
+
+module _ (T : Table) (H : ℕ) (S : List Passage) where
+  hear-same : (r s : Passage) → mayHear 0 T r s ≡ mayHear01 T r s
+  hear-same r s = rw (share-same r s)
+
+  well-same : (s : Passage) (l : List Passage) → heardWell 0 s l ≡ heardWell01 s l
+  well-same s [] = refl
+  well-same s (r ∷ []) =
+      let a : r .ready + 0 ≡ r .ready = omega arith in
+      let b : s .end + 0 ≡ s .end = omega arith in
+      rw (a, b)
+  well-same s (r ∷ q ∷ rs) = refl
+
+  listeners-same : (s : Passage) → listenersMet 0 T S s ≡ only (λ r. mayHear01 T r s) S
+  listeners-same s = only-same (λ r. mayHear 0 T r s) (λ r. mayHear01 T r s) (λ r. hear-same r s) S
+
+  sends-same : (r : Passage) → sendsHeard 0 T H S r ≡ only (λ s. isSend T H s && mayHear01 T r s) S
+  sends-same r = only-same (λ s. isSend T H s && mayHear 0 T r s) (λ s. isSend T H s && mayHear01 T r s) (λ s. ap (λ (b : Bool). isSend T H s && b) (hear-same r s)) S
+
+  -- 11 and 12 ask what they asked
+  pub same-unheard : first (unheard 0 T H S) S ≡ first (unheard01 T H S) S
+  same-unheard =
+      first-same (unheard 0 T H S) (unheard01 T H S)
+      (λ s. ap (λ (b : Bool). isSend T H s && not b) (well-same s (listenersMet 0 T S s) ∙ ap (heardWell01 s) (listeners-same s))) S
+
+  pub same-crowded : first (crowded 0 T H S) S ≡ first (crowded01 T H S) S
+  same-crowded = first-same (crowded 0 T H S) (crowded01 T H S) (λ r. ap (λ (l : List Passage). isReceive T r && two l) (sends-same r)) S
 
 -- ## The reader
 
@@ -117,51 +152,67 @@ module _ (t : Read) (h : InLimits t) (one : t .version ≡ 1) where
       rw (j .1, k .1) (eq-eqb (bandOf (t .table) (j .0)) (bandOf (t .table) (k .0)) (zero-at (j .0) ∙ sym (zero-at (k .0))))
 
   -- a send meets those that it met
-  same-meets : (H : ℕ) (s : Passage) → isSend (t .table) H s ≡ true → (o : Passage) → meets (t .table) H s o ≡ meets01 (t .table) H s o
+  same-meets : (H : ℕ) (s : Passage) → isSend (t .table) H s ≡ true → (o : Passage) → meets 0 (t .table) H s o ≡ meets01 (t .table) H s o
   same-meets H s e o = pick (isSend (t .table) H o) refl
     where
       drop-true : (b : Bool) → (b && true && shareTick s o) ≡ (b && shareTick s o)
       drop-true true = refl
       drop-true false = refl
 
-      pick : (b : Bool) → isSend (t .table) H o ≡ b → (b && others o s && disturb (t .table) s o && shareTick s o) ≡ (b && others o s && shareTick s o)
-      pick true f = rw (all-disturb H s o e f) (drop-true (others o s))
+      pick : (b : Bool) → isSend (t .table) H o ≡ b → (b && others o s && disturb (t .table) s o && near 0 s o) ≡ (b && others o s && shareTick s o)
+      pick true f = rw (all-disturb H s o e f, share-same s o) (drop-true (others o s))
       pick false f = refl
 
   -- so check 10 asks what it asked
-  pub same-collides : (H : ℕ) (S : List Passage) (s : Passage) → collides (t .table) H S s ≡ collides01 (t .table) H S s
+  pub same-collides : (H : ℕ) (S : List Passage) (s : Passage) → collides 0 (t .table) H S s ≡ collides01 (t .table) H S s
   same-collides H S s = go (isSend (t .table) H s) refl
     where
-      go : (b : Bool) → isSend (t .table) H s ≡ b → (b && any (meets (t .table) H s) S) ≡ (b && any (meets01 (t .table) H s) S)
-      go true e = any-same (meets (t .table) H s) (meets01 (t .table) H s) (same-meets H s e) S
+      go : (b : Bool) → isSend (t .table) H s ≡ b → (b && any (meets 0 (t .table) H s) S) ≡ (b && any (meets01 (t .table) H s) S)
+      go true e = any-same (meets 0 (t .table) H s) (meets01 (t .table) H s) (same-meets H s e) S
       go false e = refl
 
-  pub same-first : (H : ℕ) (S : List Passage) → first (collides (t .table) H S) S ≡ first (collides01 (t .table) H S) S
-  same-first H S = first-same (collides (t .table) H S) (collides01 (t .table) H S) (same-collides H S) S
+  pub same-first : (H : ℕ) (S : List Passage) → first (collides 0 (t .table) H S) S ≡ first (collides01 (t .table) H S) S
+  same-first H S = first-same (collides 0 (t .table) H S) (collides01 (t .table) H S) (same-collides H S) S
 
   -- 10 to 12 answer what they answered
-  pub same-checked : (H : ℕ) (S : List Passage) → merged (checked (t .table) H S) ≡ checked01 (t .table) H S
+  pub same-checked : (H : ℕ) (S : List Passage) → merged (checked 0 (t .table) H S) ≡ checked01 (t .table) H S
   unfolding checked checked01
-  same-checked H S = rw (same-first H S) (merged-faults (t .table) H S (first (collides01 (t .table) H S) S))
+  same-checked H S =
+      rw (same-first H S) (merged-faults 0 (t .table) H S (first (collides01 (t .table) H S) S) ∙ rw (same-unheard (t .table) H S, same-crowded (t .table) H S))
 
   -- 7 to 12 answer what they answered, with the schedule
   pub same-schedule : merged (acceptedScheduleOf t) ≡ acceptedScheduleOf01 t
   same-schedule = schedule-merged t (checked01 (t .table) (t .horizon)) (same-checked (t .horizon))
 
   -- and the windows that met are those that did
-  pub same-concerned : (H : ℕ) (S : List Passage) → concerned (t .table) H S ≡ concerned01 (t .table) H S
+  pub same-concerned : (H : ℕ) (S : List Passage) → concerned 0 (t .table) H S ≡ concerned01 (t .table) H S
   unfolding concerned concerned01
-  same-concerned H S = met (first (collides (t .table) H S) S) refl ∙ rw (same-first H S)
+  same-concerned H S = rw (same-first H S, same-unheard (t .table) H S, same-crowded (t .table) H S) (met (first (collides01 (t .table) H S) S) (same-first H S))
     where
-      further : List Passage
-      further = withMet (listenersMet (t .table) S) (first (unheard (t .table) H S) S) (withMet (sendsHeard (t .table) H S) (first (crowded (t .table) H S) S) [])
+      T : Table
+      T = t .table
 
-      met : (o : Option Passage) → first (collides (t .table) H S) S ≡ o → withMet (sendsMet (t .table) H S) o further ≡ withMet (λ s. only (meets01 (t .table) H s) S) o further
-      met none e = refl
+      two-sends : List Passage
+      two-sends = withMet (λ r. only (λ s. isSend T H s && mayHear01 T r s) S) (first (crowded01 T H S) S) []
+
+      with-same : (p q : Passage → List Passage) (o : Option Passage) (further : List Passage) → ((v : Passage) → p v ≡ q v) → withMet p o further ≡ withMet q o further
+      with-same p q none further h = refl
+      with-same p q (some v) further h = ap (λ (l : List Passage). v ∷ l) (h v)
+
+      heard : withMet (listenersMet 0 T S) (first (unheard01 T H S) S) (withMet (sendsHeard 0 T H S) (first (crowded01 T H S) S) [])
+          ≡ withMet (λ s. only (λ r. mayHear01 T r s) S) (first (unheard01 T H S) S) two-sends
+      heard =
+          ap (withMet (listenersMet 0 T S) (first (unheard01 T H S) S)) (with-same (sendsHeard 0 T H S) _ (first (crowded01 T H S) S) [] (sends-same T H S))
+          ∙ with-same (listenersMet 0 T S) _ (first (unheard01 T H S) S) two-sends (listeners-same T H S)
+
+      met : (o : Option Passage) → first (collides 0 T H S) S ≡ o
+          → withMet (sendsMet 0 T H S) o (withMet (listenersMet 0 T S) (first (unheard01 T H S) S) (withMet (sendsHeard 0 T H S) (first (crowded01 T H S) S) []))
+          ≡ withMet (λ s. only (meets01 T H s) S) o (withMet (λ s. only (λ r. mayHear01 T r s) S) (first (unheard01 T H S) S) two-sends)
+      met none e = heard
       met (some v) e =
-          let h = first-some (collides (t .table) H S) S e in
-          let sends = and-is (isSend (t .table) H v) (any (meets (t .table) H v) S) .0 (h .1) in
-          ap (λ (l : List Passage). v ∷ l) (only-same (meets (t .table) H v) (meets01 (t .table) H v) (same-meets H v (sends .0)) S)
+          let h = first-some (collides 0 T H S) S e in
+          let sends = and-is (isSend T H v) (any (meets 0 T H v) S) .0 (h .1) in
+          ap (λ (l : List Passage). v ∷ l) (only-same (meets 0 T H v) (meets01 T H v) (same-meets H v (sends .0)) S)
 
 -- ## The program
 
@@ -217,8 +268,8 @@ module _ (bs : List ℕ) (one : byte bs 0 ≡ 1) where
   pub same-meetings : (lent : List ℕ) → mergedMeetings (meetingsCall bs lent) ≡ meetingsCall01 bs lent
   unfolding meetingsCall meetingsIn meetingsCall01
   same-meetings lent =
-      let m : meetingsIn bs ≡ meetingsIn01 bs = ap listOr (read-same concernedIn (λ t. schedule limit (t .table) (t .horizon) after λ S. accepted (concerned01 (t .table) (t .horizon) S)) (λ t h v.
-      after-same (schedule limit (t .table) (t .horizon)) (λ S. accepted (concerned (t .table) (t .horizon) S)) (λ S. accepted (concerned01 (t .table) (t .horizon) S)) (λ S e.
+      let m : meetingsIn bs ≡ meetingsIn01 bs = ap listOr (read-same (concernedAt 0) (λ t. schedule limit (t .table) (t .horizon) after λ S. accepted (concerned01 (t .table) (t .horizon) S)) (λ t h v.
+      after-same (schedule limit (t .table) (t .horizon)) (λ S. accepted (concerned 0 (t .table) (t .horizon) S)) (λ S. accepted (concerned01 (t .table) (t .horizon) S)) (λ S e.
       ap accepted (same-concerned t h v (t .horizon) S)))) in
       rw (same-check, m)
 

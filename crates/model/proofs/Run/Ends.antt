@@ -1,6 +1,6 @@
 -- The end of every run is one of the four cases, with document 01's number and node. Assumes nothing.
 use mathlib.Core.Path.{_≡_, refl}
-use mathlib.Core.Bool.{Bool, true, false, cond}
+use mathlib.Core.Bool.{Bool, true, false, cond, _&&_}
 use mathlib.Core.List.{List, [], _∷_}
 use Prim.Native.Nat.{ℕ, suc}
 use lib.Dec.{ltb, eqb}
@@ -8,7 +8,7 @@ use lib.IntN.{_+ℤ_}
 use lib.ListN.{length}
 use Rattle.model.specs.Lists.{isNone}
 use Rattle.model.specs.Window.{valueAt, inRange}
-use Rattle.model.specs.Run.{Setting, Run, Result, Outcome, forbidden, on, over, Stand, sleeping, sending, listening, finishing, adding, working, taking, elsewhere, nowhere, standOf, nodeOf, windowEnd, ownTick, ticked, listeners, sent, finishes, someDue, lateNodes, afterTick, choose1, continue, startRun, runFrom, run}
+use Rattle.model.specs.Run.{Setting, Run, Result, Outcome, forbidden, on, over, Stand, sleeping, sending, listening, finishing, adding, working, taking, elsewhere, nowhere, standOf, nodeOf, windowEnd, ownTick, awake, ticked, listeners, sent, finishes, someDue, lateNodes, afterTick, choose1, continue, startRun, runFrom, run}
 use Rattle.model.specs.Calls.{endNumber, endNode, endOf}
 
 -- number and node are those of a case
@@ -29,13 +29,13 @@ ends-if false a b p q = q
 module _ (g : Setting) (s : Run) where
   -- a node's statement ends no run
   node-ends : (c : ℕ) (x : Stand) → Ends (finishes g s c x)
-  node-ends c sleeping = ends-if (eqb (ownTick c (s .tick)) (nodeOf s c .t)) (on _) forbidden tt tt
-  node-ends c (sending k) = go (listeners s c k)
+  node-ends c sleeping = ends-if (eqb (ownTick g c (s .tick)) (nodeOf s c .t)) (on _) forbidden tt tt
+  node-ends c (sending k) = go (listeners g s c k)
     where
       go : (is : List ℕ) → Ends (sent g s c k is)
       go [] = tt
       go (i ∷ is) = tt
-  node-ends c (listening qs) = ends-if (eqb (ownTick c (s .tick)) (windowEnd (nodeOf s c))) (on _) forbidden tt tt
+  node-ends c (listening qs) = ends-if (eqb (ownTick g c (s .tick)) (windowEnd (nodeOf s c))) (on _) forbidden tt tt
   node-ends c finishing = tt
   node-ends c (adding v z) = ends-if (inRange (valueAt (nodeOf s c .values) v +ℤ z)) (on _) forbidden tt tt
   node-ends c working = tt
@@ -53,7 +53,7 @@ module _ (g : Setting) (s : Run) where
   unfolding choose1
   choice-ends b =
       ends-if (eqb b 255) _ _ (ends-if (someDue g (s .tick) 0 (s .nodes)) forbidden _ tt (tick-ends (ticked s) (lateNodes g (suc (s .tick)) 0 (s .nodes))))
-      (ends-if (ltb b (length (s .nodes))) _ forbidden (node-ends b (standOf (nodeOf s b))) tt)
+      (ends-if (ltb b (length (s .nodes)) && awake g b (s .tick)) _ forbidden (node-ends b (standOf (nodeOf s b))) tt)
 
 -- the whole list
 from-ends : (g : Setting) (cs : List ℕ) (s : Run) → IsEnd (runFrom g cs s .end) (runFrom g cs s .node)

@@ -1,6 +1,6 @@
 -- A run of an accepted table writes no more observations than the schedule has passages. Assumes nothing.
 use mathlib.Core.Path.{_≡_, refl, ap, _∙_}
-use mathlib.Core.Bool.{Bool, true, false, cond}
+use mathlib.Core.Bool.{Bool, true, false, cond, _&&_}
 use mathlib.Core.List.{List, [], _∷_, map}
 use Prim.Native.Nat.{ℕ, zero, suc, _+_, _≤_, _<_}
 use native.Mathlib.Omega.{arith}
@@ -13,17 +13,19 @@ use Rattle.model.specs.Table.{Component, Read, size, componentOf}
 use Rattle.model.specs.Reader.{readTable}
 use Rattle.model.specs.Window.{valueAt, inRange}
 use Rattle.model.specs.Schedule.{Passage, own}
-use Rattle.model.specs.Checks.{acceptedScheduleOf}
+use Rattle.model.specs.Checks.{acceptedScheduleAt, acceptedScheduleOf}
 use Rattle.model.specs.Network.{PathPassage, Work, Observation, observation, takenOr, observationsOn, passagesOn, start}
 use Rattle.model.specs.Machine.{Node}
-use Rattle.model.specs.Run.{Setting, settingTo, settingOf, Run, Outcome, forbidden, on, over, Stand, sleeping, sending, listening, finishing, adding, working, taking, elsewhere, nowhere, standOf, nodeOf, windowEnd, ownTick, moved, ticked, sent, listeners, finishes, someDue, lateNodes, afterTick, choose1, continue, runFrom, run}
-use Rattle.model.specs.Demand3.{PassAs, Begins, observationsOf, Demand3}
+use Rattle.model.specs.Run.{Setting, settingAt, settingOf, Run, Outcome, forbidden, on, over, Stand, sleeping, sending, listening, finishing, adding, working, taking, elsewhere, nowhere, standOf, nodeOf, windowEnd, ownTick, awake, moved, ticked, sent, listeners, finishes, someDue, lateNodes, afterTick, choose1, continue, runFrom, run}
+use Rattle.model.specs.Demand3.{PassAs, Begins, observationsOf}
+use Rattle.model.specs.Apart.{Permitted, clockOn, Demand3Apart}
+use Rattle.model.proofs.Basics.Bools.{and-is}
 use Rattle.model.proofs.Basics.Words.{all-join}
 use Rattle.model.proofs.Reader.Limits.{read-limits}
-use Rattle.model.proofs.Run.Tied.{Given, given}
+use Rattle.model.proofs.Run.Tied.{Given, given-apart}
 use Rattle.model.proofs.Run.Start.{tied-start}
 use Rattle.model.proofs.Run.Count.{only-few}
-use Rattle.model.proofs.Run.Promise.{promised}
+use Rattle.model.proofs.Run.Apart.{promised-apart}
 
 -- ## Counting by a number that each has
 
@@ -93,9 +95,9 @@ module _ (g : Setting) {n : ℕ} {s : Run} (k : Shown n s) where
 
   -- a node finishes its statement
   node-leaves : (c : ℕ) → c < n → (w : Stand) → Leaves n (finishes g s c w)
-  node-leaves c h sleeping = leaves-if n (eqb (ownTick c (s .tick)) (nodeOf s c .t)) (λ e. yes (moves c _ _ [] (more h empty))) no
-  node-leaves c h (sending a) = sends c a (listeners s c a)
-  node-leaves c h (listening qs) = leaves-if n (eqb (ownTick c (s .tick)) (windowEnd (nodeOf s c))) (λ e. yes (moves c _ [] _ empty)) no
+  node-leaves c h sleeping = leaves-if n (eqb (ownTick g c (s .tick)) (nodeOf s c .t)) (λ e. yes (moves c _ _ [] (more h empty))) no
+  node-leaves c h (sending a) = sends c a (listeners g s c a)
+  node-leaves c h (listening qs) = leaves-if n (eqb (ownTick g c (s .tick)) (windowEnd (nodeOf s c))) (λ e. yes (moves c _ [] _ empty)) no
   node-leaves c h finishing = yes (moves c _ [] _ empty)
   node-leaves c h (adding v z) = leaves-if n (inRange (valueAt (nodeOf s c .values) v +ℤ z)) (λ e. yes (moves c _ [] [] empty)) no
   node-leaves c h working = yes (moves c _ [] [] empty)
@@ -116,7 +118,7 @@ module _ (g : Setting) {n : ℕ} {s : Run} (k : Shown n s) where
   unfolding choose1
   leaves b =
       leaves-if n (eqb b 255) (λ e. leaves-if n (someDue g (s .tick) 0 (s .nodes)) (λ f. no) (ticks (lateNodes g (suc (s .tick)) 0 (s .nodes))))
-      (leaves-if n (ltb b (length (s .nodes))) (λ e. node-leaves b (omega (arith, ltb-true b (length (s .nodes)) e, k .full)) (standOf (nodeOf s b))) no)
+      (leaves-if n (ltb b (length (s .nodes)) && awake g b (s .tick)) (λ e. node-leaves b (omega (arith, ltb-true b (length (s .nodes)) (and-is (ltb b (length (s .nodes))) (awake g b (s .tick)) .0 e .0), k .full)) (standOf (nodeOf s b))) no)
 
 -- the whole list
 shows-on : (g : Setting) {n : ℕ} (cs : List ℕ) {s : Run} → Shown n s → Shown n (runFrom g cs s .state)
@@ -155,27 +157,33 @@ pass-few (p ∷ ps) (v ∷ vs) h = omega (arith, pass-few ps vs (h .2))
 
 -- ## All of them
 
-module _ (t : Read) (S : List Passage) (cs : List ℕ) where
-  node-few : Demand3 t (t .horizon) S cs → (c : ℕ) → c < size (t .table) → length (observationsOf c (run (settingOf t S) cs)) ≤ length (own c S)
+module _ (t : Read) (H : ℕ) (S : List Passage) (offs cs : List ℕ) where
+  node-few : Demand3Apart t H S offs cs → (c : ℕ) → c < size (t .table) → length (observationsOf c (run (settingAt t H S offs) cs)) ≤ length (own c S)
   node-few d c h =
       let ps = passagesOn (t .table) c (start (t .table)) (d .path) in
       omega (
         arith,
         begins-few (d .observed c h),
-        shown-few (componentOf (t .table) c) c (d .last .tick) ps (map (λ (v : Passage). v .edge) (own c S)),
+        shown-few (componentOf (t .table) c) c (clockOn t H S offs cs c) ps (map (λ (v : Passage). v .edge) (own c S)),
         pass-few ps (own c S) (d .scheduled c h),
       )
+
+-- a run of a table accepted at a spread, with offsets within it, never writes more observations than the schedule has passages
+pub few-apart : (spread : ℕ) (bytes : List ℕ) (t : Read) (S : List Passage) → readTable bytes ≡ accepted t → acceptedScheduleAt spread t ≡ accepted S
+    → (offs : List ℕ) → Permitted spread (size (t .table)) offs → (cs : List ℕ) → length (run (settingAt t (t .horizon) S offs) cs .state .observations) ≤ length S
+unfolding run
+few-apart spread bytes t S r e offs p cs =
+    let full = tied-start (given-apart spread t S offs (read-limits bytes t r) e p) .full in
+    by-number (λ (o : Observation). o .component) (λ (v : Passage). v .component) S
+    (shows-on (settingAt t (t .horizon) S offs) cs (record { full = full; shown = empty }) .shown) (node-few t (t .horizon) S offs cs (promised-apart spread bytes t S r e offs p cs))
 
 -- a run of an accepted table never writes more observations than the schedule has passages
 pub few : (bytes : List ℕ) (t : Read) (S : List Passage) → readTable bytes ≡ accepted t → acceptedScheduleOf t ≡ accepted S → (cs : List ℕ)
     → length (run (settingOf t S) cs .state .observations) ≤ length S
-unfolding run
-few bytes t S r e cs =
-    let full = tied-start (given t S (read-limits bytes t r) e) .full in
-    by-number (λ (o : Observation). o .component) (λ (v : Passage). v .component) S
-    (shows-on (settingOf t S) cs (record { full = full; shown = empty }) .shown) (node-few t S cs (promised bytes t S r e cs))
+few bytes t S r e cs = few-apart 0 bytes t S r e [] (λ c h. omega arith) cs
 
 -- each observation of a run is of one of its nodes
-pub of-nodes : {t : Read} {H : ℕ} {S : List Passage} → Given t H S → (cs : List ℕ) → All (λ o. o .component < size (t .table)) (run (settingTo t H S) cs .state .observations)
+pub of-nodes : {t : Read} {H : ℕ} {S : List Passage} {offs : List ℕ} → Given t H S offs → (cs : List ℕ)
+    → All (λ o. o .component < size (t .table)) (run (settingAt t H S offs) cs .state .observations)
 unfolding run
-of-nodes {t} {H} {S} G cs = shows-on (settingTo t H S) cs (record { full = tied-start G .full; shown = empty }) .shown
+of-nodes {t} {H} {S} {offs} G cs = shows-on (settingAt t H S offs) cs (record { full = tied-start G .full; shown = empty }) .shown

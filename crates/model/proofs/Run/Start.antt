@@ -1,21 +1,23 @@
 -- The start of a run is where the schedule starts. Assumes nothing.
 use mathlib.Core.Path.{_≡_, refl, sym, ap, subst, _∙_}
 use mathlib.Core.List.{List, [], _∷_, map}
-use Prim.Native.Nat.{ℕ, zero, suc, _+_, _<_}
+use Prim.Native.Nat.{ℕ, zero, suc, _+_, _-_, _<_}
 use native.Mathlib.Omega.{arith}
 use lib.ListN.{length, getD}
+use Rattle.model.specs.Lists.{empty}
 use Rattle.model.specs.Table.{Component, Read, noComponent, size, componentOf}
 use Rattle.model.specs.Window.{Entry}
 use Rattle.model.specs.Schedule.{Passage, own, startEntry}
 use Rattle.model.specs.Program.{programBytes}
 use Rattle.model.specs.Machine.{startNode, partBytes}
-use Rattle.model.specs.Run.{Counts, settingTo, noNode, nodeOf, startNodes, startRun}
+use Rattle.model.specs.Run.{Counts, settingAt, noNode, nodeOf, startNodes, startRun}
 use Rattle.model.proofs.Program.Decode.{initial-code}
 use Rattle.model.proofs.Node.Phase.{Heading}
 use Rattle.model.proofs.Node.Passage.{starts}
 use Rattle.model.proofs.Network.Links.{schedule-linked}
-use Rattle.model.proofs.Network.Going.{going-start}
-use Rattle.model.proofs.Run.Tied.{Given, coming, Tied, coded, component-in}
+use Rattle.model.proofs.Network.Ahead.{along-start}
+use Rattle.model.proofs.Network.Order.{stop}
+use Rattle.model.proofs.Run.Tied.{Given, coming, clockAt, Tied, coded, component-in}
 
 -- a component's counts
 abbrev countsOf : Component → Counts
@@ -38,21 +40,24 @@ start-at program k (C ∷ Cs) (suc c) h =
     start-at program (suc k) Cs c (omega arith)
     ∙ ap (λ (i : ℕ). startNode (partBytes program i) (getD Cs c noComponent .clocks) (getD Cs c noComponent .variables)) e
 
-module _ {t : Read} {H : ℕ} {S : List Passage} (G : Given t H S) where
+module _ {t : Read} {H : ℕ} {S : List Passage} {offs : List ℕ} (G : Given t H S offs) where
   -- node c of the run's start
   pub start-node : (c : ℕ) → c < size (t .table)
-      → nodeOf (startRun (settingTo t H S)) c ≡ startNode (partBytes (programBytes t) c) (componentOf (t .table) c .clocks) (componentOf (t .table) c .variables)
+      → nodeOf (startRun (settingAt t H S offs)) c ≡ startNode (partBytes (programBytes t) c) (componentOf (t .table) c .clocks) (componentOf (t .table) c .variables)
   start-node c h =
       let e : 0 + c ≡ c = omega arith in
       start-at (programBytes t) 0 (t .table .components) c h
       ∙ ap (λ (i : ℕ). startNode (partBytes (programBytes t) i) (componentOf (t .table) c .clocks) (componentOf (t .table) c .variables)) e
 
   -- the start is tied
-  pub tied-start : Tied G (startRun (settingTo t H S))
+  pub tied-start : Tied G (startRun (settingAt t H S offs))
   tied-start =
       record {
         ahead = λ c. own c S;
-        going = going-start (G .most) (t .table) H S (G .sched) (G .checks);
+        along = along-start (G .spread) (G .most) (t .table) H S (G .sched) (G .checks) (clockAt G 0) (λ c h. omega arith);
+        came = stop (λ d h. refl);
+        logged = record { sorted = tt; each = empty };
+        silent = λ c h l. refl;
         full = start-length (programBytes t) 0 (t .table .components);
         ties = λ c h.
             let k = schedule-linked (G .most) (t .table) H S (G .sched) c h in
@@ -65,7 +70,7 @@ module _ {t : Read} {H : ℕ} {S : List Passage} (G : Given t H S) where
               whole = refl;
               held =
                   coming (k .head) (k .tail) (k .is) refl (omega arith)
-                  (subst (λ (at : Entry). Heading (componentOf (t .table) c) 0 at (nodeOf (startRun (settingTo t H S)) c)) (sym (k .starts))
+                  (subst (λ (at : Entry). Heading (componentOf (t .table) c) 0 at (nodeOf (startRun (settingAt t H S offs)) c)) (sym (k .starts))
                   (subst (Heading (componentOf (t .table) c) 0 (startEntry (componentOf (t .table) c))) (sym (start-node c h)) g));
               shown = refl;
             };

@@ -9,20 +9,20 @@ use Rattle.run.proofs.run_in.Statement.{statement}
 use Rattle.run.proofs.run_in.Tie as tie
 
 write-program-requires : tie.Need-write-program-requires
-write-program-requires c κs = let s = c .before .before .before .before .before .before in (s .pre .0, s .pre .1, s .pre .2)
+write-program-requires c κs = let s = c .before .before .before .before .before .before .before in (s .pre .0, s .pre .1, s .pre .2)
 
 slice-reshare-prefix-run-program : tie.Need-slice-reshare-prefix-run-program
-slice-reshare-prefix-run-program c = let written = c .before .before .write-program .ensures in front-fits (programBytes (readOf (c .before .before .before .before .before .before .before .before .before .args .table .now))) _ (written .0) (written .1)
+slice-reshare-prefix-run-program c = let written = c .before .before .write-program .ensures in front-fits (programBytes (readOf (c .before .before .before .before .before .before .before .before .before .before .args .table .now))) _ (written .0) (written .1)
 
 slice-aggregate-run-program : tie.Need-slice-aggregate-run-program
 slice-aggregate-run-program c =
-    let program = programBytes (readOf (c .before .before .before .before .before .before .before .before .before .before .args .table .now)) in
+    let program = programBytes (readOf (c .before .before .before .before .before .before .before .before .before .before .before .args .table .now)) in
     let written = c .before .before .before .write-program .ensures in
     written .0 ∙ sym (ap length (front-is program _ (written .0) (written .1)))
 
 run-program-requires : tie.Need-run-program-requires
 run-program-requires c κs =
-    let s = c .before .before .before .before .before .before .before .before .before .before .before in
+    let s = c .before .before .before .before .before .before .before .before .before .before .before .before in
     let program = programBytes (readOf (s .args .table .now)) in
     let written = c .before .before .before .before .write-program .ensures in
     (s .pre .0, s .pre .1, front-is program _ (written .0) (written .1), s .pre .3, s .pre .4, s .pre .5)

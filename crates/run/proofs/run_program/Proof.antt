@@ -3,7 +3,7 @@ use borrow.Author.Needs.{needs}
 use native.Mathlib.Omega.{arith}
 use lib.ListN.{length}
 use Rattle.translator.proofs.Standing.{slice-bytes, few-nodes, valid-long}
-use Rattle.run.proofs.Handed.{room-enough, ends-so}
+use Rattle.run.proofs.Handed.{small-offsets, room-enough, ends-so}
 use Rattle.run.proofs.run_program.Statement.{statement}
 use Rattle.run.proofs.run_program.Tie as tie
 
@@ -14,27 +14,31 @@ slice-aggregate-start-2 : tie.Need-slice-aggregate-start-2
 slice-aggregate-start-2 c = search needs
 
 start-requires : tie.Need-start-requires
-start-requires c κs = search needs
+start-requires c κs =
+    let s = c .before .before .before .before .before .before .before .before in
+    let table = s .args .table .now in
+    let bytes = slice-bytes table (c .before .before .before .before .before .before .before .shared-slice-known .given) in
+    (s .pre .0, s .pre .1, search needs, s .pre .3 .plan .stand, small-offsets table bytes (s .pre .0) (s .pre .3))
 
 shared-slice-read-count : tie.Need-shared-slice-read-count
 shared-slice-read-count c =
-    let s = c .before .before .before .before .before .before .before .before .before .before .before in
+    let s = c .before .before .before .before .before .before .before .before .before .before .before .before in
     let table = s .args .table .now in
-    let bytes = slice-bytes table (c .before .before .before .before .before .before .before .before .before .before .shared-slice-known .given) in
+    let bytes = slice-bytes table (c .before .before .before .before .before .before .before .before .before .before .before .shared-slice-known .given) in
     omega (arith, valid-long table bytes (s .pre .0))
 
 cast-count : tie.Need-cast-count
 cast-count c =
-    let s = c .before .before .before .before .before .before .before .before .before .before .before in
+    let s = c .before .before .before .before .before .before .before .before .before .before .before .before in
     let table = s .args .table .now in
-    let bytes = slice-bytes table (c .before .before .before .before .before .before .before .before .before .before .shared-slice-known .given) in
+    let bytes = slice-bytes table (c .before .before .before .before .before .before .before .before .before .before .before .shared-slice-known .given) in
     omega (arith, few-nodes table bytes (s .pre .0))
 
 word-at-requires : tie.Need-word-at-requires
 word-at-requires c κs =
-    let s = c .before .before .before .before .before .before .before .before .before .before .before in
+    let s = c .before .before .before .before .before .before .before .before .before .before .before .before in
     let table = s .args .table .now in
-    let bytes = slice-bytes table (c .before .before .before .before .before .before .before .before .before .before .shared-slice-known .given) in
+    let bytes = slice-bytes table (c .before .before .before .before .before .before .before .before .before .before .before .shared-slice-known .given) in
     omega (arith, valid-long table bytes (s .pre .0))
 
 cast-horizon : tie.Need-cast-horizon
@@ -48,9 +52,9 @@ slice-aggregate-carry-out-2 c = search needs
 
 carry-out-requires : tie.Need-carry-out-requires
 carry-out-requires c κs =
-    let s = c .before .before .before .before .before .before .before .before .before .before .before .before .before .before .before in
+    let s = c .before .before .before .before .before .before .before .before .before .before .before .before .before .before .before .before in
     let table = s .args .table .now in
-    let bytes = slice-bytes table (c .before .before .before .before .before .before .before .before .before .before .before .before .before .before .shared-slice-known .given) in
+    let bytes = slice-bytes table (c .before .before .before .before .before .before .before .before .before .before .before .before .before .before .before .shared-slice-known .given) in
     let started = c .before .before .before .before .before .before .before .start .ensures in
     let word-at = c .before .before .before .word-at in (
       started .running (word-at .result),
@@ -63,9 +67,9 @@ same-length c = search needs
 
 returns : tie.Need-returns
 returns c =
-    let s = c .before .before .before .before .before .before .before .before .before .before .before .before .before .before .before .before .before .before .before .before in
+    let s = c .before .before .before .before .before .before .before .before .before .before .before .before .before .before .before .before .before .before .before .before .before in
     let table = s .args .table .now in
-    let bytes = slice-bytes table (c .before .before .before .before .before .before .before .before .before .before .before .before .before .before .before .before .before .before .before .shared-slice-known .given) in
+    let bytes = slice-bytes table (c .before .before .before .before .before .before .before .before .before .before .before .before .before .before .before .before .before .before .before .before .shared-slice-known .given) in
     ends-so table bytes (s .pre .0) (s .pre .2) (s .pre .3) (c .before .before .before .before .before .before .before .before .before .before .before .before .start .ensures) (c .before .before .before .before .before .before .before .before .word-at .ensures) (c .before .before .before .before .carry-out .ensures)
 
 pub run-program-spec : {M : Type 1} → statement M

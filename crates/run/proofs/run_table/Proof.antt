@@ -24,7 +24,7 @@ slice-aggregate-run-in-2 c = search needs
 
 run-in-requires-2 : tie.Need-run-in-requires-2
 run-in-requires-2 c κs =
-    let s = c .before .before .before .before .before .before .before .before in
+    let s = c .before .before .before .before .before .before .before .before .before in
     let long = c .before .before .before .program-length .ensures in
     (s .pre .0, s .pre .1, omega (arith, long), s .pre .2, s .pre .3, s .pre .4)
 

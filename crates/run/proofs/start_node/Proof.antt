@@ -1,6 +1,6 @@
 -- `run::start_node` meets its contract. Assumes nothing.
 use borrow.Author.Needs.{needs}
-use Rattle.run.proofs.Beginning.{put-eight, put-inside, begun-within, node-started}
+use Rattle.run.proofs.Beginning.{put-eight, put-inside, put-wake, begun-within, node-started}
 use Rattle.run.proofs.start_node.Statement.{statement}
 use Rattle.run.proofs.start_node.Tie as tie
 
@@ -50,7 +50,7 @@ put-node-requires c κs =
     let pre = c .before .before .before .before .before .before .before .before .before .before .before .before .before .before .before .before .pre in
     let span = c .before .before .before .before .before .before .before .before .before .before .before .span-of .ensures in
     let put = c .before .before .before .before .before .before .put-fixed .ensures in
-    (put-eight program known span put (pre .0), pre .1, pre .2, put-inside program known span put, begun-within program known span put (c .before .before .start-node .ensures))
+    (put-eight program known span put (pre .0), pre .1, pre .2, put-inside program known span put, begun-within program known span put (c .before .before .start-node .ensures), put-wake program known span put (pre .6))
 
 same-length : tie.Need-same-length
 same-length c = search needs
@@ -65,7 +65,7 @@ returns c =
     let known = c .before .before .before .before .before .before .before .before .before .before .before .before .before .before .before .before .before .before .shared-slice-known2 .given in
     let span = c .before .before .before .before .before .before .before .before .before .before .before .before .before .before .before .span-of .ensures in
     let put = c .before .before .before .before .before .before .before .before .before .before .put-fixed .ensures in
-    node-started program known span put (s .args .rows .now) (s .args .passages) (s .pre .4) (s .pre .5) (c .before .before .before .before .before .before .start-node .ensures) (c .before .before .before .before .before .before .before .before .before .before .before .before .before .before .next-row .ensures) (c .before .before .before .put-node .ensures)
+    node-started program known span put (s .args .rows .now) (s .args .passages) (s .pre .4) (s .pre .5) (s .pre .6) (c .before .before .before .before .before .before .start-node .ensures) (c .before .before .before .before .before .before .before .before .before .before .before .before .before .before .next-row .ensures) (c .before .before .before .put-node .ensures)
 
 pub start-node-spec : {M : Type 1} → statement M
 start-node-spec =

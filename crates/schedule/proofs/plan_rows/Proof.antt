@@ -35,7 +35,7 @@ same-length : tie.Need-same-length
 same-length c = search needs
 
 returns : tie.Need-returns
-returns c = let r = c .before .before .before .before .schedule-rows in plan-refused (c .before .before .before .before .before .before .before .before .args .table .now) (r .result) (r .last .1 .1 .0) (r .ensures) (c .enum-told .given .1)
+returns c = let r = c .before .before .before .before .schedule-rows in plan-refused (c .before .before .before .before .before .before .before .before .args .table .now) (r .result) (r .last .1 .1 .0) (r .ensures) (c .before .before .before .before .before .before .before .before .args .spread) (c .enum-told .given .1)
 
 same-length-2 : tie.Need-same-length-2
 same-length-2 c = search needs
@@ -46,7 +46,7 @@ returns-2 c =
     let s = e .args .table .now in
     let r = c .before .before .before .before .before .before .before .before .before .before .before .schedule-rows in
     let w = c .before .before .before .check-messages in
-    plan-faulty s (r .result) (r .last .1 .1 .0) (r .ensures) (c .before .before .before .before .before .before .before .enum-told2 .given .1) (c .before .before .before .before .word32 .result)
+    plan-faulty s (r .result) (r .last .1 .1 .0) (r .ensures) (c .before .before .before .before .before .before .before .enum-told2 .given .1) (e .args .spread) (c .before .before .before .before .word32 .result)
     (c .before .before .before .before .word32 .ensures .0 ∙ c .before .before .before .before .before .word-at .ensures ∙ horizon-is s (c .before .before .before .before .before .before .before .before .before .before .before .before .before .before .shared-slice-known .given) (e .pre .0)) (w .result) (w .ensures) (c .before .checked .given .1)
 
 same-length-3 : tie.Need-same-length-3
@@ -58,7 +58,7 @@ returns-3 c =
     let s = e .args .table .now in
     let r = c .before .before .before .before .before .before .before .before .before .before .schedule-rows in
     let w = c .before .before .check-messages in
-    plan-accepted s (r .result) (r .last .1 .1 .0) (r .ensures) (c .before .before .before .before .before .before .enum-told2 .given .1) (c .before .before .before .word32 .result)
+    plan-accepted s (r .result) (r .last .1 .1 .0) (r .ensures) (c .before .before .before .before .before .before .enum-told2 .given .1) (e .args .spread) (c .before .before .before .word32 .result)
     (c .before .before .before .word32 .ensures .0 ∙ c .before .before .before .before .word-at .ensures ∙ horizon-is s (c .before .before .before .before .before .before .before .before .before .before .before .before .before .shared-slice-known .given) (e .pre .0)) (w .result) (w .ensures) (c .enum-told3 .given .1)
 
 pub plan-rows-spec : {M : Type 1} → statement M

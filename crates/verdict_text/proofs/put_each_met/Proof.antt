@@ -12,12 +12,12 @@ use Rattle.verdict_text.proofs.put_each_met.Statement.{statement}
 use Rattle.verdict_text.proofs.put_each_met.Tie as tie
 
 abbrev Inv-loop : tie.InvT-loop
-Inv-loop out₀ at number list n end₀ i₀ out end i =
+Inv-loop out₀ at number list n spread end₀ i₀ out end i =
     (1 ≤ i) × (i ≤ n) × (at + n * 160 ≤ length out₀) × (n * 7 ≤ length list) × (length out ≡ length out₀) × (end ≤ at + i * 160)
-    × (take end out ++ left 7 metAt (metLine number (metAt list)) list n i ≡ take at out₀ ++ left 7 metAt (metLine number (metAt list)) list n 1)
+    × (take end out ++ left 7 metAt (metLine spread number (metAt list)) list n i ≡ take at out₀ ++ left 7 metAt (metLine spread number (metAt list)) list n 1)
 
 abbrev μ-loop : tie.MeasureT-loop
-μ-loop out₀ at number list n end₀ i₀ out end i = n - i
+μ-loop out₀ at number list n spread end₀ i₀ out end i = n - i
 
 loop-holds : tie.Need-loop-holds Inv-loop μ-loop
 loop-holds c =
@@ -53,7 +53,7 @@ loop-again c =
     let s = c .before .before .before .before .before .before .before .before .before .args in
     let l = c .before .before .before .before .before .before .loop in
     let p = c .before .before .put-met in
-    let line = metLine (s .number) (metAt (s .list .now)) in
+    let line = metLine (s .spread) (s .number) (metAt (s .list .now)) in
     (omega arith, omega arith, l .inv .2, l .inv .3, p .kept .0 ∙ l .inv .4, omega (arith, p .ensures .1, l .inv .5), left-turn 7 metAt line (s .list .now) (l .out) (p .last .0) (take (s .at) (s .out .now) ++ left 7 metAt line (s .list .now) (s .n) 1) (l .end) (p .result) (s .n) (l .i) (omega arith) (p .ensures .0) (l .inv .6))
 
 same-length : tie.Need-same-length Inv-loop μ-loop
@@ -64,7 +64,7 @@ unfolding left
 returns c =
     let s = c .before .before .before .before .args in
     let l = c .before .loop in
-    let line = metLine (s .number) (metAt (s .list .now)) in
+    let line = metLine (s .spread) (s .number) (metAt (s .list .now)) in
     let e : l .i ≡ s .n = omega arith in
     (record { text = left-done 7 metAt line (s .list .now) (l .out) (take (s .at) (s .out .now) ++ left 7 metAt line (s .list .now) (s .n) 1) (l .end) (s .n) (l .i) e (l .inv .6) }, omega (arith, l .inv .5, e))
 

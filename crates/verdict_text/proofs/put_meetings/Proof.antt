@@ -15,7 +15,7 @@ returns : tie.Need-returns
 unfolding meetingsText told
 returns c =
     let a = c .before .before .before .args in
-    (same-words (meetingsText (a .number) (metsOf (a .list .now) (a .n))) (nothing (a .out .now) (a .at)) (ap (λ (m : ℕ). meetingsText (a .number) (metsOf (a .list .now) m)) (sym (c .if1 .taken))), omega arith)
+    (same-words (meetingsText (a .spread) (a .number) (metsOf (a .list .now) (a .n))) (nothing (a .out .now) (a .at)) (ap (λ (m : ℕ). meetingsText (a .spread) (a .number) (metsOf (a .list .now) m)) (sym (c .if1 .taken))), omega arith)
 
 put-fault-requires : tie.Need-put-fault-requires
 put-fault-requires c κs = search needs
@@ -35,7 +35,7 @@ returns-2 c =
     let p1 = c .before .before .before .before .before .before .before .before .before .before .put-fault in
     let p2 = c .before .before .before .before .before .before .put-met-lines in
     let p3 = c .before .before .put-remedy in
-    (same-words (meetingsText (a .number) (metsOf (a .list .now) (a .n))) (next (next (p1 .ensures .0) (p2 .ensures .0)) (p3 .ensures .0)) (first-at-fault (a .number) (a .list .now) (a .n) (c .before .before .before .before .before .before .before .before .before .before .before .before .if1 .left)), omega (arith, p1 .ensures .1, p2 .ensures .1, p3 .ensures .1))
+    (same-words (meetingsText (a .spread) (a .number) (metsOf (a .list .now) (a .n))) (next (next (p1 .ensures .0) (p2 .ensures .0)) (p3 .ensures .0)) (first-at-fault (a .spread) (a .number) (a .list .now) (a .n) (c .before .before .before .before .before .before .before .before .before .before .before .before .if1 .left)), omega (arith, p1 .ensures .1, p2 .ensures .1, p3 .ensures .1))
 
 pub put-meetings-spec : {M : Type 1} → statement M
 put-meetings-spec =

@@ -28,7 +28,7 @@ returns c =
     let a = c .before .before .before .before .before .before .before .before .args in
     let p = c .before .before .put in
     let l = a .list .now in
-    (same-words (metLines (a .number) (metAt l) (metsOf (drop 7 l) (a .n - 1))) (p .ensures .0) (one-met (a .number) (metAt l) (drop 7 l) (a .n) (c .before .before .before .before .before .if1 .taken)), omega (arith, p .ensures .1, c .before .before .before .before .before .if1 .taken))
+    (same-words (metLines (a .spread) (a .number) (metAt l) (metsOf (drop 7 l) (a .n - 1))) (p .ensures .0) (one-met (a .spread) (a .number) (metAt l) (drop 7 l) (a .n) (c .before .before .before .before .before .if1 .taken)), omega (arith, p .ensures .1, c .before .before .before .before .before .if1 .taken))
 
 same-length-2 : tie.Need-same-length-2
 same-length-2 c = search needs
@@ -38,7 +38,7 @@ returns-2 c =
     let a = c .before .before .before .before .before .before .before .args in
     let p = c .before .before .put-each-met in
     let l = a .list .now in
-    (same-words (metLines (a .number) (metAt l) (metsOf (drop 7 l) (a .n - 1))) (p .ensures .0) (more-met (a .number) (metAt l) (drop 7 l) (a .n) (c .before .before .before .before .before .before .before .pre .2) (c .before .before .before .before .if1 .left)), p .ensures .1)
+    (same-words (metLines (a .spread) (a .number) (metAt l) (metsOf (drop 7 l) (a .n - 1))) (p .ensures .0) (more-met (a .spread) (a .number) (metAt l) (drop 7 l) (a .n) (c .before .before .before .before .before .before .before .pre .2) (c .before .before .before .before .if1 .left)), p .ensures .1)
 
 pub put-met-lines-spec : {M : Type 1} → statement M
 put-met-lines-spec =

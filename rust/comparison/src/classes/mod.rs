@@ -1,5 +1,6 @@
 //! The classes of cases.
 
+mod apart;
 mod at_once;
 mod bases;
 mod charts;
@@ -67,7 +68,7 @@ const fn class(name: &'static str, run: fn(&mut Trial, &mut Random, &Extent) -> 
 }
 
 /// All classes, in the order in which they are tried.
-pub const CLASSES: [Class; 60] = [
+pub const CLASSES: [Class; 67] = [
     class("vectors", stored::vectors),
     class("corpus", stored::corpus),
     class("random bytes", random_bytes::anything),
@@ -131,4 +132,11 @@ pub const CLASSES: [Class; 60] = [
     class("runs to late ticks", running::far),
     class("runs of up to 1,024 passages", running::long),
     class("runs with too many choices", running::too_many),
+    class("chains at a spread", apart::chains),
+    class("margins and gaps at a spread", apart::margins),
+    class("plans at a spread", apart::plans),
+    class("apart: runs of chains", apart::run_chains),
+    class("apart: runs of plans", apart::run_plans),
+    class("apart: runs of stored tables", apart::run_stored),
+    class("apart: refused runs", apart::refused),
 ];

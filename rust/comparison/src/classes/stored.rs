@@ -5,8 +5,9 @@ use super::Extent;
 use crate::bytes::hex;
 use crate::difference::{Outcome, Stop};
 use crate::random::Random;
-use crate::requests::{self, Request};
+use crate::requests::{self, Apart, Request};
 use crate::runs;
+use crate::runs::apart::Handed;
 use crate::stored::{self, Stored};
 use crate::trial::Trial;
 use timed_network::{RunNumbers, OBSERVATION};
@@ -16,7 +17,11 @@ pub(super) fn vectors(trial: &mut Trial, _: &mut Random, _: &Extent) -> Outcome 
 }
 
 pub(super) fn corpus(trial: &mut Trial, _: &mut Random, _: &Extent) -> Outcome {
-    expect_all(trial, stored::corpus())
+    expect_all(trial, stored::corpus())?;
+    for (table, spread, answer) in stored::corpus_spreads().map_err(Stop::Unreadable)? {
+        trial.expect_spread(&table, spread, answer)?;
+    }
+    Ok(())
 }
 
 fn expect_all(trial: &mut Trial, tables: Result<Vec<Stored>, String>) -> Outcome {
@@ -29,7 +34,8 @@ fn expect_all(trial: &mut Trial, tables: Result<Vec<Stored>, String>) -> Outcome
     Ok(())
 }
 
-/// The programs, parts, charts, plans, edge choices and runs of the vectors.
+/// The programs, parts, charts, plans, edge choices, verdicts at a spread and runs
+/// of the vectors.
 pub(super) fn requests(trial: &mut Trial, _: &mut Random, _: &Extent) -> Outcome {
     for request in requests::requests().map_err(Stop::Unreadable)? {
         match &request {
@@ -65,6 +71,12 @@ pub(super) fn requests(trial: &mut Trial, _: &mut Random, _: &Extent) -> Outcome
                 let answer = runs::numbers(&ran(numbers, observations.len()));
                 trial.expect_run(table, choices, &answer, observations)?;
             }
+            Request::Spread {
+                table,
+                spread,
+                answer,
+            } => trial.expect_spread(table, *spread, *answer)?,
+            Request::Apart(request) => expect_apart(trial, request)?,
             Request::Refused {
                 table,
                 choices,
@@ -73,6 +85,20 @@ pub(super) fn requests(trial: &mut Trial, _: &mut Random, _: &Extent) -> Outcome
         }
     }
     Ok(())
+}
+
+/// A run of nodes that wake apart.
+fn expect_apart(trial: &mut Trial, request: &Apart) -> Outcome {
+    let handed = Handed {
+        choices: &request.choices,
+        spread: request.spread,
+        offsets: &request.offsets,
+    };
+    let answer = match &request.answer {
+        Ok((answer, observations)) => format!("{}: {}", runs::numbers(answer), hex(observations)),
+        Err(refused) => refused.to_string(),
+    };
+    trial.expect_run_apart(&request.table, &handed, request.lent, &answer)
 }
 
 /// The whole answer of a run that took place.

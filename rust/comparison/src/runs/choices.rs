@@ -36,8 +36,19 @@ impl Manner {
 
 /// A list of at most so many choices, about, drawn in this manner.
 pub fn draw(random: &mut Random, demand: &Demand, manner: Manner, most: usize) -> Vec<u8> {
+    draw_apart(random, demand, &[], manner, most)
+}
+
+/// The same for nodes that wake with these offsets.
+pub fn draw_apart(
+    random: &mut Random,
+    demand: &Demand,
+    offsets: &[u32],
+    manner: Manner,
+    most: usize,
+) -> Vec<u8> {
     let mut draw = Draw {
-        list: List::new(demand.walk(), most),
+        list: List::new(demand.walk_apart(offsets), most),
     };
     match manner {
         Manner::Early => draw.early(random),
@@ -100,6 +111,8 @@ impl Draw<'_> {
                         continue;
                     }
                     Err(Refusal::NothingKept) => random.once_in(9),
+                    // Of an accepted table there is one; without it nothing goes on.
+                    Err(Refusal::NoListener) => true,
                     Err(_) => random.once_in(right),
                 };
                 failed += 1;

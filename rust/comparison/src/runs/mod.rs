@@ -1,7 +1,9 @@
 //! Runs: both carry out the same choices and are lent as many bytes; what
 //! they say and write is compared, and held to demand 3.
 
+pub mod apart;
 pub mod choices;
+pub mod offsets;
 mod tally;
 
 pub use tally::Runs;
@@ -11,7 +13,7 @@ use crate::bytes::hex;
 use crate::lists::Unlike;
 use crate::readers::{Reader, Readers};
 use demand::{Claim, Demand, Facts};
-use reference::checks::verdict;
+use reference::checks::verdict_within;
 use reference::schedule::Passage;
 use reference::table::Table;
 use timed_network::{RunNumbers, MAX_PASSAGES, OBSERVATION};
@@ -32,7 +34,12 @@ pub struct Subject {
 impl Subject {
     /// The table of these bytes, if it is accepted.
     pub fn new(bytes: &[u8]) -> Option<Subject> {
-        let (table, passages) = verdict(bytes).ok()?;
+        Subject::within(bytes, 0)
+    }
+
+    /// The table of these bytes, if it is accepted at a spread.
+    pub fn within(bytes: &[u8], spread: u32) -> Option<Subject> {
+        let (table, passages) = verdict_within(bytes, spread).ok()?;
         Some(Subject {
             bytes: bytes.to_vec(),
             table,
@@ -73,8 +80,13 @@ pub struct Lent {
 impl Lent {
     /// Lends bytes of this length.
     pub fn to(reader: &Reader, table: &[u8], choices: &[u8], length: usize) -> Lent {
+        Lent::by(length, |bytes| (reader.run)(table, choices, bytes))
+    }
+
+    /// Lends bytes of this length to a call.
+    fn by(length: usize, run: impl FnOnce(&mut [u8]) -> RunNumbers) -> Lent {
         let mut buffer = Buffer::new(length);
-        let answer = (reader.run)(table, choices, buffer.lent());
+        let answer = run(buffer.lent());
         Lent { answer, buffer }
     }
 
@@ -154,27 +166,38 @@ pub fn compare(
 ) -> Result<Ran, Broken> {
     let library = Lent::to(&readers.library, table, choices, length);
     let second = Lent::to(&readers.second, table, choices, length);
-    let place = first_difference(library.observations(), second.observations());
+    alike(&library, &second)?;
+    let facts = match demand {
+        Some(demand) if !library.is_refused() => {
+            let held = demand.hold(choices, &claim(&library));
+            Some(held.map_err(|problem| broken(&library, &second, Some(problem)))?)
+        }
+        _ => None,
+    };
+    let answer = library.answer;
+    Ok(Ran { answer, facts })
+}
+
+/// Both say and write the same, and nothing past it.
+fn alike(library: &Lent, second: &Lent) -> Result<(), Broken> {
+    let same = library.answer == second.answer && library.observations() == second.observations();
     let kept = |side: &Lent| side.buffer.written_past(side.size()).is_none();
-    let broken = |demand| Broken {
+    if same && kept(library) && kept(second) {
+        return Ok(());
+    }
+    Err(broken(library, second, None))
+}
+
+/// What both say of a run, and what the demand says.
+fn broken(library: &Lent, second: &Lent, demand: Option<String>) -> Broken {
+    let place = first_difference(library.observations(), second.observations());
+    Broken {
         unlike: Unlike {
             library: library.told(place),
             second: second.told(place),
         },
         demand,
-    };
-    let answer = library.answer;
-    if answer != second.answer || place.is_some() || !kept(&library) || !kept(&second) {
-        return Err(broken(None));
     }
-    let facts = match demand {
-        Some(demand) if !library.is_refused() => {
-            let held = demand.hold(choices, &claim(&library));
-            Some(held.map_err(|problem| broken(Some(problem)))?)
-        }
-        _ => None,
-    };
-    Ok(Ran { answer, facts })
 }
 
 /// What a run says of itself.

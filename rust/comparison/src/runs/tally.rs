@@ -7,13 +7,16 @@ use demand::{LATE, NOT_ALLOWED};
 use std::fmt;
 
 /// The reasons for which a choice is not allowed, and the words for them.
-pub const REASONS: [&str; 5] = [
+pub const REASONS: [&str; 6] = [
     "no such node",
     "nothing kept",
     "early sleep",
     "early listen",
     "tick while due",
+    "yet to wake",
 ];
+/// The last of them, which only nodes that wake apart have.
+pub const ASLEEP: usize = 5;
 
 /// What runs came to.
 #[derive(Clone, Copy, Debug, Default, PartialEq, Eq)]
@@ -52,6 +55,7 @@ fn reason(refusal: Refusal) -> Option<usize> {
         Refusal::EarlySleep => Some(2),
         Refusal::EarlyListen => Some(3),
         Refusal::Due(_) => Some(4),
+        Refusal::Asleep => Some(ASLEEP),
         Refusal::NoListener => None,
     }
 }
@@ -118,7 +122,7 @@ impl Runs {
     pub fn gaps(&self, least: u64) -> Vec<String> {
         let ends = (0..).zip(self.ends);
         let ends = ends.map(|(end, count)| (count, format!("runs that ended with {end}")));
-        let reasons = REASONS.iter().zip(self.reasons);
+        let reasons = REASONS.iter().zip(self.reasons).take(ASLEEP);
         let reasons = reasons.map(|(reason, count)| (count, format!("choices refused: {reason}")));
         let others = [
             (self.late_at_work, "runs late at work"),
@@ -203,7 +207,7 @@ mod tests {
             ends: [1, 0, 2, 4],
             late_at_work: 2,
             several_late: 1,
-            reasons: [3, 0, 0, 0, 1],
+            reasons: [3, 0, 0, 0, 1, 0],
             choices: 50,
             messages: 6,
             ..refused

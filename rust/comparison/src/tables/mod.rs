@@ -4,7 +4,9 @@
 //! They are built as the second implementation's types, so that they can be
 //! changed before `write_table` turns them into bytes.
 
+pub mod apart;
 pub mod bands;
+pub mod chains;
 mod edges;
 mod exact;
 pub mod planned;

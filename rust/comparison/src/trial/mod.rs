@@ -3,6 +3,7 @@
 
 mod choosing;
 mod running;
+mod spreading;
 
 use crate::difference::{Difference, Expected, Outcome, Stop};
 use crate::lists::{self, Lent, Unlike, AMPLE};
@@ -82,6 +83,7 @@ impl<'a> Trial<'a> {
             return Err(self.differs(input, "check".to_string(), unlike, expected));
         }
         self.tally.count(library);
+        self.spread_some(input, library)?;
         match library {
             Verdict::Accepted => self.lend_for_accepted(input),
             Verdict::Refused { number, .. } => self.lend_for_refused(input, number),

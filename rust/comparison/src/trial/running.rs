@@ -223,7 +223,13 @@ impl Trial<'_> {
     }
 
     /// What is said has to be what is known.
-    fn demand(&self, input: &[u8], call: &str, said: String, expected: String) -> Outcome {
+    pub(super) fn demand(
+        &self,
+        input: &[u8],
+        call: &str,
+        said: String,
+        expected: String,
+    ) -> Outcome {
         if said == expected {
             return Ok(());
         }

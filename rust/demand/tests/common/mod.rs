@@ -2,7 +2,7 @@
 //! implementation.
 #![allow(dead_code)]
 
-use demand::{Claim, Demand, Facts, TICK};
+use demand::{Claim, Demand, Facts, OBSERVATION, TICK};
 use reference::program::program;
 use reference::run::{run, Machine};
 use reference::schedule::Passage;
@@ -29,19 +29,66 @@ impl Answer {
     }
 }
 
+/// All answers that differ from this one in one number or one byte, in an
+/// observation more or less, or in the order of two.
+pub fn changed(answer: &Answer) -> Vec<Answer> {
+    let mut all = Vec::new();
+    for place in 0..4 {
+        for other in [0, 1, 2, 3, 254, 255, answer.numbers[place] + 1] {
+            let mut changed = answer.clone();
+            changed.numbers[place] = other;
+            all.push(changed);
+        }
+        let mut changed = answer.clone();
+        changed.numbers[place] = answer.numbers[place].wrapping_sub(1);
+        all.push(changed);
+    }
+    for place in (0..answer.observations.len()).step_by(3) {
+        for bit in [1, 128] {
+            let mut changed = answer.clone();
+            changed.observations[place] ^= bit;
+            all.push(changed);
+        }
+    }
+    for at in (0..answer.observations.len()).step_by(OBSERVATION) {
+        let mut changed = answer.clone();
+        let own: Vec<u8> = changed.observations.drain(at..at + OBSERVATION).collect();
+        all.push(changed.clone());
+        changed.observations.extend(own);
+        all.push(changed);
+    }
+    let mut changed = answer.clone();
+    changed.observations.extend([0; OBSERVATION]);
+    all.push(changed.clone());
+    changed.observations.push(0);
+    all.push(changed);
+    all.retain(|changed| changed != answer);
+    all
+}
+
 /// A `run` request of the vectors that is not refused.
 pub struct Stored {
     pub name: String,
     pub table: Vec<u8>,
     pub choices: Vec<u8>,
+    pub offsets: Vec<u32>,
     pub answer: Answer,
 }
 
-/// The runs of all vectors.
+/// The runs of all vectors whose nodes wake together.
 pub fn stored() -> Vec<Stored> {
+    read_stored(&["named.tsv", "random.tsv", "bands.tsv", "hearings.tsv"])
+}
+
+/// The runs of the vectors whose nodes wake apart.
+pub fn stored_apart() -> Vec<Stored> {
+    read_stored(&["apart.tsv"])
+}
+
+fn read_stored(files: &[&str]) -> Vec<Stored> {
     let folder = Path::new(env!("CARGO_MANIFEST_DIR")).join("../../vectors");
     let mut runs = Vec::new();
-    for file in ["named.tsv", "random.tsv", "bands.tsv", "hearings.tsv"] {
+    for file in files {
         let path = folder.join(file);
         let text = std::fs::read_to_string(&path)
             .unwrap_or_else(|error| panic!("{}: {error}", path.display()));
@@ -53,9 +100,18 @@ pub fn stored() -> Vec<Stored> {
 fn one(line: &str) -> Option<Stored> {
     let fields: Vec<&str> = line.split('\t').collect();
     let words: Vec<&str> = fields[1].split(' ').collect();
+    let words = match words[..] {
+        ["lent", _, ref run @ ..] => run,
+        ref all => all,
+    };
     let ("run", false) = (words[0], fields[2].starts_with("refused")) else {
         return None;
     };
+    // Behind the choices comes the spread.
+    let offsets = words.get(4).map_or(Vec::new(), |offsets| {
+        let numbers = offsets.split(',');
+        numbers.map(|offset| offset.parse().unwrap()).collect()
+    });
     let mut parts = fields[2].split('|');
     let first = parts.next().unwrap().split(' ');
     let numbers: Vec<u32> = first.map(|word| word.parse().unwrap()).collect();
@@ -63,6 +119,7 @@ fn one(line: &str) -> Option<Stored> {
         name: fields[0].to_string(),
         table: unhex(words[1]),
         choices: unhex(words[2]),
+        offsets,
         answer: Answer {
             numbers: numbers.try_into().unwrap(),
             observations: parts.flat_map(unhex).collect(),

@@ -1,4 +1,4 @@
-//! The step machine: all nodes and the tick.
+//! The step machine: all nodes, the common tick and the nodes' own clocks.
 
 use super::node::Node;
 use super::{OBSERVATION, TICK};
@@ -56,6 +56,8 @@ struct Coming {
 #[derive(Clone, Debug)]
 pub struct Machine<'a> {
     nodes: Vec<Node<'a>>,
+    /// The tick at which each node wakes.
+    offsets: [u32; MAX_COMPONENTS],
     coming: [Coming; MAX_COMPONENTS],
     clocks: [u8; MAX_COMPONENTS],
     passages: &'a [Passage],
@@ -68,6 +70,17 @@ impl<'a> Machine<'a> {
     /// start". Nothing for a program whose parts cannot be opened or that has
     /// not as many nodes as the table.
     pub fn new(table: &Table, passages: &'a [Passage], program: &'a [u8]) -> Option<Machine<'a>> {
+        Machine::apart(table, passages, program, &[])
+    }
+
+    /// The same with "an offset for each node". One that is missing is 0, those
+    /// behind the last node's are not looked at.
+    pub fn apart(
+        table: &Table,
+        passages: &'a [Passage],
+        program: &'a [u8],
+        offsets: &[u32],
+    ) -> Option<Machine<'a>> {
         let &[_, _, _, count, high, low] = program.first_chunk()?;
         let count = usize::from(count);
         if count != table.components.len() || count > MAX_COMPONENTS {
@@ -75,12 +88,16 @@ impl<'a> Machine<'a> {
         }
         let mut machine = Machine {
             nodes: Vec::with_capacity(count),
+            offsets: [0; MAX_COMPONENTS],
             coming: [Coming { index: 0, ready: 0 }; MAX_COMPONENTS],
             clocks: [0; MAX_COMPONENTS],
             passages,
             tick: 0,
             horizon: u16::from_be_bytes([high, low]).into(),
         };
+        for (place, offset) in machine.offsets[..count].iter_mut().zip(offsets) {
+            *place = *offset;
+        }
         for number in 0..count {
             let program = NodeProgram::new(part_bytes(program, number))?;
             machine.nodes.push(Node::new(program)?);
@@ -90,9 +107,14 @@ impl<'a> Machine<'a> {
         Some(machine)
     }
 
-    /// The present tick.
+    /// The present tick, the common one.
     pub fn tick(&self) -> u32 {
         self.tick
+    }
+
+    /// A node's own clock: "until that tick its clock stands at 0".
+    pub fn own_clock(&self, number: usize) -> u32 {
+        self.tick.saturating_sub(self.offsets[number])
     }
 
     /// The horizon of the program.
@@ -107,7 +129,7 @@ impl<'a> Machine<'a> {
 
     /// Carries out a choice: "Choice 0 to 7: that node finishes its
     /// statement. Choice 255: a tick passes." Nothing, and nothing changed,
-    /// where it is not allowed.
+    /// where it is not allowed. Until its offset "choosing it isn't allowed".
     #[inline]
     pub fn choose(&mut self, choice: u8) -> Option<Happening> {
         if choice == TICK {
@@ -115,10 +137,14 @@ impl<'a> Machine<'a> {
         }
         let number = usize::from(choice);
         let statement = self.nodes.get(number)?.statement()?;
+        if self.tick < self.offsets[number] {
+            return None;
+        }
         if statement.op == Op::Send {
             return self.send(number, statement.a);
         }
-        let happening = self.nodes[number].finish(choice, statement, self.tick)?;
+        let own_clock = self.own_clock(number);
+        let happening = self.nodes[number].finish(choice, statement, own_clock)?;
         if let Happening::Slept { .. } = happening {
             self.expect_passage(number, self.coming[number].index + 1);
         }
@@ -143,9 +169,10 @@ impl<'a> Machine<'a> {
 
     /// Not allowed: "a send without a listener that names its channel, has
     /// taken nothing and has listened at least as long". A node that stands
-    /// at its listen has taken nothing; it has listened since its t.
+    /// at its listen has taken nothing; it has listened since its t. How long two
+    /// nodes have done something is compared in common ticks.
     fn send(&mut self, sender: usize, channel: u8) -> Option<Happening> {
-        let since = self.nodes[sender].registers.t;
+        let since = self.began(sender);
         let (receiver, pairs, location) = self.listener(channel, since)?;
         self.nodes[sender].sent();
         self.nodes[receiver].received(pairs, location);
@@ -156,19 +183,26 @@ impl<'a> Machine<'a> {
         })
     }
 
+    /// The common tick at which a node's own clock shows its t.
+    fn began(&self, number: usize) -> u64 {
+        u64::from(self.nodes[number].registers.t) + u64::from(self.offsets[number])
+    }
+
     /// The lowest node that has listened to a channel since a tick: its
     /// number, its pair count and the paired location.
-    fn listener(&self, channel: u8, since: u32) -> Option<(usize, u8, u8)> {
+    fn listener(&self, channel: u8, since: u64) -> Option<(usize, u8, u8)> {
         let mut nodes = self.nodes.iter().enumerate();
         nodes.find_map(|(number, node)| {
             let (pairs, location) = node.listens_to(channel)?;
-            (node.registers.t <= since).then_some((number, pairs, location))
+            (self.began(number) <= since).then_some((number, pairs, location))
         })
     }
 
-    /// Not allowed: "a tick while a sleep or listen is due".
+    /// Not allowed: "a tick while a sleep or listen is due". A node that has yet
+    /// to wake stands at its first statement, which is neither.
     fn pass_tick(&mut self) -> Option<Happening> {
-        if self.nodes.iter().any(|node| is_due(node, self.tick)) {
+        let mut nodes = self.nodes.iter().enumerate();
+        if nodes.any(|(number, node)| is_due(node, self.own_clock(number))) {
             return None;
         }
         self.tick += 1;
@@ -180,25 +214,27 @@ impl<'a> Machine<'a> {
 
     /// "Late: a tick takes a node's work past its window's end, or takes a
     /// node that has yet to reach a sleep past that sleep's ready in the
-    /// schedule."
+    /// schedule." Both by its own clock, so that none is late before it wakes.
     fn is_late(&self, number: usize) -> bool {
         let node = &self.nodes[number];
+        let own_clock = self.own_clock(number);
         if node.registers.working {
-            return self.tick > node.window_end();
+            return own_clock > node.window_end();
         }
-        self.tick > self.coming[number].ready && !stands_at(node, Op::Sleep)
+        own_clock > self.coming[number].ready && !stands_at(node, Op::Sleep)
     }
 
     /// "Finished sleep writes an observation, due at the passage's ready, 32
     /// bytes: component, edge, location, 0, tick (4 bytes), four clocks grown
-    /// by n (4 each), four variables (2 each); absent ones 0." The node must
-    /// have finished the sleep by the last choice.
+    /// by n (4 each), four variables (2 each); absent ones 0." "Observations carry
+    /// the node's own clock". The node must have finished the sleep by the last
+    /// choice.
     pub fn observation(&self, node: u8) -> [u8; OBSERVATION] {
         let number = usize::from(node);
         let registers = &self.nodes[number].registers;
         let mut bytes = [0; OBSERVATION];
         bytes[..3].copy_from_slice(&[node, registers.edge, registers.location]);
-        bytes[4..8].copy_from_slice(&self.tick.to_be_bytes());
+        bytes[4..8].copy_from_slice(&self.own_clock(number).to_be_bytes());
         let present = usize::from(self.clocks[number]);
         let clocks = bytes[8..24].chunks_exact_mut(4);
         for (place, clock) in clocks.zip(&registers.clocks[..present]) {
@@ -218,7 +254,7 @@ fn stands_at(node: &Node, op: Op) -> bool {
     node.statement().is_some_and(|statement| statement.op == op)
 }
 
-/// Whether a node's sleep or listen is due at a tick.
+/// Whether a node's sleep or listen is due at a tick of its own clock.
 #[inline]
 fn is_due(node: &Node, tick: u32) -> bool {
     if node.registers.working {

@@ -1,5 +1,7 @@
 //! The run: choices carried out on the program bytes, its four ways to end,
-//! its observations, and beside them a log of finished work.
+//! its observations, and beside them a log of finished work. Document 02's wish 6
+//! gives each node an offset and a clock of its own; without offsets all nodes
+//! wake at tick 0, and the clocks are the tick.
 
 mod machine;
 mod node;
@@ -42,7 +44,8 @@ pub struct Outcome {
     pub used: u32,
 }
 
-/// A finished work, for comparison with a path of the network.
+/// A finished work, for comparison with a path of the network. Its tick is the
+/// common one.
 #[derive(Clone, Copy, Debug, PartialEq, Eq)]
 pub enum Event {
     /// Internal work was finished.
@@ -88,7 +91,19 @@ pub struct Run {
 /// the table gives the counts of clocks and variables. Nothing for a program
 /// whose parts cannot be opened.
 pub fn run(table: &Table, passages: &[Passage], program: &[u8], choices: &[u8]) -> Option<Run> {
-    let mut machine = Machine::new(table, passages, program)?;
+    run_apart(table, passages, program, choices, &[])
+}
+
+/// The same with "an offset for each node: until that tick its clock stands at 0
+/// and choosing it isn't allowed".
+pub fn run_apart(
+    table: &Table,
+    passages: &[Passage],
+    program: &[u8],
+    choices: &[u8],
+    offsets: &[u32],
+) -> Option<Run> {
+    let mut machine = Machine::apart(table, passages, program, offsets)?;
     let (mut observations, mut log) = (Vec::new(), Vec::new());
     let outcome = drive(&mut machine, choices, |machine, happening| {
         let tick = machine.tick();
@@ -116,8 +131,8 @@ pub fn run(table: &Table, passages: &[Passage], program: &[u8], choices: &[u8]) 
     })
 }
 
-/// The same run with its observations written into lent bytes, and their
-/// count. The bytes must hold [`OBSERVATION`] bytes for each passage.
+/// The same run as [`run`] with its observations written into lent bytes, and
+/// their count. The bytes must hold [`OBSERVATION`] bytes for each passage.
 pub fn run_into(
     table: &Table,
     passages: &[Passage],
@@ -125,7 +140,19 @@ pub fn run_into(
     choices: &[u8],
     bytes: &mut [u8],
 ) -> Option<(Outcome, usize)> {
-    let mut machine = Machine::new(table, passages, program)?;
+    run_apart_into(table, passages, program, choices, &[], bytes)
+}
+
+/// The same of [`run_apart`].
+pub fn run_apart_into(
+    table: &Table,
+    passages: &[Passage],
+    program: &[u8],
+    choices: &[u8],
+    offsets: &[u32],
+    bytes: &mut [u8],
+) -> Option<(Outcome, usize)> {
+    let mut machine = Machine::apart(table, passages, program, offsets)?;
     let mut count = 0;
     let mut places = bytes.chunks_exact_mut(OBSERVATION);
     let outcome = drive(&mut machine, choices, |machine, happening| {
@@ -139,7 +166,8 @@ pub fn run_into(
 }
 
 /// Carries out choices until the run ends: "Not allowed comes before late,
-/// late before horizon, horizon before used up."
+/// late before horizon, horizon before used up." "The horizon stays on the common
+/// tick."
 pub fn drive(
     machine: &mut Machine,
     choices: &[u8],

@@ -108,8 +108,8 @@ impl<'a> Node<'a> {
         self.registers.t.saturating_add(self.registers.d)
     }
 
-    /// Finishes a statement of its own, any but a send, at a tick. Nothing,
-    /// and nothing changed, where that is not allowed.
+    /// Finishes a statement of its own, any but a send, at a tick of its own
+    /// clock. Nothing, and nothing changed, where that is not allowed.
     #[inline]
     pub fn finish(&mut self, number: u8, statement: Statement, tick: u32) -> Option<Happening> {
         let Statement { op, a, .. } = statement;

@@ -11,6 +11,7 @@ mod write;
 
 pub use check::{check_only, Directory, Entry};
 pub use list::List;
+pub use parts::check_header;
 pub use read::read_table;
 pub use write::write_table;
 
@@ -42,7 +43,8 @@ pub const NO_COMPONENT: u8 = 255;
 /// "A refusal gives its number and a component".
 #[derive(Clone, Copy, Debug, PartialEq, Eq)]
 pub struct Refusal {
-    /// The number of the check that was not passed: 1 to 14, or 18.
+    /// The number of the check that was not passed: 1 to 12 or 15
+    /// to 17, 13, 14, 18, 19 or 20.
     pub number: u8,
     /// "255 for 1 to 3, 13, 14 [...]; for 4 to 9 the one read or opened; for
     /// 10 to 12 that of the first passage in schedule order at fault".

@@ -102,6 +102,11 @@ pub(super) fn header(bytes: &[u8]) -> Result<(Header<'_>, Reader<'_>), Refusal> 
     Ok((header, Reader { rest }))
 }
 
+/// Checks 1 to 3 alone.
+pub fn check_header(bytes: &[u8]) -> Result<(), Refusal> {
+    header(bytes).map(|_| ())
+}
+
 /// The bands behind the header, and what follows them: "a band above 3, or a
 /// table too short for its bands, is answered with 3".
 fn bands(version: u8, channels: u8, rest: &[u8]) -> Result<(&[u8], &[u8]), Refusal> {

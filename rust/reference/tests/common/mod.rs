@@ -126,8 +126,7 @@ pub struct Vector {
 
 /// All cases of the files, in their order. A missing file fails the test.
 pub fn vectors() -> Vec<Vector> {
-    let mut all = Vec::new();
-    for file in [
+    read_vectors(&[
         "named.tsv",
         "random.tsv",
         "chart.tsv",
@@ -135,7 +134,18 @@ pub fn vectors() -> Vec<Vector> {
         "hearings.tsv",
         "plan.tsv",
         "edge_choice.tsv",
-    ] {
+    ])
+}
+
+/// The cases of nodes that wake apart: `check` and `run` with a spread, `run`
+/// with offsets.
+pub fn vectors_apart() -> Vec<Vector> {
+    read_vectors(&["apart.tsv"])
+}
+
+fn read_vectors(files: &[&str]) -> Vec<Vector> {
+    let mut all = Vec::new();
+    for file in files {
         let path = vector_folder().join(file);
         let text = std::fs::read_to_string(&path)
             .unwrap_or_else(|error| panic!("{}: {error}", path.display()));

@@ -1,4 +1,5 @@
 //! What several tests use.
+#![allow(dead_code)]
 
 use timed_network::Verdict;
 

@@ -3,7 +3,8 @@
 //! For each node it is known at which tick a further tick is not plain: the
 //! node's sleep or listen is due then, so that the tick is not allowed, or
 //! the tick makes the node late. Before the least of these ticks and before
-//! the horizon ticks pass without a look at the nodes.
+//! the horizon ticks pass without a look at the nodes. These are common ticks; a
+//! node's own ticks and its offset add up to them.
 
 mod code;
 mod node;
@@ -29,6 +30,8 @@ pub(crate) struct Network<'a> {
 #[derive(Default)]
 pub(crate) struct Machine {
     nodes: [Node; COMPONENTS],
+    /// The tick at which each node wakes.
+    offsets: [u32; COMPONENTS],
     blocks: Blocks,
     /// For each node the tick at which the next one is not plain.
     stops: [u32; COMPONENTS],
@@ -48,9 +51,13 @@ type Places<'a> = std::slice::IterMut<'a, [u8; OBSERVATION]>;
 
 impl Machine {
     /// "It starts at tick 0, no observation yet, each node at its program's
-    /// start".
-    pub(crate) fn start(&mut self, network: &Network) {
+    /// start". Missing offsets are 0.
+    pub(crate) fn start(&mut self, network: &Network, offsets: &[u32]) {
         self.blocks.clear();
+        self.offsets = [0; COMPONENTS];
+        for (own, offset) in self.offsets.iter_mut().zip(offsets) {
+            *own = *offset;
+        }
         self.stops = [u32::MAX; COMPONENTS];
         self.waiting = 0;
         self.listening = 0;
@@ -62,9 +69,15 @@ impl Machine {
             self.nodes[number] = Node::new(place, initial);
             // The components open in their order.
             self.expect(network, number, number as u16);
-            self.stops[number] = self.nodes[number].ready;
+            self.stops[number] = self.common(number, self.nodes[number].ready);
         }
         self.find_stop();
+    }
+
+    /// The common tick of a tick of a node's own; `u32::MAX` stays what it is.
+    #[inline]
+    fn common(&self, number: usize, own: u32) -> u32 {
+        own.saturating_add(self.offsets[number % COMPONENTS])
     }
 
     /// Carries out choices until the run ends: "Not allowed comes before
@@ -126,7 +139,7 @@ impl Machine {
     #[inline]
     fn finish(&mut self, network: &Network, choice: u8, places: &mut Places) -> Option<()> {
         let number = usize::from(choice);
-        if number >= network.table.count {
+        if number >= network.table.count || self.tick < self.offsets[number % COMPONENTS] {
             return None;
         }
         let node = &mut self.nodes[number % COMPONENTS];
@@ -197,13 +210,14 @@ impl Machine {
     /// Not allowed: "sleep unless the tick is t".
     #[inline]
     fn sleep(&mut self, network: &Network, number: usize, places: &mut Places) -> Option<()> {
+        let offset = self.offsets[number % COMPONENTS];
         let node = &mut self.nodes[number % COMPONENTS];
-        if node.t != self.tick {
+        if node.t + offset != self.tick {
             return None;
         }
         if let Some(place) = places.next() {
             let clocks = network.table.component(number).clocks;
-            node.observe(number as u8, clocks, self.tick, place);
+            node.observe(number as u8, clocks, node.t, place);
             self.size += 1;
         }
         node.place += 1;
@@ -233,8 +247,9 @@ impl Machine {
     /// Not allowed: "a listen unless its window ends now".
     #[inline]
     fn time_out(&mut self, number: usize, pairs: u8) -> Option<()> {
+        let offset = self.offsets[number % COMPONENTS];
         let node = &mut self.nodes[number % COMPONENTS];
-        if node.window_end() != self.tick {
+        if node.window_end() + offset != self.tick {
             return None;
         }
         node.place += 1 + usize::from(pairs);
@@ -249,11 +264,11 @@ impl Machine {
         let component = network.table.component(sender);
         let node = &self.nodes[sender % COMPONENTS];
         let edge = component.edge(node.edge);
-        let (since, channels) = (node.t, edge.channels);
+        let (since, channels) = (self.common(sender, node.t), edge.channels);
         let receiver = Bits(self.listening).find(|number| {
             let node = &self.nodes[number % COMPONENTS];
             let listens = network.table.component(*number).edge(node.edge).channels;
-            listens & channels != 0 && node.t <= since
+            listens & channels != 0 && self.common(*number, node.t) <= since
         })?;
         self.nodes[sender % COMPONENTS].place += 1;
         self.end_work(sender);
@@ -273,9 +288,10 @@ impl Machine {
         self.set_stop(number, self.nodes[number % COMPONENTS].ready);
     }
 
+    /// A node's stop, by its own clock.
     #[inline]
     fn set_stop(&mut self, number: usize, stop: u32) {
-        self.stops[number % COMPONENTS] = stop;
+        self.stops[number % COMPONENTS] = self.common(number, stop);
         self.find_stop();
     }
 

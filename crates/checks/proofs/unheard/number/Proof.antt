@@ -1,55 +1,18 @@
 -- `checks::unheard::number` meets its contract. Assumes nothing.
-use mathlib.Core.Path.{sym, ap, _∙_}
-use Rattle.model.specs.Checks.{hearingNumber}
+use mathlib.Core.Path.{ap, _∙_}
 use borrow.Author.Needs.{needs}
+use Rattle.model.specs.Checks.{hearingNumber}
 use Rattle.checks.proofs.unheard.number.Statement.{statement}
 use Rattle.checks.proofs.unheard.number.Tie as tie
 
 hearing-requires : tie.Need-hearing-requires
 hearing-requires c κs = search needs
 
-enum-told : tie.Need-enum-told
-enum-told c = search needs
-
-enum-told-2 : tie.Need-enum-told-2
-enum-told-2 c = search needs
-
-enum-told-3 : tie.Need-enum-told-3
-enum-told-3 c = search needs
-
-enum-told-4 : tie.Need-enum-told-4
-enum-told-4 c = search needs
-
-enum-told-5 : tie.Need-enum-told-5
-enum-told-5 c = search needs
+number-of-requires : tie.Need-number-of-requires
+number-of-requires c κs = search needs
 
 returns : tie.Need-returns
-returns c = ap hearingNumber (sym (c .enum-told .given .1) ∙ c .before .before .hearing .ensures)
-
-returns-2 : tie.Need-returns-2
-returns-2 c = ap hearingNumber (sym (c .enum-told2 .given .1) ∙ c .before .before .hearing .ensures)
-
-returns-3 : tie.Need-returns-3
-returns-3 c = ap hearingNumber (sym (c .enum-told3 .given .1) ∙ c .before .before .hearing .ensures)
-
-returns-4 : tie.Need-returns-4
-returns-4 c = ap hearingNumber (sym (c .enum-told4 .given .1) ∙ c .before .before .hearing .ensures)
-
-returns-5 : tie.Need-returns-5
-returns-5 c = ap hearingNumber (sym (c .enum-told5 .given .1) ∙ c .before .before .hearing .ensures)
+returns c = c .number-of .ensures ∙ ap hearingNumber (c .before .hearing .ensures .told)
 
 pub number-spec : {M : Type 1} → statement M
-number-spec =
-    tie.close
-    (tie.spec
-    hearing-requires
-    enum-told
-    enum-told-2
-    enum-told-3
-    enum-told-4
-    enum-told-5
-    returns
-    returns-2
-    returns-3
-    returns-4
-    returns-5)
+number-spec = tie.close (tie.spec hearing-requires number-of-requires returns)

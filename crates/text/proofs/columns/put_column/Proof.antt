@@ -30,7 +30,7 @@ put-requires : tie.Need-put-requires
 put-requires c κs =
     let s = c .before .before .before .before .before .before .before .before .before in
     let d = c .before .before .before .before .before .before .decimal in
-    let few = at-most-ten (s .args .n) (d .result) (s .fits .n .fits) (d .ensures .1 .0) in
+    let few = at-most-ten (s .args .n) (d .result) (omega (arith, s .fits .n .fits)) (d .ensures .1 .0) in
     let pad = c .before .before .before .before .put-padding in
     omega (arith, few, d .ensures .0 .1, pad .ensures .1, pad .kept .0, s .pre)
 
@@ -43,8 +43,8 @@ returns c =
     let d = c .before .before .before .before .before .before .before .before .before .decimal in
     let pad = c .before .before .before .before .before .before .before .put-padding in
     let p = c .before .before .put in
-    let few = at-most-ten (s .args .n) (d .result) (s .fits .n .fits) (d .ensures .1 .0) in
-    let words = d .ensures .1 .1 ∙ decimal-is (s .args .n) (d .result) (s .fits .n .fits) (d .ensures .1 .0) in
+    let few = at-most-ten (s .args .n) (d .result) (omega (arith, s .fits .n .fits)) (d .ensures .1 .0) in
+    let words = d .ensures .1 .1 ∙ decimal-is (s .args .n) (d .result) (omega (arith, s .fits .n .fits)) (d .ensures .1 .0) in
     let count : length (decimal (s .args .n)) ≡ d .result = ap length (sym words) ∙ sym (d .ensures .0 .1) in
     let same = ap (λ (w : List ℕ). replicate (s .args .width - d .result) 32 ++ w) words ∙ in-column (s .args .width) (d .result) (decimal (s .args .n)) count in
     (same-words (column (s .args .width) (decimal (s .args .n))) (next (pad .ensures .0) (p .ensures .0)) same, omega (arith, few, d .ensures .0 .1, pad .ensures .1, p .ensures .1))

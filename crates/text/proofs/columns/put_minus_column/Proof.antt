@@ -21,7 +21,7 @@ add-put-padding : tie.Need-add-put-padding
 add-put-padding c =
     let s = c .before .before .before .before in
     let d = c .before .decimal in
-    let few = at-most-ten (s .args .n) (d .result) (s .fits .n .fits) (d .ensures .1 .0) in
+    let few = at-most-ten (s .args .n) (d .result) (omega (arith, s .fits .n .fits)) (d .ensures .1 .0) in
     omega (arith, few)
 
 put-padding-requires : tie.Need-put-padding-requires
@@ -43,7 +43,7 @@ put-requires-2 : tie.Need-put-requires-2
 put-requires-2 c κs =
     let s = c .before .before .before .before .before .before .before .before .before .before .before .before .before .before in
     let d = c .before .before .before .before .before .before .before .before .before .before .before .decimal in
-    let few = at-most-ten (s .args .n) (d .result) (s .fits .n .fits) (d .ensures .1 .0) in
+    let few = at-most-ten (s .args .n) (d .result) (omega (arith, s .fits .n .fits)) (d .ensures .1 .0) in
     let pad = c .before .before .before .before .before .before .before .before .before .put-padding in
     let m = c .before .before .before .before .put in
     omega (arith, few, d .ensures .0 .1, pad .ensures .1, pad .kept .0, m .ensures .1, m .kept .0, s .pre)
@@ -58,8 +58,8 @@ returns c =
     let pad = c .before .before .before .before .before .before .before .before .before .before .before .before .put-padding in
     let m = c .before .before .before .before .before .before .before .put in
     let p = c .before .before .put2 in
-    let few = at-most-ten (s .args .n) (d .result) (s .fits .n .fits) (d .ensures .1 .0) in
-    let words = d .ensures .1 .1 ∙ decimal-is (s .args .n) (d .result) (s .fits .n .fits) (d .ensures .1 .0) in
+    let few = at-most-ten (s .args .n) (d .result) (omega (arith, s .fits .n .fits)) (d .ensures .1 .0) in
+    let words = d .ensures .1 .1 ∙ decimal-is (s .args .n) (d .result) (omega (arith, s .fits .n .fits)) (d .ensures .1 .0) in
     let count : length (decimal (s .args .n)) ≡ d .result = ap length (sym words) ∙ sym (d .ensures .0 .1) in
     let long : length (ascii "-" ++ decimal (s .args .n)) ≡ d .result + 1 = omega (arith, count) in
     let same = ap (λ (w : List ℕ). replicate (s .args .width - (d .result + 1)) 32 ++ (ascii "-" ++ w)) words ∙ in-column (s .args .width) (d .result + 1) (ascii "-" ++ decimal (s .args .n)) long in

@@ -32,7 +32,7 @@ returns c =
     let a = c .before .before .before .before .before .before .before .before .args in
     let p = c .before .before .put-listened in
     let l = a .list .now in
-    (same-words (remedyText (a .number) (metAt l) (metsOf (drop 7 l) (a .n - 1))) (p .ensures .0) (ap (λ (m : List ℕ). listenerRemedy (a .number) (metAt l) (metAt m)) (from-is l 7) ∙ listened (a .number) (metAt l) (drop 7 l) (a .n) (c .before .before .before .before .before .if1 .taken)), p .ensures .1)
+    (same-words (remedyText (a .spread) (a .number) (metAt l) (metsOf (drop 7 l) (a .n - 1))) (p .ensures .0) (ap (λ (m : List ℕ). listenerRemedy (a .spread) (a .number) (metAt l) (metAt m)) (from-is l 7) ∙ listened (a .spread) (a .number) (metAt l) (drop 7 l) (a .n) (c .before .before .before .before .before .if1 .taken)), p .ensures .1)
 
 put-nobody-requires : tie.Need-put-nobody-requires
 put-nobody-requires c κs = search needs
@@ -45,13 +45,13 @@ returns-2 c =
     let a = c .before .before .before .before .before .before .before .before .args in
     let p = c .before .before .put-nobody in
     let l = a .list .now in
-    (same-words (remedyText (a .number) (metAt l) (metsOf (drop 7 l) (a .n - 1))) (p .ensures .0) (unlistened (a .number) (metAt l) (drop 7 l) (a .n) (c .before .before .before .before .if2 .taken) (c .before .before .before .before .before .if1 .left)), p .ensures .1)
+    (same-words (remedyText (a .spread) (a .number) (metAt l) (metsOf (drop 7 l) (a .n - 1))) (p .ensures .0) (unlistened (a .spread) (a .number) (metAt l) (drop 7 l) (a .n) (c .before .before .before .before .if2 .taken) (c .before .before .before .before .before .if1 .left)), p .ensures .1)
 
 returns-3 : tie.Need-returns-3
 returns-3 c =
     let a = c .before .before .before .before .args in
     let l = a .list .now in
-    (same-words (remedyText (a .number) (metAt l) (metsOf (drop 7 l) (a .n - 1))) (nothing (a .out .now) (a .at)) (no-remedy (a .number) (metAt l) (drop 7 l) (a .n) (c .if2 .left) (c .before .if1 .left)), omega arith)
+    (same-words (remedyText (a .spread) (a .number) (metAt l) (metsOf (drop 7 l) (a .n - 1))) (nothing (a .out .now) (a .at)) (no-remedy (a .spread) (a .number) (metAt l) (drop 7 l) (a .n) (c .if2 .left) (c .before .if1 .left)), omega arith)
 
 pub put-remedy-spec : {M : Type 1} → statement M
 put-remedy-spec =

@@ -14,23 +14,14 @@ shared-slice-read-put-field c = search needs
 put-field-requires : tie.Need-put-field-requires
 put-field-requires c κs = search needs
 
-slice-aggregate-put-field-2 : tie.Need-slice-aggregate-put-field-2
-slice-aggregate-put-field-2 c = search needs
+shared-slice-read-put-around : tie.Need-shared-slice-read-put-around
+shared-slice-read-put-around c = search needs
 
-shared-slice-read-put-field-2 : tie.Need-shared-slice-read-put-field-2
-shared-slice-read-put-field-2 c = search needs
+shared-slice-read-put-around-2 : tie.Need-shared-slice-read-put-around-2
+shared-slice-read-put-around-2 c = search needs
 
-put-field-requires-2 : tie.Need-put-field-requires-2
-put-field-requires-2 c κs = search needs
-
-slice-aggregate-put-field-3 : tie.Need-slice-aggregate-put-field-3
-slice-aggregate-put-field-3 c = search needs
-
-shared-slice-read-put-field-3 : tie.Need-shared-slice-read-put-field-3
-shared-slice-read-put-field-3 c = search needs
-
-put-field-requires-3 : tie.Need-put-field-requires-3
-put-field-requires-3 c κs = search needs
+put-around-requires : tie.Need-put-around-requires
+put-around-requires c κs = search needs
 
 slice-aggregate-put : tie.Need-slice-aggregate-put
 slice-aggregate-put c = search needs
@@ -43,11 +34,10 @@ same-length c = search needs
 
 returns : tie.Need-returns
 returns c =
-    let p1 = c .before .before .before .before .before .before .before .before .before .before .before .before .before .before .before .before .before .before .before .put-field in
-    let p2 = c .before .before .before .before .before .before .before .before .before .before .before .before .before .put-field2 in
-    let p3 = c .before .before .before .before .before .before .before .put-field3 in
-    let p4 = c .before .before .put in
-    (next (next (next (p1 .ensures .0) (p2 .ensures .0)) (p3 .ensures .0)) (p4 .ensures .0), omega (arith, p1 .ensures .1, p2 .ensures .1, p3 .ensures .1, p4 .ensures .1))
+    let p1 = c .before .before .before .before .before .before .before .before .before .before .before .before .before .put-field in
+    let p2 = c .before .before .before .before .before .before .before .put-around in
+    let p3 = c .before .before .put in
+    (next (next (p1 .ensures .0) (p2 .ensures .0)) (p3 .ensures .0), omega (arith, p1 .ensures .1, p2 .ensures .1, p3 .ensures .1))
 
 pub put-several-spec : {M : Type 1} → statement M
 put-several-spec =
@@ -56,12 +46,9 @@ put-several-spec =
     slice-aggregate-put-field
     shared-slice-read-put-field
     put-field-requires
-    slice-aggregate-put-field-2
-    shared-slice-read-put-field-2
-    put-field-requires-2
-    slice-aggregate-put-field-3
-    shared-slice-read-put-field-3
-    put-field-requires-3
+    shared-slice-read-put-around
+    shared-slice-read-put-around-2
+    put-around-requires
     slice-aggregate-put
     put-requires
     same-length

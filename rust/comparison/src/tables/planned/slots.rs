@@ -159,6 +159,22 @@ impl Plan {
         }
     }
 
+    /// The same plan with so many ticks for each one. What is a tick apart is so
+    /// many apart then, so that the plan is accepted at every smaller spread.
+    pub fn stretched(&self, times: u32) -> Plan {
+        let wide = |window: [u32; 2]| window.map(|tick| tick * times);
+        let mut plan = self.clone();
+        for slot in &mut plan.slots {
+            slot.send = wide(slot.send);
+            slot.listen = slot.listen.map(wide);
+        }
+        for (_, step) in &mut plan.beside {
+            [step.ready, step.end] = wide([step.ready, step.end]);
+        }
+        plan.round *= times;
+        plan
+    }
+
     /// A slot behind those that there are, as close as can be or with a gap.
     fn drawn(&self, random: &mut Random, size: &Size, order: &[usize]) -> Slot {
         let hub = order[random.below(size.hubs)];

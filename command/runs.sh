@@ -1,0 +1,82 @@
+# `vanillatarn run`, `choices` and `spread`; and nodes that wake apart, the options --spread and --offsets.
+# shellcheck shell=bash
+# shellcheck disable=SC2034,SC2154 # vanillatarn sets table, files, scratch, manner and refused and reads spread; number is set by read_decimal
+
+# The spread, and the offsets with commas between them, as the programs take them: none are given. The largest of the offsets.
+spread=0 offsets=- largest=0
+
+# What was given already.
+given_spread='' given_offsets=''
+
+read_spread() {
+    local number
+    [[ -z $given_spread ]] || misused '--spread is given twice'
+    read_decimal --spread "$1"
+    spread=$number given_spread=yes
+}
+
+# Numbers with commas between them, nodes 0 upward.
+read_offsets() {
+    local number place words=()
+    [[ -z $given_offsets ]] || misused '--offsets is given twice'
+    [[ $1 =~ ^[0-9]+(,[0-9]+)*$ ]] || misused "--offsets '$1' are not numbers with commas between them"
+    IFS=, read -r -a words <<<"$1"
+    ((${#words[@]} <= 8)) || misused '--offsets: there are at most eight nodes'
+    for place in "${!words[@]}"; do
+        read_decimal --offsets "${words[place]}"
+        words[place]=$number
+        ((number <= largest)) || largest=$number
+    done
+    local IFS=,
+    offsets="${words[*]}" given_offsets=yes
+}
+
+# The option with which the verdict on the table is told, for a message.
+spread_words() {
+    [[ $spread == 0 ]] || printf -- '--spread %s ' "$spread"
+}
+
+# What is said of an offset that is too large.
+offset_words() {
+    if [[ -n $given_spread ]]; then
+        printf 'an offset is above --spread %s' "$spread"
+    else
+        printf 'without --spread all nodes wake at tick 0: give the spread that the offsets keep to'
+    fi
+}
+
+do_spread() {
+    take_table
+    need_program spread_printer
+    print_answer 'accepted up to a spread of '
+}
+
+do_run() {
+    [[ $table != - || ${files[1]} != - ]] || misused 'only one of the files can be standard input'
+    take_table
+    # The program itself refuses more choices, with 14.
+    take "${files[1]}" choices 1000000 ''
+    need_program trial_run
+    ask "$scratch/table" "$scratch/choices" "$spread" "$offsets"
+    case $(first_line out) in
+        'horizon reached' | 'choices used up') show out ;;
+        'late: '* | 'choice not allowed: '*)
+            [[ $(first_line out) == late* ]] || not_another "${files[1]}" choices 'list of choices' table text program part
+            show out
+            exit "$refused"
+            ;;
+        'refused '*) refuse out ;;
+        *) fail ;;
+    esac
+}
+
+# The table has to be accepted at a spread of the largest offset: a refusal is at that one.
+do_choices() {
+    local words=("$manner")
+    spread=$largest
+    [[ $offsets == - ]] || words+=(--offsets "$offsets")
+    take_table
+    need_rust make_choices choices
+    ask "${words[@]}" <"$scratch/table" || refuse err
+    deliver
+}

@@ -1,0 +1,69 @@
+-- The check at a spread, from what the reader and the schedule answer; the largest spread. Assumes nothing.
+use mathlib.Core.Path.{_≡_, refl, sym, ap, _∙_}
+use mathlib.Core.Logic.{_↔_}
+use mathlib.Core.Bool.{Bool, true, false, cond}
+use mathlib.Core.List.{List}
+use Prim.Native.Nat.{ℕ, suc, _+_, _≤_, _<_}
+use native.Mathlib.Omega.{arith}
+use borrow.Author.Tests.{lt-ltb, le-ltb}
+use lib.Dec.{ltb}
+use Rattle.model.specs.declared.Verdict.{Verdict}
+use Rattle.model.specs.declared.Verdict.the-variants.{Accepted, Refused}
+use Rattle.model.specs.Lists.{Answer, accepted, refused, _after_}
+use Rattle.model.specs.Table.{Read}
+use Rattle.model.specs.Reader.{readTable}
+use Rattle.model.specs.Places.{Valid, readOf}
+use Rattle.model.specs.Schedule.{Passage}
+use Rattle.model.specs.Checks.{acceptedSchedule, acceptedScheduleAt}
+use Rattle.model.specs.Calls.{verdictOf, spreadFine, readAt, acceptedScheduleInAt, checkCallAt, LargestSpread}
+use Rattle.model.proofs.Reader.Located.{valid-read}
+use Rattle.model.proofs.Checks.Lower.{largest-is}
+use Rattle.schedule.specs.declared.Scheduled.{Scheduled}
+use Rattle.schedule.specs.Filled as filled
+
+module _ (G : ℕ) (bs : List ℕ) where
+  -- a table that was read, at a spread that is not too wide
+  pub read-at : Valid bs → G ≤ 1000 → readAt G bs ≡ accepted (readOf bs)
+  read-at v h = ap (λ (a : Answer Read). spreadFine G a) (valid-read bs v) ∙ rw (le-ltb 1000 G h)
+
+  pub verdict-at : Valid bs → G ≤ 1000 → (r : Scheduled) (rows : List ℕ) → filled.Filled bs (filled.acceptedScheduleIn G bs) r rows → r .verdict ≡ checkCallAt G bs
+  unfolding checkCallAt acceptedScheduleInAt
+  verdict-at v h r rows F = F .verdict ∙ sym (ap (λ (a : Answer Read). verdictOf (a after acceptedScheduleAt G)) (read-at v h))
+
+  -- one that was not
+  pub check-refused-at : {n c : ℕ} → readAt G bs ≡ refused n c → Refused n c ≡ checkCallAt G bs
+  unfolding checkCallAt acceptedScheduleInAt
+  check-refused-at e = sym (ap (λ (a : Answer Read). verdictOf (a after acceptedScheduleAt G)) e)
+
+-- ## The largest spread
+
+-- whether it is accepted, by the verdict
+pub told-accepted : (v w : Verdict) → v ≡ w → v ≡ Accepted → (true ≡ true) ↔ (w ≡ Accepted)
+told-accepted v w e q = (λ t. sym e ∙ q, λ t. refl)
+
+pub told-refused : (v w : Verdict) {n c : ℕ} → v ≡ w → v ≡ Refused n c → (false ≡ true) ↔ (w ≡ Accepted)
+told-refused v w {n} {c} e q = (
+  λ t. let z : _≡_ {A = ℕ} 0 1 = cc in absurd (omega arith),
+  λ t. let x : Refused n c ≡ Accepted = sym q ∙ e ∙ t in let z : _≡_ {A = ℕ} 0 1 = cc in absurd (omega arith),
+)
+
+-- none above 1,000 is accepted
+pub wide-not : (bs : List ℕ) → checkCallAt 1001 bs ≡ Accepted → ⊥
+unfolding checkCallAt acceptedScheduleInAt
+wide-not bs e = go (readTable bs) e
+  where
+    go : (a : Answer Read) → verdictOf (spreadFine 1001 a after acceptedScheduleAt 1001) ≡ Accepted → ⊥
+    go (accepted t) q = let z : _≡_ {A = ℕ} 0 1 = cc in omega arith
+    go (refused n c) q = never (ltb 3 n) q
+      where
+        never : (x : Bool) → verdictOf (cond x (refused 19 255) (refused n c) after acceptedScheduleAt 1001) ≡ Accepted → ⊥
+        never true z = let y : _≡_ {A = ℕ} 0 1 = cc in omega arith
+        never false z = let y : _≡_ {A = ℕ} 0 1 = cc in omega arith
+
+pub not-accepted : (told : Bool) {P : Type 0} → (told ≡ true) ↔ P → told ≡ false → P → ⊥
+not-accepted told e f p = let t : true ≡ false = sym (e .1 p) ∙ f in let z : _≡_ {A = ℕ} 0 1 = cc in omega arith
+
+-- accepted at one spread and not at the next
+pub largest-by : (fits fails : ℕ) (bs : List ℕ) → checkCallAt fits bs ≡ Accepted → (checkCallAt fails bs ≡ Accepted → ⊥) → fails ≡ suc fits → fails ≤ 1001
+    → LargestSpread bs fits × (fits ≤ 1000)
+largest-by fits fails bs e f n h = (largest-is fits bs e (λ q. f (ap (λ (k : ℕ). checkCallAt k bs) n ∙ q)), omega (arith, n, h))

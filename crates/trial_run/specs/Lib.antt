@@ -1,0 +1,2 @@
+pub mod OffsetList
+pub mod Cases

@@ -1,0 +1,190 @@
+//! What was counted is told, and so is what was not tried.
+
+use comparison::runs::apart::RunsApart;
+use comparison::runs::Runs;
+use comparison::spreads::Spreads;
+use comparison::tally::{EdgeChoices, Lists, Tally};
+use comparison::{cases, gaps, Least};
+
+/// A class with these answers, and lists, programs, charts, plans, edge choices,
+/// parts and runs of all kinds, also of nodes that wake apart.
+fn tally(class: &'static str, answers: [u64; 16]) -> Tally {
+    let lists = Lists {
+        written: 3,
+        short: 2,
+        kept: 1,
+    };
+    Tally {
+        class,
+        answers,
+        lists,
+        programs: lists,
+        charts: lists,
+        plans: lists,
+        edge_choices: EdgeChoices {
+            at_once: 4,
+            later: 3,
+            none: 2,
+            refused: 1,
+        },
+        parts: [5, 4],
+        runs: all_kinds(),
+        spreads: all_spreads(),
+        apart: all_apart(),
+    }
+}
+
+/// A call of each kind at a spread.
+fn all_spreads() -> Spreads {
+    Spreads {
+        answers: [1; 17],
+        at_0: 2,
+        largest: [1; 4],
+        met: [3, 2, 1],
+    }
+}
+
+/// The same runs of nodes that wake apart.
+fn all_apart() -> RunsApart {
+    RunsApart {
+        runs: Runs {
+            reasons: [1, 0, 0, 0, 0, 6],
+            ..all_kinds()
+        },
+        above: 2,
+        together: 1,
+        messages: [8, 9],
+        filled: 3,
+    }
+}
+
+/// 7 runs of each end, and all that there is.
+fn all_kinds() -> Runs {
+    Runs {
+        ends: [7; 4],
+        late_at_work: 5,
+        late_for_sleep: 4,
+        several_late: 2,
+        reasons: [1, 1, 1, 2, 2, 0],
+        short: 6,
+        many: 1,
+        kept: 3,
+        choices: 100,
+        observations: 30,
+        messages: 20,
+        timeouts: 10,
+    }
+}
+
+const FULL: [u64; 16] = [1, 2, 3, 4, 5, 6, 7, 8, 9, 10, 11, 12, 13, 14, 15, 16];
+
+/// At least so many cases and runs.
+fn least(cases: u64, runs: u64) -> Least {
+    Least {
+        cases,
+        runs,
+        of_each_kind: 1,
+        of_each_hearing: 12,
+        of_each_apart: 1,
+    }
+}
+
+#[test]
+fn what_was_not_tried_is_told() {
+    let full = tally("full", FULL);
+    let empty = Tally::new("empty");
+    let some = tally("some", [0, 1, 1, 0, 1, 1, 1, 1, 1, 1, 1, 12, 0, 12, 0, 11]);
+    assert_eq!(cases(&[full.clone(), some.clone()]), [180, 38, 76 + 80]);
+    let one = std::slice::from_ref(&full);
+    assert_eq!(gaps(one, &least(136, 28)), Vec::<String>::new());
+    assert_eq!(gaps(one, &least(137, 28)), ["136 cases are fewer than 137"]);
+    assert_eq!(gaps(one, &least(136, 29)), ["28 runs are fewer than 29"]);
+    let told = ["nothing was tried in the class: empty"];
+    assert_eq!(gaps(&[full.clone(), empty], &least(0, 0)), told);
+    let told = [
+        "no table was accepted",
+        "no table was refused with 3",
+        "no table was refused with 12",
+        "no table was refused with 16",
+        "11 tables refused with 17 are fewer than 12",
+    ];
+    assert_eq!(gaps(&[some], &least(0, 0)), told);
+    let bare = Tally {
+        answers: FULL,
+        runs: all_kinds(),
+        spreads: all_spreads(),
+        apart: all_apart(),
+        ..Tally::new("bare")
+    };
+    let told = [
+        "no list was written",
+        "no list was too short",
+        "no list was lent for a refused table",
+        "no program was written",
+        "no program was too long",
+        "no refused table was translated",
+        "no chart was written",
+        "no chart was too long",
+        "no refused table was drawn",
+        "no plan was written",
+        "no plan was too long",
+        "no plan was refused with 18",
+        "no edge was taken at once",
+        "no edge was taken with a delay",
+        "nowhere was there no candidate",
+        "no refused table was asked for an edge",
+        "no part was found",
+        "no part was empty",
+    ];
+    assert_eq!(gaps(&[bare], &least(0, 0)), told);
+    let no_runs = Tally {
+        runs: Runs::default(),
+        ..full.clone()
+    };
+    assert_eq!(gaps(&[no_runs], &least(0, 0)).len(), 17);
+    let not_apart = Tally {
+        spreads: Spreads::default(),
+        apart: RunsApart::default(),
+        ..full
+    };
+    assert_eq!(gaps(&[not_apart], &least(0, 0)).len(), 16 + 16);
+}
+
+#[test]
+fn a_line_tells_all_answers_that_were_given() {
+    let some = tally("name", [1, 2, 0, 0, 0, 0, 0, 0, 3, 0, 0, 0, 4, 0, 5, 0]);
+    let line = "name: 15 cases: accepted 1, refused 1: 2, refused 8: 3, refused 12: 4, \
+                refused 16: 5; \
+                6 lists: written 3, too short 2, refused before 1; \
+                6 programs: written 3, too short 2, refused before 1; \
+                6 charts: written 3, too short 2, refused before 1; \
+                6 plans: written 3, too short 2, refused before 1; \
+                10 edge choices: at once 4, later 3, no candidate 2, table refused 1; \
+                9 parts: found 5, empty 4; 38 runs: 7 horizon, 7 used up, 7 late \
+                (5 at work, 4 for a sleep, 2 several nodes), 7 not allowed \
+                (1 no such node, 1 nothing kept, 1 early sleep, 2 early listen, \
+                2 tick while due), 6 too few bytes, 1 too many choices, 3 table refused; \
+                100 choices, 30 observations, 20 messages, 10 timeouts; \
+                17 verdicts at a spread: accepted 1, refused 1: 1, refused 2: 1, refused 3: 1, \
+                refused 4: 1, refused 5: 1, refused 6: 1, refused 7: 1, refused 8: 1, \
+                refused 9: 1, refused 10: 1, refused 11: 1, refused 12: 1, refused 15: 1, \
+                refused 16: 1, refused 17: 1, refused 19: 1; 2 at spread 0; \
+                4 largest spreads: 0 1, between 1, 1,000 1, refused 1; \
+                6 lists of windows that met: written 3, nothing 2, too short 1; \
+                apart 38 runs: 7 horizon, 7 used up, 7 late \
+                (5 at work, 4 for a sleep, 2 several nodes), 7 not allowed \
+                (1 no such node, 6 yet to wake), 6 too few bytes, 1 too many choices, \
+                3 table refused; 100 choices, 30 observations, 20 messages, 10 timeouts; \
+                2 with an offset above the spread, 1 together, 3 with something filled in, \
+                8 messages of a sender ahead, 9 behind";
+    assert_eq!(some.to_string(), line);
+    let sum = Tally::sum(&[some.clone(), some]);
+    assert!(sum
+        .to_string()
+        .starts_with("all classes: 30 cases: accepted 2, "));
+    assert_eq!(sum.lists.all(), 12);
+    assert_eq!(sum.edge_choices.all(), 20);
+    assert_eq!(sum.runs.all(), 76);
+    assert_eq!((sum.spreads.all(), sum.apart.all()), (58, 80));
+    assert_eq!(Tally::new("none").to_string(), "none: 0 cases");
+}
