@@ -1,0 +1,2 @@
+pub mod Stopped
+pub mod Why

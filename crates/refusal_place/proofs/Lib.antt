@@ -1,0 +1,12 @@
+pub mod Rests
+pub mod OneTest
+pub mod Fine
+pub mod Tells
+pub mod OnePart
+pub mod EdgeTells
+pub mod ComponentTells
+pub mod Lengths
+pub mod Whole
+pub mod Heads
+pub mod Within
+pub mod Sequence
