@@ -5,11 +5,13 @@ ghost use mathlib.Core.Bool.{true};
 ghost use Prim.Native.Nat.{_+_, _≤_, _<_};
 ghost use Rattle.model.specs.declared.Verdict.the-variants.{Accepted};
 ghost use Rattle.model.specs.Reader.{byte};
-ghost use Rattle.model.specs.Places.{Valid};
+ghost use Rattle.model.specs.Places.{Valid, readOf};
 ghost use Rattle.model.specs.Calls.{checkCallAt, checkCall, LargestSpread};
 ghost use Rattle.model.specs.Acceptance.{AcceptsAt};
 ghost use Rattle.table.specs.Directory.{startsOf};
+ghost use Rattle.calls.specs.Spread.{ScheduleRows};
 use model::Verdict;
+use model::layout;
 
 // The answer of `largest_spread`: the verdict without a spread, and the largest spread at which the table is accepted, 0 after a refusal.
 pub struct Spread {
@@ -43,10 +45,12 @@ pub fn check_spread(table: &[u8], spread: u32) -> Verdict
     }
 }
 
-fn is_accepted(table: &[u8], spread: u32) -> bool
+// Whether the table is accepted at a spread that is not too wide, by the rows of its schedule.
+fn is_accepted(table: &[u8], rows: &[u32], count: usize, horizon: u32, spread: u32) -> bool
+    requires { ⌜ Valid (now table) × (checkCallAt 0 (now table) ≡ Accepted) × ScheduleRows (now table) (now rows) count × (horizon ≡ readOf (now table) .horizon) × (spread ≤ 1000) ⌝ }
     ensures { λ r. ⌜ (r ≡ true) ↔ (checkCallAt spread (now (table .entry)) ≡ Accepted) ⌝ }
 {
-    let verdict = check_spread(table, spread);
+    let verdict = checks::check_messages(table, rows, count, horizon, spread);
     match verdict {
         Verdict::Accepted => true,
         Verdict::Refused(_number, _component) => false,
@@ -54,16 +58,17 @@ fn is_accepted(table: &[u8], spread: u32) -> bool
 }
 
 // The largest spread at which a table is accepted that is accepted without one: by bisection, since a table accepted at a spread is accepted at
-// every smaller one. None is accepted above 1,000.
-fn bisect(table: &[u8]) -> u32
-    requires { ⌜ checkCallAt 0 (now table) ≡ Accepted ⌝ }
+// every smaller one. None is accepted above 1,000. The schedule is the same at each, so its rows are made once.
+fn bisect(table: &[u8], rows: &[u32], count: usize) -> u32
+    requires { ⌜ Valid (now table) × (checkCallAt 0 (now table) ≡ Accepted) × ScheduleRows (now table) (now rows) count ⌝ }
     ensures { λ r. ⌜ LargestSpread (now (table .entry)) r × (r ≤ 1000) ⌝ }
 {
+    let horizon = parts::word32(parts::word_at(table, layout::TABLE_HORIZON));
     let mut fits: u32 = 0;
     let mut fails: u32 = 1001;
     while fits + 1 < fails {
         let middle = fits + (fails - fits) / 2;
-        if is_accepted(table, middle) {
+        if is_accepted(table, rows, count, horizon, middle) {
             fits = middle;
         } else {
             fails = middle;
@@ -72,11 +77,14 @@ fn bisect(table: &[u8]) -> u32
     fits
 }
 
-// The largest spread at which the table is accepted: it is accepted exactly at the spreads up to it.
-pub fn largest_spread(table: &[u8]) -> Spread
+// The verdict and the largest spread of a table that was read; checks 7 to 12 may refuse it.
+fn largest_read(table: &[u8], starts: [u16; 8]) -> Spread
+    requires { ⌜ Valid (now table) × (starts ≡ startsOf (now table) (byte (now table) 3)) ⌝ }
     ensures { λ r. ⌜ (r .verdict ≡ checkCall (now (table .entry))) × (r .verdict ≡ Accepted → LargestSpread (now (table .entry)) (r .spread)) × ((r .verdict ≡ Accepted → ⊥) → r .spread ≡ 0) ⌝ }
 {
-    let verdict = check_spread(table, 0);
+    let mut rows = [0u32; 9216];
+    let made = schedule::plan_rows(table, starts, &mut rows, 0);
+    let verdict = made.verdict;
     match verdict {
         Verdict::Refused(number, component) => Spread {
             verdict: Verdict::Refused(number, component),
@@ -84,7 +92,25 @@ pub fn largest_spread(table: &[u8]) -> Spread
         },
         Verdict::Accepted => Spread {
             verdict: Verdict::Accepted,
-            spread: bisect(table),
+            spread: bisect(table, &rows, made.count),
         },
+    }
+}
+
+// The largest spread at which the table is accepted: it is accepted exactly at the spreads up to it.
+pub fn largest_spread(table: &[u8]) -> Spread
+    ensures { λ r. ⌜ (r .verdict ≡ checkCall (now (table .entry))) × (r .verdict ≡ Accepted → LargestSpread (now (table .entry)) (r .spread)) × ((r .verdict ≡ Accepted → ⊥) → r .spread ≡ 0) ⌝ }
+{
+    let read = table::read(table);
+    let verdict = read.verdict;
+    match verdict {
+        Verdict::Refused(number, component) => Spread {
+            verdict: Verdict::Refused(number, component),
+            spread: 0,
+        },
+        Verdict::Accepted => {
+            let starts = read.starts;
+            largest_read(table, starts)
+        }
     }
 }

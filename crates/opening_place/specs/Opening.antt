@@ -4,14 +4,18 @@ use mathlib.Core.List.{List, [], _∷_}
 use mathlib.Core.Option.{Option, none, some}
 use Prim.Native.Nat.{ℕ, zero, suc, _-_}
 use lib.Dec.{ltb, eqb}
-use lib.IntN.{ℤ}
+use lib.IntN.{ℤ, pos}
 use lib.ListN.{length, set}
 use Rattle.model.specs.declared.Location.{Location}
 use Rattle.model.specs.declared.Update.{Update}
 use Rattle.model.specs.Lists.{only, snoc, Answer, accepted, refused}
-use Rattle.model.specs.Table.{Arc, Component, Table, size, componentOf, locationOf, arcOf}
+use Rattle.model.specs.Table.{Arc, Component, Table, Read, size, componentOf, locationOf, arcOf}
+use Rattle.model.specs.Reader.{readTable}
 use Rattle.model.specs.Window.{Entry, Pick, readyOf, pastOf, dataHolds, choice, inRange, newValue}
 use Rattle.model.specs.Schedule.{Passage, startEntry, opening, OpenedSoFar, begin, next, closing, opened}
+use Rattle.model.specs.Checks.{limit}
+use Rattle.model.specs.Run.{four}
+use Rattle.opening_place.specs.declared.RefusedOpening.{RefusedOpening}
 
 -- ## Where
 
@@ -100,14 +104,81 @@ pub record Overflow : Type 0 where
   pub edge : ℕ
   pub update : ℕ
 
+abbrev pub overflowWith : ℕ → Option ℕ → Option Overflow
+overflowWith edge none = none
+overflowWith edge (some i) = some (record { edge = edge; update = i })
+
 abbrev pub outOf : Component → Entry → Option Pick → Option Overflow
 outOf C at none = none
-outOf C at (some p) = withUpdate (firstOut 0 (arcOf C (p .edge) .updates) (at .values))
-  where
-    withUpdate : Option ℕ → Option Overflow
-    withUpdate none = none
-    withUpdate (some i) = some (record { edge = p .edge; update = i })
+outOf C at (some p) = overflowWith (p .edge) (firstOut 0 (arcOf C (p .edge) .updates) (at .values))
 
 -- the edge taken, and its update that leaves the range
 abbrev pub overflow : Component → Entry → Option Overflow
 overflow C at = outOf C at (choice C at)
+
+-- ## What is told
+
+-- the edge taken and its update; 255 where no update is told
+abbrev pub edgeTold : Option Overflow → ℕ
+edgeTold none = 255
+edgeTold (some o) = o .edge
+
+abbrev pub updateTold : Option Overflow → ℕ
+updateTold none = 255
+updateTold (some o) = o .update
+
+-- reasons are told with 8, the update with 9
+abbrev pub reasonsFor : Stop → Reasons
+reasonsFor s = cond (eqb (s .number) 8) (reasons (s .automaton) (s .entry)) (record { leaving = 0; blocked = 0; windowless = 0 })
+
+abbrev pub overflowFor : Stop → Option Overflow
+overflowFor s = cond (eqb (s .number) 9) (overflow (s .automaton) (s .entry)) none
+
+-- no opening is refused
+abbrev pub noOpening : RefusedOpening
+noOpening =
+    record {
+      number = 0;
+      component = 255;
+      passage = 0;
+      location = 0;
+      tick = 0;
+      clocks = 0 ∷ 0 ∷ 0 ∷ 0 ∷ [];
+      values = pos 0 ∷ pos 0 ∷ pos 0 ∷ pos 0 ∷ [];
+      leaving = 0;
+      blocked = 0;
+      windowless = 0;
+      edge = 255;
+      update = 255;
+    }
+
+abbrev pub openingTold : Option Stop → RefusedOpening
+openingTold none = noOpening
+openingTold (some s) =
+    record {
+      number = s .number;
+      component = s .component;
+      passage = s .passage;
+      location = s .entry .location;
+      tick = s .entry .tick;
+      clocks = four 0 (s .entry .clocks);
+      values = four (pos 0) (s .entry .values);
+      leaving = reasonsFor s .leaving;
+      blocked = reasonsFor s .blocked;
+      windowless = reasonsFor s .windowless;
+      edge = edgeTold (overflowFor s);
+      update = updateTold (overflowFor s);
+    }
+
+-- for any bytes: a table that 1 to 6 refuse has no opening
+abbrev pub stopRead : Answer Read → Option Stop
+stopRead (accepted t) = scheduleStop limit (t .table) (t .horizon)
+stopRead (refused n c) = none
+
+unfoldable pub tableStop : List ℕ → Option Stop
+unfolding readTable scheduleStop
+tableStop bs = stopRead (readTable bs)
+
+unfoldable pub openingOf : List ℕ → RefusedOpening
+unfolding tableStop firstOut
+openingOf bs = openingTold (tableStop bs)

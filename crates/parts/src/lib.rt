@@ -2,7 +2,7 @@
 ghost use mathlib.Core.Path.{_≡_};
 ghost use mathlib.Core.Bool.{_&&_, _||_};
 ghost use mathlib.Core.List.{[]};
-ghost use Prim.Native.Nat.{ℕ, _+_, _*_, _^_, _≤_, _<_};
+ghost use Prim.Native.Nat.{ℕ, _+_, _*_, _^_, _≤_, _<_, min};
 ghost use lib.ListN.{length, drop};
 ghost use Rattle.model.specs.Reader.{word, many, locationFine, clockGuardFine, dataGuardFine, updateFine, pairFine, countsFine, edgeFine, readChannel, readPairs, readItems, readArcBody, readArc, listed};
 ghost use Rattle.parts.specs.Place.{Passed, widthOf, fineOf, passes, channelsBefore};
@@ -171,7 +171,7 @@ fn pair_fine(bytes: &[u8], sizes: Sizes) -> bool
 }
 
 // Whether one of the first n pairs has the channel.
-fn listed_before(bytes: &[u8], count: usize, channel: u8) -> bool
+pub fn listed_before(bytes: &[u8], count: usize, channel: u8) -> bool
     requires { ⌜ count * 2 ≤ length (now bytes) ⌝ }
     ensures { λ r. ⌜ r ≡ listed channel (channelsBefore (now (bytes .entry)) count) ⌝ }
 {
@@ -249,10 +249,9 @@ fn counts_fine(kind: u8, guards: u8, items: u8) -> bool
     both(both(guards == 0, 1 <= items), items <= 8)
 }
 
-// The masks of so many clocks lie below this.
-fn mask_limit(clocks: u8) -> u8
-    requires { ⌜ clocks ≤ 4 ⌝ }
-    ensures { λ r. ⌜ r ≡ 2 ^ clocks ⌝ }
+// The masks of so many clocks lie below this. No component has more than 4.
+pub fn mask_limit(clocks: u8) -> u8
+    ensures { λ r. ⌜ r ≡ 2 ^ min clocks 4 ⌝ }
 {
     match clocks {
         0 => 1,
@@ -320,7 +319,7 @@ fn arc_body(component: &[u8], at: usize, sizes: Sizes) -> Next
 }
 
 // An edge: its 7 bytes, and what follows them.
-fn arc(component: &[u8], at: usize, sizes: Sizes) -> Next
+pub fn arc(component: &[u8], at: usize, sizes: Sizes) -> Next
     requires { ⌜ (at ≤ length (now component)) × (sizes .clocks ≤ 4) ⌝ }
     ensures { λ r. ⌜ Passed (now (component .entry)) at r (readArc sizes (drop at (now (component .entry)))) ⌝ }
 {

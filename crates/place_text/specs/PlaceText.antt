@@ -5,7 +5,6 @@ use Prim.Native.Nat.{ℕ, _+_, _-_}
 use lib.Dec.{ltb, eqb}
 use lib.ListN.{getD}
 use Rattle.text.specs.Words.{ascii, decimal, field}
-use Rattle.refusal_place.specs.Walk.{placeOf}
 use Rattle.refusal_place.specs.declared.Place.{Place}
 
 -- ## The fields of each part, by where they stand in it
@@ -14,7 +13,7 @@ abbrev pub it : List ℕ
 it = ascii "it"
 
 abbrev pub headNames : List (List ℕ)
-headNames = it ∷ it ∷ ascii "locations" ∷ ascii "initial location" ∷ ascii "clocks" ∷ ascii "variables" ∷ ascii "edges" ∷ []
+headNames = it ∷ it ∷ ascii "count of locations" ∷ ascii "initial location" ∷ ascii "count of clocks" ∷ ascii "count of variables" ∷ ascii "count of edges" ∷ []
 
 abbrev pub locationNames : List (List ℕ)
 locationNames = ascii "clock" ∷ ascii "bound" ∷ []
@@ -70,7 +69,7 @@ abbrev pub indexWords : ℕ → List ℕ
 indexWords index = cond (eqb index 255) [] (decimal index)
 
 abbrev pub partWords : Place → List ℕ
-partWords p = field "component " (p .component) ++ edgeWords (p .edge) ++ partName (p .part) ++ indexWords (p .index)
+partWords p = field "Component " (p .component) ++ edgeWords (p .edge) ++ partName (p .part) ++ indexWords (p .index)
 
 -- ## What is wrong
 
@@ -96,8 +95,5 @@ faultWords p =
     cond (eqb (p .number) 6) (field "channel " (p .value) ++ ascii " is listed before") (cond (eqb (p .width) 0) (bytesWords p) (valueWords p))
 
 unfoldable pub placeText : Place → List ℕ
+unfolding decimal fieldName partName
 placeText p = partWords p ++ field " (byte " (p .start + p .offset) ++ ascii "): " ++ faultWords p ++ ascii ".\n"
-
--- what is said of a table's bytes
-unfoldable pub stopText : List ℕ → List ℕ
-stopText bs = cond (eqb (placeOf bs .number) 0) (ascii "Checks 4 to 6 do not stop.\n") (placeText (placeOf bs))

@@ -76,7 +76,7 @@ fn put_part(out: &mut [u8], at: usize, p: Place) -> usize
     requires { ⌜ at + 100 ≤ length (now out) ⌝ }
     ensures { λ r. ⌜ Added (now (out .entry)) at (partWords p) (now (out .exit)) r × (r ≤ at + 100) ⌝ }
 {
-    let edge = put_field(out, at, b"component ", p.component as u32);
+    let edge = put_field(out, at, b"Component ", p.component as u32);
     let name = put_edge(out, edge, p.edge);
     let index = put_part_name(out, name, p.part);
     put_index(out, index, p.index)

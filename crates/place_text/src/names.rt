@@ -13,11 +13,11 @@ fn put_head_name(out: &mut [u8], at: usize, offset: usize) -> usize
     ensures { λ r. ⌜ Added (now (out .entry)) at (nameIn headNames offset) (now (out .exit)) r × (r ≤ at + 30) ⌝ }
 {
     match offset {
-        2 => put(out, at, b"locations"),
+        2 => put(out, at, b"count of locations"),
         3 => put(out, at, b"initial location"),
-        4 => put(out, at, b"clocks"),
-        5 => put(out, at, b"variables"),
-        6 => put(out, at, b"edges"),
+        4 => put(out, at, b"count of clocks"),
+        5 => put(out, at, b"count of variables"),
+        6 => put(out, at, b"count of edges"),
         _ => put(out, at, b"it"),
     }
 }

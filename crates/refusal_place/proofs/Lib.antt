@@ -4,9 +4,12 @@ pub mod Fine
 pub mod Tells
 pub mod OnePart
 pub mod EdgeTells
+pub mod Kept
 pub mod ComponentTells
 pub mod Lengths
+pub mod Numbered
 pub mod Whole
 pub mod Heads
 pub mod Within
+pub mod Bounds
 pub mod Sequence

@@ -23,7 +23,7 @@ module _ (bs : List ℕ) (end : ℕ) (h : end ≤ length bs) (at : ℕ) where
       let z : at + suc i ≡ suc (at + i) = omega arith in
       rw (byte-rest i (omega arith), byte-rest (suc i) k, z)
 
-drop-take : (n m : ℕ) (l : List ℕ) → drop n (take m l) ≡ take (m - n) (drop n l)
+pub drop-take : (n m : ℕ) (l : List ℕ) → drop n (take m l) ≡ take (m - n) (drop n l)
 drop-take zero m l = let z : m - 0 ≡ m = omega arith in rw z
 drop-take (suc n) zero l = let z : 0 - suc n ≡ 0 = omega arith in rw z
 drop-take (suc n) (suc m) [] = rw (take-nil (suc m - suc n))

@@ -1,5 +1,6 @@
 -- The place that is told, of a whole table. Assumes nothing.
-use mathlib.Core.Path.{_≡_, refl, sym, ap, subst, _∙_}
+use mathlib.Core.Path.{_≡_, refl, sym, ap, ap₂, subst, _∙_}
+use mathlib.Core.Logic.{_↔_}
 use mathlib.Core.Bool.{Bool, true, false, cond, _&&_}
 use mathlib.Core.List.{List, _∷_}
 use Prim.Native.Nat.{ℕ, zero, suc, pred, _+_, _-_, _≤_, _<_}
@@ -14,7 +15,7 @@ use Rattle.model.specs.declared.Verdict.the-variants.{Accepted, Refused}
 use Rattle.model.specs.Lists.{Answer, accepted, refused, _after_}
 use Rattle.model.specs.Table.{Component}
 use Rattle.model.specs.Reader.{byte, word, Parsed, ok, fault, readComponent, about, atEnd, readComponents, bodyStart, versionFine, lengthFine, countFine, bandsFine, readTable}
-use Rattle.model.specs.Calls.{verdictOf}
+use Rattle.model.specs.Calls.{verdictOf, checkCall}
 use Rattle.parts.specs.Place.{left, failed, skim}
 use Rattle.table.specs.declared.Reading.{Reading}
 use Rattle.table.specs.Directory.{headerOf}
@@ -31,6 +32,7 @@ use Rattle.refusal_place.proofs.OneTest.{stop, counted-stays, component
 use Rattle.refusal_place.proofs.Tells.{Tells, view}
 use Rattle.refusal_place.proofs.ComponentTells.{none-over, some-over, fault-over, over-stays}
 use Rattle.refusal_place.proofs.Lengths.{Read, length-stops, is-read, reads}
+use Rattle.refusal_place.proofs.Numbered.{refused-so, refused-reading}
 
 -- ## The components
 
@@ -196,8 +198,14 @@ module _ (bs : List ℕ) where
           (faulty z d .number .0, verdict-refused (readTable bs) (says z ∙ rw d))
       go false q = let n = ap (λ (p : Place). p .number) (header-nowhere (eqb-false (headerOf bs) 0 q)) in absurd (omega arith)
 
+  verdict : (n c : ℕ) → 4 ≤ n → n ≤ 6 → (checkCall bs ≡ Refused n c) ↔ (placeOf bs .number ≡ n) × (placeOf bs .component ≡ c)
+  verdict n c k l = (
+    λ e. let t = stops n c k (refused-reading bs l e) in (t .0, t .1 .component),
+    λ (a, b). refused-so bs (only (omega arith) .1 ∙ ap₂ {C = Answer _} (λ (m d : ℕ). refused m d) a b),
+  )
+
   pub told : Told bs
-  told = record { stops = stops; only = only }
+  told = record { stops = stops; only = only; verdict = verdict }
 
   -- its byte is small
   pub place-within : 0 < placeOf bs .number → placeOf bs .start + placeOf bs .offset ≤ 8192

@@ -2,7 +2,7 @@
 use mathlib.Core.Path.{_≡_, refl, sym, ap, _∙_}
 use mathlib.Core.Bool.{Bool, true, false}
 use mathlib.Core.List.{List}
-use Prim.Native.Nat.{ℕ, zero, suc, _+_, _-_, _≤_, _<_}
+use Prim.Native.Nat.{ℕ, zero, suc, _+_, _-_, _*_, _≤_, _<_}
 use native.Mathlib.Omega.{arith}
 use borrow.Author.Tests.{leb-true}
 use lib.Dec.{leb}
@@ -14,9 +14,10 @@ use Rattle.parts.specs.Place.{channelsBefore}
 use Rattle.refusal_place.specs.Ranges.{bytesField, channelField, fieldsOf, widthOf}
 use Rattle.refusal_place.specs.Walk.{going, fits, once, contents, passed, inside, onePart, onePair, counted}
 use Rattle.refusal_place.specs.declared.Part.{Part}
+use Rattle.refusal_place.specs.declared.Part.the-variants.{Pair}
 use Rattle.refusal_place.specs.declared.Subject.{Subject}
 use Rattle.refusal_place.specs.declared.Walk.{Walk}
-use Rattle.refusal_place.proofs.OneTest.{out-of-range, stays, same-place, contents-stay, contents-place, passed-stays, passes-on}
+use Rattle.refusal_place.proofs.OneTest.{out-of-range, stays, same-place, contents-stay, contents-place, passed-stays, passes-on, inside-stays, pair-stays}
 
 -- ## A walk that goes on went on before
 
@@ -84,6 +85,46 @@ module _ (bs : List ℕ) (end : ℕ) (s : Sizes) (who : Subject) (w : Walk) (h :
       let place = same-place 6 who (channelField s) (byte bs (tried .at)) tried t ∙ inside-place bs end s who w in
       passed-within end (widthOf (who .part)) (once bs from s who tried) (rw place h)
       (λ on. rw place (inside-room bs end s who w (went-on tried (once bs from s who tried) (stays 6 who (channelField s) (byte bs (tried .at)) tried t) on)))
+
+-- ## A pair
+
+module _ (bs : List ℕ) (end : ℕ) (s : Sizes) (who : Subject) (w : Walk) (from : ℕ) where
+  -- a walk that stops inside it stays there
+  pub pair-halts : going (inside bs end s who w) ≡ false → inside bs end s who w ≡ onePair bs end from s who w
+  unfolding onePair
+  pair-halts d =
+      let tried = inside bs end s who w in
+      sym (ap (passed (widthOf (who .part))) (stays 6 who (channelField s) (byte bs (tried .at)) tried _ d) ∙ passed-stays (widthOf (who .part)) tried d)
+
+  -- one that goes on inside it has room for it
+  pub pair-room : who .part ≡ Pair → w .at ≤ end → (going w ≡ true → w .at ≡ from + who .index * 2) → going (inside bs end s who w) ≡ true
+      → (w .at ≡ from + who .index * 2) × (w .at + 2 ≤ end)
+  pair-room q k place on =
+      let room = inside-room bs end s who w on in
+      let two : widthOf (who .part) ≡ 2 = ap widthOf q in
+      (place (went-on w (inside bs end s who w) (inside-stays bs end s who w) on), omega arith)
+
+  -- and one that goes on behind it has passed it
+  pub pair-next : going (onePair bs end from s who w) ≡ true → (onePair bs end from s who w) .at ≡ w .at + widthOf (who .part)
+  unfolding onePair
+  pair-next on =
+      let n = widthOf (who .part) in
+      let tried = inside bs end s who w in
+      let t = listed (byte bs (tried .at)) (channelsBefore (drop from bs) (who .index)) in
+      let asked = once bs from s who tried in
+      let g = went-on asked (passed n asked) (passed-stays n asked) on in
+      ap (λ (v : Walk). v .at) (passes-on n asked g)
+      ∙ ap (λ (k : ℕ). k + n) (same-place 6 who (channelField s) (byte bs (tried .at)) tried t ∙ inside-place bs end s who w)
+
+  -- the next one of those that start at `first`
+  pub pair-turn : who .part ≡ Pair → (first i : ℕ) → (going w ≡ true → w .at ≡ first + i * 2) → (r : Walk) → r ≡ onePair bs end from s who w → going r ≡ true
+      → r .at ≡ first + (i + 1) * 2
+  pair-turn q first i place r e on =
+      let g = sym (ap going e) ∙ on in
+      let next = pair-next g in
+      let two : widthOf (who .part) ≡ 2 = ap widthOf q in
+      let before = place (went-on w (onePair bs end from s who w) (pair-stays bs end from s who w) g) in
+      ap (λ (v : Walk). v .at) e ∙ omega arith
 
 -- ## Parts one after the other
 

@@ -1,3 +1,4 @@
 pub mod Ranges
 pub mod Walk
+pub mod Passing
 pub mod Told

@@ -19,12 +19,12 @@ use Rattle.refusal_place.specs.declared.Walk.{Walk}
 
 -- ## Stops
 
--- no place
+-- no place, and no component
 abbrev pub nowhere : Place
 nowhere =
     record {
       number = 0;
-      component = 0;
+      component = 255;
       part = 0;
       edge = 0;
       index = 0;

@@ -1,7 +1,7 @@
 // The numbers of each part, in the order of its bytes (specs/Ranges.antt).
 ghost use mathlib.Core.Path.{_≡_};
 ghost use mathlib.Core.List.{[], _∷_};
-ghost use Prim.Native.Nat.{_+_, min, _^_, _≤_};
+ghost use Prim.Native.Nat.{_+_, _≤_};
 ghost use Rattle.model.specs.Reader.{byte};
 ghost use Rattle.refusal_place.specs.Ranges.{headFields, locationFields, edgeFields, dataLimit, itemLeast, itemLimit, clockBoundFields, dataBoundFields, updateFields, channelFields, pairFields, byteField, ticksField};
 ghost use Rattle.refusal_place.specs.Walk.{ranged, contents};
@@ -72,19 +72,6 @@ pub fn location(table: &[u8], who: Subject, sizes: Sizes, w: Walk) -> Walk
     bound_range(table, who, layout::LOCATION_BOUND, false, clock)
 }
 
-// The masks of so many clocks lie below this.
-fn mask_limit(clocks: u8) -> usize
-    ensures { λ r. ⌜ r ≡ 2 ^ min clocks 4 ⌝ }
-{
-    match clocks {
-        0 => 1,
-        1 => 2,
-        2 => 4,
-        3 => 8,
-        _ => 16,
-    }
-}
-
 // The limit of an edge's count of data bounds, by its kind.
 fn data_limit(kind: u8) -> usize
     ensures { λ r. ⌜ r ≡ dataLimit kind ⌝ }
@@ -144,7 +131,7 @@ pub fn edge_head(table: &[u8], who: Subject, sizes: Sizes, w: Walk) -> Walk
 {
     let own = byte_at(table, w.at);
     let n = parts::wide(sizes.locations);
-    let limit = mask_limit(sizes.clocks);
+    let limit = parts::wide(parts::mask_limit(sizes.clocks));
     let kind = byte_range(table, who, layout::EDGE_KIND, 0, 3, w);
     let source = byte_range(table, who, layout::EDGE_SOURCE, 0, n, kind);
     let destination = byte_range(table, who, layout::EDGE_DESTINATION, 0, n, source);

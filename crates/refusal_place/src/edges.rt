@@ -1,11 +1,13 @@
 // The parts of a component one after the other, up to its edges (specs/Walk.antt).
 ghost use mathlib.Core.Path.{_≡_};
-ghost use Prim.Native.Nat.{_≤_};
-ghost use lib.ListN.{drop};
-ghost use Rattle.model.specs.Reader.{listed};
-ghost use Rattle.parts.specs.Place.{channelsBefore};
+ghost use mathlib.Core.Bool.{true};
+ghost use Prim.Native.Nat.{ℕ, _+_, _*_, _≤_};
+ghost use lib.ListN.{length};
+ghost use Rattle.refusal_place.specs.declared.Part.the-variants.{Location, Pair};
+ghost use Rattle.parts.specs.declared.Next.the-variants.{At};
 ghost use Rattle.refusal_place.specs.Ranges.{widthOf};
-ghost use Rattle.refusal_place.specs.Walk.{inside, onePart, onePair, numbered, ofComponent, ofEdge, several, pairs, items, edgeFrom, edge, edges};
+ghost use Rattle.refusal_place.specs.Passing.{EdgeFine};
+ghost use Rattle.refusal_place.specs.Walk.{going, inside, onePart, onePair, numbered, ofComponent, ofEdge, several, pairs, items, edgeFrom, edge, edges};
 use crate::Field;
 use crate::Part;
 use crate::Subject;
@@ -18,6 +20,8 @@ use crate::steps::passed;
 use crate::steps::stops_if;
 use model::Sizes;
 use model::layout;
+use parts::Kind;
+use parts::Next;
 
 // ## Parts
 
@@ -69,28 +73,17 @@ pub fn one_part(table: &[u8], end: usize, sizes: Sizes, who: Subject, w: Walk) -
     passed(width(part), inside(table, end, sizes, who, w))
 }
 
-// Whether one of the first n pairs has the channel; the first stands at `from`.
-pub fn listed_before(table: &[u8], from: usize, count: u8, channel: u8) -> bool
-    requires { ⌜ from ≤ 8192 ⌝ }
-    ensures { λ r. ⌜ r ≡ listed channel (channelsBefore (drop from (now (table .entry))) count) ⌝ }
-{
-    let mut k = parts::wide(count);
-    while 0 < k {
-        k -= 1;
-        if byte_at(table, from + k * layout::PAIR_WIDTH) == channel {
-            return true;
-        }
-    }
-    false
-}
-
-// A pair, whose channel must be none of those before it.
+// A pair, whose channel must be none of those before it; the first stands at `from`.
 pub fn one_pair(table: &[u8], end: usize, from: usize, sizes: Sizes, who: Subject, w: Walk) -> Walk
-    requires { ⌜ (w .at ≤ end) × (end ≤ 8192) × (from ≤ 8192) ⌝ }
+    requires { ⌜ (w .at ≤ end) × (end ≤ length (now table)) × (length (now table) ≤ 8192) × (who .part ≡ Pair) × (going w ≡ true → w .at ≡ from + who .index * 2) ⌝ }
     ensures { λ r. ⌜ (r ≡ onePair (now (table .entry)) end from sizes who w) × (r .at ≤ end) ⌝ }
 {
     let tried = inside(table, end, sizes, who, w);
-    let channel = byte_at(table, tried.at);
+    if !going(tried) {
+        return tried;
+    }
+    let at = tried.at;
+    let channel = table[at];
     let field = Field {
         offset: layout::PAIR_CHANNEL,
         width: 1,
@@ -98,10 +91,9 @@ pub fn one_pair(table: &[u8], end: usize, from: usize, sizes: Sizes, who: Subjec
         limit: parts::wide(sizes.channels),
         unbounded: false,
     };
-    let twice = listed_before(table, from, who.index, channel);
-    let part = who.part;
+    let twice = parts::listed_before(&table[from..], parts::wide(who.index), channel);
     passed(
-        width(part),
+        layout::PAIR_WIDTH,
         stops_if(twice, 6, who, field, parts::wide(channel), tried),
     )
 }
@@ -158,7 +150,7 @@ pub fn several(table: &[u8], end: usize, sizes: Sizes, who: Subject, count: u8, 
 
 // The pairs of a receive edge.
 pub fn pairs(table: &[u8], end: usize, sizes: Sizes, who: Subject, count: u8, w: Walk) -> Walk
-    requires { ⌜ (w .at ≤ end) × (end ≤ 8192) ⌝ }
+    requires { ⌜ (w .at ≤ end) × (end ≤ length (now table)) × (length (now table) ≤ 8192) × (who .part ≡ Pair) ⌝ }
     ensures { λ r. ⌜ (r ≡ pairs (now (table .entry)) end sizes who count w) × (r .at ≤ end) ⌝ }
 {
     let from = w.at;
@@ -182,7 +174,7 @@ pub fn items(
     count: u8,
     w: Walk,
 ) -> Walk
-    requires { ⌜ (w .at ≤ end) × (end ≤ 8192) ⌝ }
+    requires { ⌜ (w .at ≤ end) × (end ≤ length (now table)) × (length (now table) ≤ 8192) ⌝ }
     ensures { λ r. ⌜ (r ≡ items (now (table .entry)) end sizes c e kind count w) × (r .at ≤ end) ⌝ }
 {
     if kind == 0 {
@@ -202,7 +194,7 @@ pub fn items(
 
 // The edge that starts here: its 7 bytes, then clock bounds, data bounds, items.
 pub fn edge_from(table: &[u8], end: usize, sizes: Sizes, c: u8, e: u8, w: Walk) -> Walk
-    requires { ⌜ (w .at ≤ end) × (end ≤ 8192) ⌝ }
+    requires { ⌜ (w .at ≤ end) × (end ≤ length (now table)) × (length (now table) ≤ 8192) ⌝ }
     ensures { λ r. ⌜ (r ≡ edgeFrom (now (table .entry)) end sizes c e (w .at) w) × (r .at ≤ end) ⌝ }
 {
     let from = w.at;
@@ -230,18 +222,55 @@ pub fn edge_from(table: &[u8], end: usize, sizes: Sizes, c: u8, e: u8, w: Walk) 
     items(table, end, sizes, c, e, kind, count, data)
 }
 
+// The locations: passed over if the reader finds them in order.
+pub fn locations(table: &[u8], end: usize, sizes: Sizes, c: u8, count: u8, w: Walk) -> Walk
+    requires { ⌜ (w .at ≤ end) × (end ≤ length (now table)) × (length (now table) ≤ 8192) ⌝ }
+    ensures { λ r. ⌜ (r ≡ several (now (table .entry)) end sizes (ofComponent c Location) count w) × (r .at ≤ end) ⌝ }
+{
+    if going(w) {
+        let fine = parts::parts(&table[..end], w.at, count, Kind::Locations, sizes);
+        return match fine {
+            Next::At(next) => {
+                let place = w.place;
+                Walk { at: next, place }
+            }
+            Next::Fault(_) => several(table, end, sizes, of_component(c, Part::Location), count, w),
+        };
+    }
+    w
+}
+
+// Where the edge at a place ends, if the reader finds it in order.
+fn fine_edge(table: &[u8], end: usize, sizes: Sizes, at: usize) -> Next
+    requires { ⌜ (at ≤ end) × (end ≤ length (now table)) ⌝ }
+    ensures { λ r. ⌜ ((next : ℕ) → r ≡ At next → EdgeFine (now (table .entry)) end sizes at next) ⌝ }
+{
+    if 4 < sizes.clocks {
+        return Next::Fault(5);
+    }
+    parts::arc(&table[..end], at, sizes)
+}
+
+// An edge that the reader finds in order is passed over, any other is walked.
 pub fn edge(table: &[u8], end: usize, sizes: Sizes, c: u8, e: u8, w: Walk) -> Walk
-    requires { ⌜ (w .at ≤ end) × (end ≤ 8192) ⌝ }
+    requires { ⌜ (w .at ≤ end) × (end ≤ length (now table)) × (length (now table) ≤ 8192) ⌝ }
     ensures { λ r. ⌜ (r ≡ edge (now (table .entry)) end sizes c e w) × (r .at ≤ end) ⌝ }
 {
     if going(w) {
-        return edge_from(table, end, sizes, c, e, w);
+        let fine = fine_edge(table, end, sizes, w.at);
+        return match fine {
+            Next::At(next) => {
+                let place = w.place;
+                Walk { at: next, place }
+            }
+            Next::Fault(_) => edge_from(table, end, sizes, c, e, w),
+        };
     }
     w
 }
 
 pub fn edges(table: &[u8], end: usize, sizes: Sizes, c: u8, count: u8, w: Walk) -> Walk
-    requires { ⌜ (w .at ≤ end) × (end ≤ 8192) ⌝ }
+    requires { ⌜ (w .at ≤ end) × (end ≤ length (now table)) × (length (now table) ≤ 8192) ⌝ }
     ensures { λ r. ⌜ (r ≡ edges (now (table .entry)) end sizes c count w) × (r .at ≤ end) ⌝ }
 {
     let mut walk = w;

@@ -7,12 +7,12 @@ mod steps;
 ghost use mathlib.Core.Path.{_≡_};
 ghost use Prim.Native.Nat.{_+_, min, _≤_, _<_};
 ghost use lib.ListN.{length};
-ghost use Rattle.model.specs.Reader.{byte, bodyStart};
+ghost use Rattle.model.specs.Reader.{byte};
 ghost use Rattle.refusal_place.specs.Walk.{nowhere, sizesFrom, lengthStated, bodyFrom, componentFrom, component, components, placeOf};
 use crate::edges::edges;
+use crate::edges::locations;
 use crate::edges::of_component;
 use crate::edges::one_part;
-use crate::edges::several;
 use crate::steps::byte_at;
 use crate::steps::ends;
 use crate::steps::fits;
@@ -56,8 +56,8 @@ pub struct Field {
     pub unbounded: bool,
 }
 
-// Where the reader stopped: the number of the refusal (0: it did not stop), the part, the place of its first byte in the table, and the field at fault
-// with its value.
+// Where the reader stopped: the number of the refusal, the part, the place of its first byte in the table, and the field at fault with its value. Where
+// it did not stop the number is 0 and the component 255.
 pub struct Place {
     pub number: u8,
     pub component: u8,
@@ -107,20 +107,13 @@ fn length_stated(table: &[u8], c: u8, w: Walk) -> Walk
 
 // What follows the first 7 bytes of the component that starts at `from`: locations, then edges, and no byte more.
 fn body(table: &[u8], end: usize, sizes: Sizes, c: u8, from: usize, w: Walk) -> Walk
-    requires { ⌜ (w .at ≤ end) × (end ≤ 8192) × (from ≤ 8192) ⌝ }
+    requires { ⌜ (w .at ≤ end) × (end ≤ length (now table)) × (length (now table) ≤ 8192) × (from ≤ 8192) ⌝ }
     ensures { λ r. ⌜ (r ≡ bodyFrom (now (table .entry)) end sizes c from w) × (r .at ≤ end) ⌝ }
 {
     let places = byte_at(table, from + layout::COMPONENT_LOCATIONS);
     let count = byte_at(table, from + layout::COMPONENT_EDGES);
-    let locations = several(
-        table,
-        end,
-        sizes,
-        of_component(c, Part::Location),
-        places,
-        w,
-    );
-    let all = edges(table, end, sizes, c, count, locations);
+    let located = locations(table, end, sizes, c, places, w);
+    let all = edges(table, end, sizes, c, count, located);
     ends(end, of_component(c, Part::ComponentEnd), all)
 }
 
@@ -186,7 +179,7 @@ fn nowhere() -> Place
 {
     Place {
         number: 0,
-        component: 0,
+        component: 255,
         part: 0,
         edge: 0,
         index: 0,
@@ -200,17 +193,6 @@ fn nowhere() -> Place
     }
 }
 
-// Where the components start.
-fn body_start(table: &[u8]) -> usize
-    ensures { λ r. ⌜ r ≡ bodyStart (now (table .entry)) ⌝ }
-{
-    if 2 <= byte_at(table, layout::TABLE_VERSION) {
-        layout::TABLE_HEADER + parts::wide(byte_at(table, layout::TABLE_CHANNELS))
-    } else {
-        layout::TABLE_HEADER
-    }
-}
-
 // The place of a refusal with 4, 5 or 6; number 0 for any other table.
 pub fn locate(table: &[u8]) -> Place
     ensures { λ r. ⌜ r ≡ placeOf (now (table .entry)) ⌝ }
@@ -220,7 +202,7 @@ pub fn locate(table: &[u8]) -> Place
         return nowhere();
     }
     let start = Walk {
-        at: body_start(table),
+        at: table::body_start(table),
         place: nowhere(),
     };
     let count = byte_at(table, layout::TABLE_COMPONENTS);

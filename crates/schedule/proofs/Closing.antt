@@ -59,7 +59,7 @@ module _ (T : Table) (H : ℕ) (p : OpenedSoFar) (ends : List ℕ) (c : ℕ) (s 
   pub its-end : v .end ≡ getD ends c 0
   its-end = each c (s .there) .1
 
-  closes : next (p .current) ≡ some v
+  pub closes : next (p .current) ≡ some v
   closes = closes-next (p .current) c (omega (arith, s .there)) before
     where
       above : (j : ℕ) → j < size T → (j ≡ c → ⊥) → v .end ≡ passageAt (p .current) j .end → (t : Bool) → ltb j c ≡ t → c < j

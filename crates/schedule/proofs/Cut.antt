@@ -33,15 +33,15 @@ use Rattle.schedule.specs.Going.{cut}
 -- ## Windows
 
 module _ (n : ℕ) (xs : List ℕ) where
-  ready-cut : {gs : List ClockGuard} → All (λ g. g .clock < n) gs → readyOf gs (take n xs) ≡ readyOf gs xs
+  pub ready-cut : {gs : List ClockGuard} → All (λ g. g .clock < n) gs → readyOf gs (take n xs) ≡ readyOf gs xs
   ready-cut empty = refl
   ready-cut (more {x = g} h a) = rw (getD-take n xs (g .clock) 0 h, ready-cut a)
 
-  past-cut : (l : Location) → l .clock < n → {gs : List ClockGuard} → All (λ g. g .clock < n) gs → pastOf l gs (take n xs) ≡ pastOf l gs xs
+  pub past-cut : (l : Location) → l .clock < n → {gs : List ClockGuard} → All (λ g. g .clock < n) gs → pastOf l gs (take n xs) ≡ pastOf l gs xs
   past-cut l k empty = rw (getD-take n xs (l .clock) 0 k)
   past-cut l k (more {x = g} h a) = rw (getD-take n xs (g .clock) 0 h, past-cut l k a)
 
-data-cut : (n : ℕ) (vs : List ℤ) {gs : List DataGuard} → All (λ g. g .variable < n) gs → dataHolds gs (take n vs) ≡ dataHolds gs vs
+pub data-cut : (n : ℕ) (vs : List ℤ) {gs : List DataGuard} → All (λ g. g .variable < n) gs → dataHolds gs (take n vs) ≡ dataHolds gs vs
 data-cut n vs empty = refl
 data-cut n vs (more {x = g} h a) = rw (getD-take n vs (g .variable) (pos 0) h, data-cut n vs a)
 
@@ -60,7 +60,7 @@ module _ (l : Location) (here m n : ℕ) (xs : List ℕ) (vs : List ℤ) (k : l 
 
 -- ## Updates and clocks
 
-new-cut : (n : ℕ) (u : Update) (vs : List ℤ) → u .variable < n → newValue u (take n vs) ≡ newValue u vs
+pub new-cut : (n : ℕ) (u : Update) (vs : List ℤ) → u .variable < n → newValue u (take n vs) ≡ newValue u vs
 new-cut n u vs h = rw (getD-take n vs (u .variable) (pos 0) h)
 
 updated-cut : (n : ℕ) {us : List Update} (vs : List ℤ) → All (λ u. u .variable < n) us → updated us (take n vs) ≡ Option·map (take n) (updated us vs)
@@ -106,7 +106,7 @@ module _ (channels : ℕ) (C : Component) (i : ComponentIn channels C) where
   pub arc-in : (e : ℕ) → e < length (C .arcs) → ArcIn (sizesOf channels C) (arcOf C e)
   arc-in e h = all-at noArc (i .arcs) e h
 
-  arc-updates : (e : ℕ) → e < length (C .arcs) → All (λ u. u .variable < C .variables) (arcOf C e .updates)
+  pub arc-updates : (e : ℕ) → e < length (C .arcs) → All (λ u. u .variable < C .variables) (arcOf C e .updates)
   arc-updates e h = updates-below (sizesOf channels C) (arcOf C e) (arcOf C e .edge .action) (arc-in e h .action)
 
   pub choice-cut : (e : Entry) → e .location < length (C .locations) → choice C (cut C e) ≡ choice C e

@@ -1,6 +1,7 @@
 pub mod Cut
 pub mod Bare
 pub mod Closing
+pub mod Stopping
 pub mod Grown
 pub mod Least
 pub mod Fields

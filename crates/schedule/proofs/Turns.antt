@@ -2,7 +2,7 @@
 use mathlib.Core.Path.{_≡_, refl, sym, ap, ap₂, subst, _∙_}
 use mathlib.Core.Logic.{by-cases}
 use mathlib.Core.List.{List, [], _∷_, map}
-use mathlib.Core.Option.{Option}
+use mathlib.Core.Option.{Option, some}
 use Prim.Native.Nat.{ℕ, zero, suc, _+_, _-_, _*_, _≤_, _<_}
 use native.Mathlib.Omega.{arith}
 use native.Mathlib.Decide.{ℕ-discrete}
@@ -30,9 +30,11 @@ use Rattle.rows.specs.Rows.{num, rowPassage, rowsFrom, rowsOf, RowsPlaced, Told
 use Rattle.schedule.specs.declared.Node.{Node}
 use Rattle.schedule.specs.declared.Turn.{Turn}
 use Rattle.schedule.specs.declared.Scheduled.{Scheduled}
-use Rattle.schedule.specs.Going.{cut, keptOf, Soonest, Stands, Turned, Open, blank, Going, fresh, begun, Started, unfinished, Listed}
+use Rattle.schedule.specs.Going.{cut, keptOf, Soonest, Stands, Turned, Open, blank, Going, fresh, begun, Started, unfinished, Listed, stopOf, firstStop, stopIn, StopsAt}
+use Rattle.opening_place.specs.Opening.{beginStop, goOnStop, stopAt}
 use Rattle.schedule.proofs.Cut.{leaves-cut, start-cut}
 use Rattle.schedule.proofs.Bare.{message-of-bare}
+use Rattle.schedule.proofs.Stopping.{begin-stop-on, begin-stop-here, later-stop, full-stop, stop-here, stop-later}
 use Rattle.schedule.proofs.Closing.{begin-turn, begin-fails, begin-done, stops, no-room, fails, goes}
 use Rattle.schedule.proofs.Grown.{made, opens-made, opens-not, length-rows, no-rows, stands, same, same-passage, rows-more, keeps, until, begun-on, first-on, going-on}
 use Rattle.schedule.proofs.Told.{relabelled, stays, going-still, told-now, told-still}
@@ -48,6 +50,7 @@ zeros-young (suc n) t = more {x = 0} (omega arith) (zeros-young n t)
 pub record Beginning (bs l : List ℕ) (c : ℕ) (nodes : List Node) (ends : List ℕ) : Type 0 where
   pub first : List Passage
   pub begins : begin (1024 - c) c (drop c (readOf bs .table .components)) first ≡ begun bs
+  pub stop : beginStop (1024 - c) c (drop c (readOf bs .table .components)) first ≡ firstStop bs
   pub going : Going bs l c c nodes ends (fresh first)
   pub zero : (j : ℕ) → j < c → num l j 3 ≡ 0
   pub own : (j : ℕ) → j < c → getD nodes j blank .row ≡ j
@@ -58,6 +61,7 @@ begin-first bs l nodes ends v =
     record {
       first = [];
       begins = refl;
+      stop = refl;
       going =
           record {
             placed =
@@ -112,6 +116,18 @@ module _ (bs l : List ℕ) (b : (j : ℕ) → Fits w8 (getD bs j 0)) (c : ℕ) (
           begin-fails (readOf bs .table .components) (1024 - c) c (g .first) (begun bs) (g .begins) (componentIn bs c) refl there few k
           (ap (opening c (componentIn bs c)) starts ∙ opens-not bs c (limits-of bs b valid c there) at begin-location r e q)
 
+      pub begin-stops : {k : ℕ} → r ≡ Fails k → StopsAt bs (firstStop bs) k c c at
+      begin-stops {k} q =
+          record {
+            stop = sym (g .stop)
+                ∙ begin-stop-here (readOf bs .table .components) (1024 - c) c (g .first) (componentIn bs c) refl there few k
+                (ap (opening c (componentIn bs c)) starts ∙ opens-not bs c (limits-of bs b valid c there) at begin-location r e q)
+                ∙ ap₂ (λ m d. some (record { number = k; passage = m; component = c; automaton = componentIn bs c; entry = d })) (g .going .full) starts;
+            few = omega (arith, few);
+            component = there;
+            location = begin-location;
+          }
+
       -- it opens
       pub begin-on : {t : TakenEdge} → r ≡ Opens t → Placed bs (startOf bs c) c r → c * 9 + 9 ≤ length l → (l′ : List ℕ)
           → l′ ≡ sets l (c * 9) (c ∷ t .edge ∷ at .location ∷ at .tick ∷ (at .tick + t .ready) ∷ (at .tick + t .end) ∷ 255 ∷ t .place ∷ c ∷ [])
@@ -127,6 +143,9 @@ module _ (bs l : List ℕ) (b : (j : ℕ) → Fits w8 (getD bs j 0)) (c : ℕ) (
             begins = subst (λ m. begin m (c + 1) (drop (c + 1) (readOf bs .table .components)) (snoc (g .first) w) ≡ begun bs) n
                 (begin-turn (readOf bs .table .components) (1024 - c) c (g .first) (begun bs) (g .begins) (componentIn bs c) refl there few w
                 (ap (opening c (componentIn bs c)) starts ∙ o));
+            stop = ap (λ m. beginStop m (c + 1) (drop (c + 1) (readOf bs .table .components)) (snoc (g .first) w)) (sym n)
+                ∙ sym (begin-stop-on (readOf bs .table .components) (1024 - c) c (g .first) (componentIn bs c) refl there few w (ap (opening c (componentIn bs c)) starts ∙ o))
+                ∙ g .stop;
             going = begun-on bs l c c c at t fits l′ is o there p′ (omega arith) (omega (arith, few-components bs b valid)) young nodes ends h k (g .first) (g .going) refl refl tick (g .zero);
             zero = first-on bs l c c c at t fits l′ is o there p′ (omega arith) (omega (arith, few-components bs b valid)) young nodes ends h k tick (g .zero);
             own = below-more (λ j. getD (keeps nodes c c at t) j blank .row ≡ j) c
@@ -145,6 +164,7 @@ pub record Closed (bs l : List ℕ) (n : ℕ) (ends : List ℕ) (i : ℕ) : Type
 pub record Progress (bs l : List ℕ) (n : ℕ) (nodes : List Node) (ends : List ℕ) : Type 0 where
   pub soFar : OpenedSoFar
   pub same : goOn (readOf bs .table) (readOf bs .horizon) (1024 - n) soFar ≡ unfinished bs
+  pub stop : goOnStop (readOf bs .table) (readOf bs .horizon) (1024 - n) soFar ≡ stopIn bs
   pub going : Going bs l n (size (readOf bs .table)) nodes ends soFar
   pub closed : (i : ℕ) → i < n → ((c : ℕ) → c < size (readOf bs .table) → getD nodes c blank .row ≡ i → ⊥) → Closed bs l n ends i
 
@@ -153,6 +173,7 @@ progress-first bs l n nodes ends s e =
     record {
       soFar = fresh (s .first);
       same = rw e (sym (ap (λ a. a after λ vs. goOn (readOf bs .table) (readOf bs .horizon) (1024 - size (readOf bs .table)) (fresh vs)) (s .begins)));
+      stop = rw e (sym (later-stop bs (s .begins)));
       going = subst (λ m. Going bs l m (size (readOf bs .table)) nodes ends (fresh (s .first))) (sym e) (s .going);
       closed = λ i h o. absurd (o i (omega arith) (s .own i (omega arith)));
     }
@@ -228,13 +249,17 @@ module _ (bs l : List ℕ) (b : (j : ℕ) → Fits w8 (getD bs j 0)) (n : ℕ) (
       listed-accepted (g .soFar .listed) (sym (g .same) ∙ stops T H (g .soFar) ends c s (g .going .full) ends-are (1024 - n) h) (g .going .rows) (g .going .placed)
       (λ i a k. g .closed i a (λ d b q. omega (arith, s .least d b, row-end d b, ap (λ j. num l j 5) q)) .told)
 
+  -- so many are listed
+  listed-length : length (g .soFar .listed) ≡ n
+  listed-length = sym (length-map (g .soFar .listed) bare) ∙ sym (ap length (g .going .rows)) ∙ length-map (rowsOf l n) bare ∙ length-rows l 0 n
+
   module _ (below : getD ends c 0 < H) where
     -- 7
     pub loop-full : 1024 ≤ n → (r : Scheduled) → r .verdict ≡ Refused 7 c → r .count ≡ 0 → Listed bs (unfinished bs) r l
     loop-full h r p q =
         listed-refused r 7 c (sym (g .same) ∙ no-room T H (g .soFar) ends c s (g .going .full) ends-are below (1024 - n) (omega arith)) (g .going .placed) p q
 
-    module _ (room : n < 1024) (t : Turn) (u : Turned bs l n c H (getD nodes c blank) (getD ends c 0) t) where
+    module _ (t : Turn) (u : Turned bs l n c H (getD nodes c blank) (getD ends c 0) t) where
       its-arc : arcOf C (v .edge) ≡ passageArc T v
       its-arc = ap (λ k. arcOf (componentIn bs k) (v .edge)) (sym (open-now .component))
 
@@ -271,16 +296,33 @@ module _ (bs l : List ℕ) (b : (j : ℕ) → Fits w8 (getD bs j 0)) (n : ℕ) (
       present : c < size T
       present = s .there
 
-      -- 8 or 9
-      pub loop-fails : {k : ℕ} → t .opening ≡ Fails k → (r : Scheduled) → r .verdict ≡ Refused k c → r .count ≡ 0 → Listed bs (unfinished bs) r l
-      loop-fails {k} q r p z =
-          listed-refused r k c
-          (sym (g .same) ∙ fails T H (g .soFar) ends c s (g .going .full) ends-are below (1024 - n) (omega arith) k
-          (ap (opening c C) leads ∙ opens-not bs c (limits-of bs b (g .going .placed .valid) c present) (t .at) (u .there) (t .opening) (u .opens) q))
-          (g .going .placed) p z
+      -- the opening that is refused
+      stop-is : (k : ℕ) → some (stopAt k (g .soFar .listed) c C (closing T H (g .soFar .listed) v)) ≡ some (stopOf bs k n c (t .at))
+      stop-is k = ap₂ (λ m d. some (record { number = k; passage = m; component = c; automaton = C; entry = d })) listed-length leads
+
+      -- the component and the location are there
+      stops-at : (k : ℕ) → n ≤ 1024 → goOnStop T H (1024 - n) (g .soFar) ≡ some (stopAt k (g .soFar .listed) c C (closing T H (g .soFar .listed) v))
+          → StopsAt bs (stopIn bs) k n c (t .at)
+      stops-at k h e = record { stop = sym (g .stop) ∙ e ∙ stop-is k; few = h; component = present; location = u .there }
+
+      pub loop-full-at : n ≤ 1024 → 1024 ≤ n → StopsAt bs (stopIn bs) 7 n c (t .at)
+      loop-full-at m h = stops-at 7 m (full-stop T H (g .soFar) ends c s (g .going .full) ends-are below (1024 - n) (omega arith))
+
+      refuses : {k : ℕ} → t .opening ≡ Fails k → opening c C (closing T H (g .soFar .listed) v) ≡ refused k c
+      refuses q = ap (opening c C) leads ∙ opens-not bs c (limits-of bs b (g .going .placed .valid) c present) (t .at) (u .there) (t .opening) (u .opens) q
+
+      module _ (room : n < 1024) where
+        -- 8 or 9
+        pub loop-fails : {k : ℕ} → t .opening ≡ Fails k → (r : Scheduled) → r .verdict ≡ Refused k c → r .count ≡ 0 → Listed bs (unfinished bs) r l
+        loop-fails {k} q r p z =
+            listed-refused r k c (sym (g .same) ∙ fails T H (g .soFar) ends c s (g .going .full) ends-are below (1024 - n) (omega arith) k (refuses q))
+            (g .going .placed) p z
+
+        pub loop-fails-at : {k : ℕ} → t .opening ≡ Fails k → StopsAt bs (stopIn bs) k n c (t .at)
+        loop-fails-at {k} q = stops-at k (omega arith) (stop-here T H (g .soFar) ends c s (g .going .full) ends-are below (1024 - n) (omega arith) k (refuses q))
 
       -- it opens, and the passage that closed gets its message
-      module _ {e : TakenEdge} (q : t .opening ≡ Opens e) (fits : n * 9 + 9 ≤ length l) (back : ℕ) (among : back ≤ n)
+      module _ (room : n < 1024) {e : TakenEdge} (q : t .opening ≡ Opens e) (fits : n * 9 + 9 ≤ length l) (back : ℕ) (among : back ≤ n)
           (skips : (i : ℕ) → back ≤ i → i < n → num l i 5 ≤ t .at .tick + e .end) (l′ : List ℕ)
           (is : l′ ≡ sets l (n * 9) (c ∷ e .edge ∷ t .at .location ∷ t .at .tick ∷ (t .at .tick + e .ready) ∷ (t .at .tick + e .end) ∷ 255 ∷ e .place ∷ back ∷ []))
           (in-nodes : c < length nodes) (in-ends : c < length ends) where
@@ -302,6 +344,13 @@ module _ (bs l : List ℕ) (b : (j : ℕ) → Fits w8 (getD bs j 0)) (n : ℕ) (
             ap (λ r. goOn T H r (put (g .soFar) w)) (sym m)
             ∙ sym (goes T H (g .soFar) ends c s (g .going .full) ends-are below (1024 - n) (omega arith) w (ap (opening c C) leads ∙ opens))
             ∙ g .same
+
+        same-stop : goOnStop T H (1024 - (n + 1)) (put (g .soFar) w) ≡ stopIn bs
+        same-stop =
+            let m : 1024 - n - 1 ≡ 1024 - (n + 1) = omega arith in
+            ap (λ r. goOnStop T H r (put (g .soFar) w)) (sym m)
+            ∙ sym (stop-later T H (g .soFar) ends c s (g .going .full) ends-are below (1024 - n) (omega arith) w (ap (opening c C) leads ∙ opens))
+            ∙ g .stop
 
         -- the row of the passage that closed, and the rows with its message
         abbrev closer : ℕ
@@ -350,6 +399,7 @@ module _ (bs l : List ℕ) (b : (j : ℕ) → Fits w8 (getD bs j 0)) (n : ℕ) (
             record {
               soFar = put (g .soFar) w;
               same = same-going;
+              stop = same-stop;
               going = going-still l′ (n + 1) closer (t .message) bs opened-going;
               closed = λ i h shut. record { ended = ended-then i h shut; told = told i h shut };
             }

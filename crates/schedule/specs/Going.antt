@@ -1,6 +1,7 @@
 -- What the code keeps while it makes the schedule, in the words of the definitions: the open passages, the rows, and the list so far.
 use mathlib.Core.Path.{_≡_}
 use mathlib.Core.List.{List, [], map}
+use mathlib.Core.Option.{Option, some}
 use Prim.Native.Nat.{ℕ, _-_, _≤_, _<_}
 use lib.ListN.{length, take, getD}
 use Rattle.model.specs.Lists.{All, Answer, accepted, refused, _after_}
@@ -10,7 +11,8 @@ use Rattle.model.specs.Places.{startOf, readOf, componentIn}
 use Rattle.model.specs.Schedule.{Passage, passageArc, messageIn, opening, OpenedSoFar, begin, goOn, bare}
 use Rattle.model.specs.Checks.{limit, passageAt}
 use Rattle.model.specs.Calls.{verdictOf}
-use Rattle.model.specs.declared.Verdict.the-variants.{Accepted}
+use Rattle.model.specs.declared.Verdict.the-variants.{Accepted, Refused}
+use Rattle.opening_place.specs.Opening.{Stop, beginStop, scheduleStop}
 use Rattle.window.specs.declared.TakenEdge.{TakenEdge}
 use Rattle.window.specs.Views.{entryOf, openingOf, Placed}
 use Rattle.window.specs.Indexed.{Indexed}
@@ -19,6 +21,7 @@ use Rattle.schedule.specs.declared.Node.{Node}
 use Rattle.schedule.specs.declared.Turn.{Turn}
 use Rattle.schedule.specs.declared.Opened.{Opened}
 use Rattle.schedule.specs.declared.Scheduled.{Scheduled}
+use Rattle.schedule.specs.declared.Ended.{Ended}
 
 -- the entry with the clocks and variables that the component has
 abbrev pub cut : Component → Entry → Entry
@@ -98,9 +101,29 @@ pub record Started (bs l : List ℕ) (nodes : List Node) (ends : List ℕ) : Typ
   pub going : Going bs l (size (readOf bs .table)) (size (readOf bs .table)) nodes ends (fresh first)
   pub own : (c : ℕ) → c < size (readOf bs .table) → getD nodes c blank .row ≡ c
 
+-- an opening that is refused: its number, how many passages were opened before it, the component, and the entry
+abbrev pub stopOf : List ℕ → ℕ → ℕ → ℕ → Rattle.window.specs.declared.Entry.Entry → Stop
+stopOf bs number passage c at =
+    record { number = number; passage = passage; component = c; automaton = componentIn bs c; entry = cut (componentIn bs c) (entryOf at) }
+
+-- where the openings at tick 0 stop, and where the schedule does
+abbrev pub firstStop : List ℕ → Option Stop
+firstStop bs = beginStop limit 0 (readOf bs .table .components) []
+
+abbrev pub stopIn : List ℕ → Option Stop
+stopIn bs = scheduleStop limit (readOf bs .table) (readOf bs .horizon)
+
+-- they stop with number k at the opening of component c that is passage n, entered so; the component and the location are there
+pub record StopsAt (bs : List ℕ) (stopped : Option Stop) (k n c : ℕ) (at : Rattle.window.specs.declared.Entry.Entry) : Type 0 where
+  pub stop : stopped ≡ some (stopOf bs k n c at)
+  pub few : n ≤ 1024
+  pub component : c < size (readOf bs .table)
+  pub location : at .location < length (componentIn bs c .locations)
+
 pub record Begins (bs later : List ℕ) (r : Opened) : Type 0 where
   pub verdict : r .verdict ≡ verdictOf (begun bs)
   pub started : r .verdict ≡ Accepted → Started bs later (r .nodes) (r .ends)
+  pub stops : (k c : ℕ) → r .verdict ≡ Refused k c → StopsAt bs (firstStop bs) k c c (r .at)
 
 -- ## The whole schedule, with the messages of the passages that end before the horizon
 
@@ -114,3 +137,7 @@ pub record Listed (bs : List ℕ) (a : Answer (List Passage)) (r : Scheduled) (l
   pub placed : RowsPlaced bs later (r .count)
   pub told : (i : ℕ) → i < r .count → num later i 5 < readOf bs .horizon → Told bs (readOf bs .horizon) later (r .count) i
   pub none : (k c : ℕ) → a ≡ refused k c → r .count ≡ 0
+
+-- after a refusal the opening refused is told
+abbrev pub Stops : List ℕ → Ended → Type 0
+Stops bs r = (k c : ℕ) → r .scheduled .verdict ≡ Refused k c → StopsAt bs (stopIn bs) k (r .passage) c (r .at)

@@ -14,7 +14,7 @@ ghost use Rattle.table.specs.Directory.{startsOf};
 ghost use Rattle.window.specs.Indexed.{firstFrom, Indexed};
 ghost use Rattle.rows.specs.Rows.{rowPassage, rowsOf, RowsPlaced};
 ghost use Rattle.schedule.specs.Filled.{Filled, scheduleOf, acceptedScheduleIn};
-ghost use Rattle.schedule.specs.Going.{keptOf, Soonest, Stands, Turned, Started, Begins, Listed, unfinished, EdgesIndexed};
+ghost use Rattle.schedule.specs.Going.{keptOf, Soonest, Stands, Turned, Started, Begins, Listed, Stops, unfinished, EdgesIndexed};
 use model::Verdict;
 use model::layout;
 use window::Entry;
@@ -35,17 +35,25 @@ pub struct Turn {
     pub opening: Opening,
 }
 
-// The verdict on the openings at tick 0, and the open passages with the ticks at which they end.
+// The verdict on the openings at tick 0, and the open passages with the ticks at which they end; after a refusal the entry of the opening refused.
 pub struct Opened {
     pub verdict: Verdict,
     pub nodes: [Node; 8],
     pub ends: [u32; 8],
+    pub at: Entry,
 }
 
 // The verdict, and how many passages there are (0 after a refusal).
 pub struct Scheduled {
     pub verdict: Verdict,
     pub count: usize,
+}
+
+// How the schedule ended; after a refusal how many passages were opened before, and the entry of the opening refused.
+pub struct Ended {
+    pub scheduled: Scheduled,
+    pub passage: usize,
+    pub at: Entry,
 }
 
 fn listed(count: usize) -> Scheduled
@@ -65,6 +73,18 @@ fn refused(number: u8, component: usize) -> Scheduled
     Scheduled {
         verdict: Verdict::Refused(number, component as u8),
         count: 0,
+    }
+}
+
+// The same with the opening at which that happens.
+fn refused_at(number: u8, component: usize, passage: usize, at: Entry) -> Ended
+    requires { ⌜ component < 8 ⌝ }
+    ensures { λ r. ⌜ (r .scheduled .verdict ≡ Refused number component) × (r .scheduled .count ≡ 0) × (r .passage ≡ passage) × (r .at ≡ at) ⌝ }
+{
+    Ended {
+        scheduled: refused(number, component),
+        passage,
+        at,
     }
 }
 
@@ -210,6 +230,7 @@ fn begin(table: &[u8], starts: [u16; 8], rows: &mut [u32], index: &[u16]) -> Ope
                     verdict: Verdict::Refused(number, component as u8),
                     nodes,
                     ends,
+                    at,
                 };
             }
             Opening::Opens(taken) => {
@@ -220,10 +241,12 @@ fn begin(table: &[u8], starts: [u16; 8], rows: &mut [u32], index: &[u16]) -> Ope
         }
         component += 1;
     }
+    let at = none.entry;
     Opened {
         verdict: Verdict::Accepted,
         nodes,
         ends,
+        at,
     }
 }
 
@@ -235,9 +258,10 @@ fn go_on(
     from: [Node; 8],
     until: [u32; 8],
     index: &[u16],
-) -> Scheduled
+) -> Ended
     requires { ⌜ Valid (now table) × (starts ≡ startsOf (now table) (byte (now table) 3)) × (9216 ≤ length (now rows)) × Started (now table) (now rows) from until × EdgesIndexed (now table) (now index) ⌝ }
-    ensures { λ r. ⌜ Listed (now (table .entry)) (unfinished (now (table .entry))) r (now (rows .exit)) ⌝ }
+    ensures lists { λ r. ⌜ Listed (now (table .entry)) (unfinished (now (table .entry))) (r .scheduled) (now (rows .exit)) ⌝ }
+    ensures stops { λ r. ⌜ Stops (now (table .entry)) r ⌝ }
 {
     let count = parts::wide(table[layout::TABLE_COMPONENTS]);
     let horizon = parts::word32(parts::word_at(table, layout::TABLE_HORIZON));
@@ -247,13 +271,15 @@ fn go_on(
     loop {
         let component = soonest(&ends, count);
         let end = ends[component];
-        if horizon <= end {
-            return listed(filled);
-        }
-        if 1024 <= filled {
-            return refused(7, component);
-        }
         let node = nodes[component];
+        if horizon <= end {
+            let at = node.entry;
+            return Ended {
+                scheduled: listed(filled),
+                passage: filled,
+                at,
+            };
+        }
         let turn = next_turn(
             table,
             rows,
@@ -266,10 +292,13 @@ fn go_on(
             index,
         );
         let at = turn.at;
+        if 1024 <= filled {
+            return refused_at(7, component, filled, at);
+        }
         let opening = turn.opening;
         match opening {
             Opening::Fails(number) => {
-                return refused(number, component);
+                return refused_at(number, component, filled, at);
             }
             Opening::Opens(next) => {
                 let back = rows::open_before(rows, filled, at.tick + next.end + 1);
@@ -283,33 +312,51 @@ fn go_on(
     }
 }
 
-// Makes the schedule (checks 7 to 9), messages included.
-pub fn schedule_rows(table: &[u8], starts: [u16; 8], rows: &mut [u32]) -> Scheduled
+// Makes the schedule (checks 7 to 9), messages included, and says where it stops.
+pub fn schedule_to_end(table: &[u8], starts: [u16; 8], rows: &mut [u32]) -> Ended
     requires { ⌜ Valid (now table) × (starts ≡ startsOf (now table) (byte (now table) 3)) × (9216 ≤ length (now rows)) ⌝ }
-    ensures { λ r. ⌜ Filled (now (table .entry)) (scheduleOf (now (table .entry))) r (now (rows .exit)) ⌝ }
+    ensures fills { λ r. ⌜ Filled (now (table .entry)) (scheduleOf (now (table .entry))) (r .scheduled) (now (rows .exit)) ⌝ }
+    ensures stops { λ r. ⌜ Stops (now (table .entry)) r ⌝ }
 {
     let mut index = [32u16; 640];
     index_edges(table, starts, &mut index);
     let begun = begin(table, starts, rows, &index);
     let verdict = begun.verdict;
     match verdict {
-        Verdict::Refused(number, component) => Scheduled {
-            verdict: Verdict::Refused(number, component),
-            count: 0,
-        },
+        Verdict::Refused(number, component) => {
+            let at = begun.at;
+            Ended {
+                scheduled: Scheduled {
+                    verdict: Verdict::Refused(number, component),
+                    count: 0,
+                },
+                passage: parts::wide(component),
+                at,
+            }
+        }
         Verdict::Accepted => {
             let nodes = begun.nodes;
             let ends = begun.ends;
             let r = go_on(table, starts, rows, nodes, ends, &index);
+            let scheduled = r.scheduled;
             rows::put_messages(
                 table,
                 rows,
-                r.count,
+                scheduled.count,
                 parts::word32(parts::word_at(table, layout::TABLE_HORIZON)),
             );
             r
         }
     }
+}
+
+// Makes the schedule (checks 7 to 9), messages included.
+pub fn schedule_rows(table: &[u8], starts: [u16; 8], rows: &mut [u32]) -> Scheduled
+    requires { ⌜ Valid (now table) × (starts ≡ startsOf (now table) (byte (now table) 3)) × (9216 ≤ length (now rows)) ⌝ }
+    ensures { λ r. ⌜ Filled (now (table .entry)) (scheduleOf (now (table .entry))) r (now (rows .exit)) ⌝ }
+{
+    let ended = schedule_to_end(table, starts, rows);
+    ended.scheduled
 }
 
 // The same with checks 10 to 12 at a spread.

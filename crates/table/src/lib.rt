@@ -163,7 +163,7 @@ fn count_fine(table: &[u8]) -> bool
 }
 
 // Where the components start: after the header, and from version 2 on after one byte a channel.
-fn body_start(table: &[u8]) -> usize
+pub fn body_start(table: &[u8]) -> usize
     requires { ⌜ 7 ≤ length (now table) ⌝ }
     ensures { λ r. ⌜ (r ≡ bodyStart (now (table .entry))) × (7 ≤ r) × (r ≤ 262) ⌝ }
 {

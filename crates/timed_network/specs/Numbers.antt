@@ -1,13 +1,17 @@
--- The answers of the exported calls `run` and `edge_choice`, held against their definitions.
+-- The answers of the exported calls `run`, `edge_choice`, `refusal_place` and `refused_opening`, held against their definitions.
 use mathlib.Core.Path.{_≡_}
 use mathlib.Core.List.{List}
 use Prim.Native.Nat.{ℕ}
 use Rattle.model.specs.Window.{Entry}
 use Rattle.model.specs.Calls.{RunCall, numberOf, concernedOf, endNumber, endNode}
 use Rattle.model.specs.EdgeChoice.{EdgeChoiceCall}
+use Rattle.refusal_place.specs.declared.Place.{Place}
 use Rattle.timed_network.specs.declared.RunNumbers.{RunNumbers}
 use Rattle.timed_network.specs.declared.EntryNumbers.{EntryNumbers}
 use Rattle.timed_network.specs.declared.EdgeChoiceNumbers.{EdgeChoiceNumbers}
+use Rattle.opening_place.specs.declared.RefusedOpening.{RefusedOpening}
+use Rattle.timed_network.specs.declared.places.PlaceNumbers.{PlaceNumbers}
+use Rattle.timed_network.specs.declared.places.OpeningNumbers.{OpeningNumbers}
 
 -- every number of the answer, the verdict as two, and every lent byte afterwards
 pub record NumbersOf (call : RunCall) (r : RunNumbers) (later : List ℕ) : Type 0 where
@@ -33,3 +37,34 @@ pub record EdgeNumbersOf (call : EdgeChoiceCall) (r : EdgeChoiceNumbers) : Type 
   pub ready : r .ready ≡ call .ready
   pub end : r .end ≡ call .end
   pub looked : r .looked ≡ call .looked
+
+-- every number of a place
+pub record PlaceNumbersOf (place : Place) (r : PlaceNumbers) : Type 0 where
+  pub number : r .number ≡ place .number
+  pub component : r .component ≡ place .component
+  pub part : r .part ≡ place .part
+  pub edge : r .edge ≡ place .edge
+  pub index : r .index ≡ place .index
+  pub unbounded : r .unbounded ≡ place .unbounded
+  pub start : r .start ≡ place .start
+  pub offset : r .offset ≡ place .offset
+  pub width : r .width ≡ place .width
+  pub value : r .value ≡ place .value
+  pub least : r .least ≡ place .least
+  pub limit : r .limit ≡ place .limit
+
+-- every number of a refused opening, the component in its entry too
+pub record OpeningNumbersOf (opening : RefusedOpening) (r : OpeningNumbers) : Type 0 where
+  pub number : r .number ≡ opening .number
+  pub component : r .component ≡ opening .component
+  pub leaving : r .leaving ≡ opening .leaving
+  pub blocked : r .blocked ≡ opening .blocked
+  pub windowless : r .windowless ≡ opening .windowless
+  pub edge : r .edge ≡ opening .edge
+  pub update : r .update ≡ opening .update
+  pub passage : r .passage ≡ opening .passage
+  pub tick : r .tick ≡ opening .tick
+  pub enters : r .entry .component ≡ opening .component
+  pub location : r .entry .location ≡ opening .location
+  pub clocks : r .entry .clocks ≡ opening .clocks
+  pub values : r .entry .values ≡ opening .values

@@ -1,1 +1,3 @@
 pub mod VerdictCalled
+pub mod Stops
+pub mod StopSaid

@@ -15,7 +15,7 @@ use Rattle.meetings.proofs.Bounds.{meetings-few, spread-few}
 use Rattle.text.specs.Words.{told}
 use Rattle.refusal_text.specs.RefusalText.{refusalText}
 use Rattle.verdict_text.specs.SpreadWords.{spreadLine}
-use Rattle.verdict_text.specs.VerdictText.{Met, metOf, metsOf, bandText, meetingsText, verdictWith, verdictTextAt, verdictText}
+use Rattle.verdict_text.specs.VerdictText.{Met, metOf, metsOf, stopText, bandText, meetingsText, verdictWith, verdictTextAt, verdictText}
 use Rattle.verdict_text.proofs.Together.{text-together}
 
 -- ## What the call leaves
@@ -50,10 +50,10 @@ module _ (G : ℕ) (table lent : List ℕ) (room : 7175 ≤ length lent) (list :
       ∙ mets-are (meetingsInAt G table) (drop (length (meetingsInAt G table) * 7) lent)
 
   pub refused-words : (number component : ℕ) → checkCallAt G table ≡ Refused number component
-      → refusalText number component ++ spreadLine G ++ bandText table number (metsOf list n) ++ meetingsText G number (metsOf list n) ≡ verdictTextAt G table
+      → refusalText number component ++ spreadLine G ++ stopText table number ++ bandText table number (metsOf list n) ++ meetingsText G number (metsOf list n) ≡ verdictTextAt G table
   unfolding verdictTextAt
   refused-words number component e =
-      ap (λ (l : List Met). refusalText number component ++ spreadLine G ++ bandText table number l ++ meetingsText G number l) listed-mets
+      ap (λ (l : List Met). refusalText number component ++ spreadLine G ++ stopText table number ++ bandText table number l ++ meetingsText G number l) listed-mets
       ∙ sym (ap (λ (v : Verdict). verdictWith G table v (meetingsInAt G table)) e)
 
 pub accepted-words : (G : ℕ) (table : List ℕ) → checkCallAt G table ≡ Accepted → verdictWith G table Accepted [] ≡ verdictTextAt G table

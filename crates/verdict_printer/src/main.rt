@@ -1,22 +1,47 @@
 // Reads a table from standard input and prints its verdict in words: the number, the question that was asked, and the
-// component; after 10 to 12 and 15 to 17 also which windows met, and where a send is not heard well the remedy.
+// component; after 4 to 6 also where in the bytes the reader stopped, after 7 to 9 at which opening the schedule did, after 10 to 12 and 15 to 17
+// which windows met, and where a send is not heard well the remedy.
 //
 // The one argument, in decimal, is the spread: how many ticks apart the nodes may wake. Without it they wake together. What is wrong with
 // the argument goes to standard error, and standard output is empty then.
 ghost use mathlib.Core.Path.{_≡_};
 ghost use mathlib.Core.List.{_++_};
-ghost use Prim.Native.Nat.{_*_, _≤_};
+ghost use Prim.Native.Nat.{_+_, _*_, _≤_, _<_};
 ghost use lib.ListN.{length, take};
 ghost use Rattle.io.specs.Counts.{Counts};
+ghost use Rattle.model.specs.declared.Verdict.the-variants.{Refused};
+ghost use Rattle.model.specs.Calls.{checkCallAt};
+ghost use Rattle.refusal_place.specs.Walk.{placeOf};
+ghost use Rattle.text.specs.Words.{Added};
 ghost use Rattle.refusal_text.specs.RefusalText.{refusalText};
 ghost use Rattle.verdict_text.specs.SpreadWords.{spreadLine};
-ghost use Rattle.verdict_text.specs.VerdictText.{metsOf, bandText, meetingsText, verdictTextAt, verdictText};
+ghost use Rattle.verdict_text.specs.VerdictText.{metsOf, stopText, bandText, meetingsText, verdictTextAt, verdictText};
 use libc::STDERR_FILENO;
 use libc::STDOUT_FILENO;
 use model::Verdict;
 use text::Number;
 
-// A refusal in words, and which windows met after 10 to 12 and 15 to 17: n passages, at most the one at fault and all 1,024.
+// Where the check stopped: after 4 to 6 a place in the bytes, after 7 to 9 an opening.
+fn put_stop(out: &mut [u8], at: usize, table: &[u8], number: u8) -> usize
+    requires { ⌜ (at + 300 ≤ length (now out)) × (4 ≤ number → number ≤ 6 → 0 < placeOf (now table) .number) ⌝ }
+    ensures { λ r. ⌜ Added (now (out .entry)) at (stopText (now (table .entry)) number) (now (out .exit)) r × (r ≤ at + 300) ⌝ }
+{
+    if number < 4 {
+        return at;
+    }
+    if number < 7 {
+        let place = refusal_place::locate(table);
+        return place_text::put_place_text(out, at, place);
+    }
+    if number < 10 {
+        let opening = refused_opening::locate(table);
+        return opening_text::put_opening_text(out, at, opening);
+    }
+    at
+}
+
+// A refusal in words, where the check stopped, and which windows met after 10 to 12 and 15 to 17: n passages, at most the one at fault and all
+// 1,024.
 fn put_refused(
     table: &[u8],
     number: u8,
@@ -26,19 +51,20 @@ fn put_refused(
     spread: u32,
     out: &mut [u8],
 ) -> usize
-    requires { ⌜ (164630 ≤ length (now out)) × (n ≤ 1025) × (n * 7 ≤ length (now list)) ⌝ }
+    requires { ⌜ (164930 ≤ length (now out)) × (n ≤ 1025) × (n * 7 ≤ length (now list)) × (checkCallAt spread (now table) ≡ Refused number component) ⌝ }
     ensures { λ r. ⌜ Counts r (now (out .exit)) ⌝ }
-    ensures { λ r. ⌜ take r (now (out .exit)) ≡ refusalText number component ++ spreadLine spread ++ bandText (now (table .entry)) number (metsOf (now (list .entry)) n) ++ meetingsText spread number (metsOf (now (list .entry)) n) ⌝ }
+    ensures { λ r. ⌜ take r (now (out .exit)) ≡ refusalText number component ++ spreadLine spread ++ stopText (now (table .entry)) number ++ bandText (now (table .entry)) number (metsOf (now (list .entry)) n) ++ meetingsText spread number (metsOf (now (list .entry)) n) ⌝ }
 {
     let nodes = refusal_text::put_refusal_text(out, 0, number, component);
-    let band = verdict_text::spread::put_spread(out, nodes, spread);
+    let stop = verdict_text::spread::put_spread(out, nodes, spread);
+    let band = put_stop(out, stop, table, number);
     let lines = verdict_text::put_band(out, band, table, number, list, n);
     verdict_text::put_meetings(out, lines, number, list, n, spread)
 }
 
 // All that is printed of a table at a spread, at the front of out; answers how many bytes.
 fn put_printed(table: &[u8], spread: u32, out: &mut [u8]) -> usize
-    requires { ⌜ 164630 ≤ length (now out) ⌝ }
+    requires { ⌜ 164930 ≤ length (now out) ⌝ }
     ensures { λ r. ⌜ Counts r (now (out .exit)) ⌝ }
     ensures { λ r. ⌜ take r (now (out .exit)) ≡ verdictTextAt spread (now (table .entry)) ⌝ }
     ensures { λ r. ⌜ (spread ≡ 0 → take r (now (out .exit)) ≡ verdictText (now (table .entry))) ⌝ }
@@ -65,7 +91,7 @@ fn put_printed(table: &[u8], spread: u32, out: &mut [u8]) -> usize
 
 // The text is made, then written. What is put in out is all that is written.
 fn print(table: &[u8], spread: u32, out: &mut [u8])
-    requires { ⌜ 164630 ≤ length (now out) ⌝ }
+    requires { ⌜ 164930 ≤ length (now out) ⌝ }
 {
     let n = put_printed(table, spread, out);
     if !io::write_all(STDOUT_FILENO, &out[..n]) {
@@ -74,7 +100,7 @@ fn print(table: &[u8], spread: u32, out: &mut [u8])
 }
 
 // The array is lent as an array first: no proof has to count its zeros then.
-fn print_in_array(table: &[u8], spread: u32, out: &mut [u8; 164630]) {
+fn print_in_array(table: &[u8], spread: u32, out: &mut [u8; 164930]) {
     print(table, spread, out);
 }
 
@@ -83,8 +109,8 @@ fn print_input(spread: u32) {
     // One byte more than a table may have, so that a longer input is seen.
     let mut input = [0u8; 8193];
     let n = io::read_full(0, &mut input);
-    // The refusal has at most 170 bytes, the spread 50, the band 30, the window at fault 200, each of 1,025 lines 160, and the remedy 180.
-    let mut out = [0u8; 164630];
+    // The refusal has at most 170 bytes, the spread 50, the place or the opening 300, the band 30, the window at fault 200, each of 1,025 lines 160, and the remedy 180.
+    let mut out = [0u8; 164930];
     print_in_array(&input[..n], spread, &mut out);
 }
 

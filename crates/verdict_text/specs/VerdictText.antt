@@ -1,5 +1,6 @@
--- A verdict in words: a refusal in words, and after 10 to 12 and 15 to 17 which windows met; where a send is not heard well, also the remedy. G is
--- the spread, 0 where there is none.
+-- A verdict in words: a refusal in words, after 4 to 6 the place in the bytes at which the reader stopped, after 7 to 9 the opening at which the
+-- schedule stopped, and after 10 to 12 and 15 to 17 which windows met; where a send is not heard well, also the remedy. G is the spread, 0 where there
+-- is none.
 use mathlib.Core.Bool.{Bool, cond, _&&_, _||_}
 use mathlib.Core.List.{List, [], _∷_, _++_, map}
 use Prim.Native.Nat.{ℕ, _+_}
@@ -12,8 +13,12 @@ use Rattle.model.specs.Reader.{byte}
 use Rattle.model.specs.Schedule.{Passage}
 use Rattle.model.specs.Calls.{checkCallAt, checkCall}
 use Rattle.model.specs.Meetings.{meetingsInAt, meetingsIn}
+use Rattle.refusal_place.specs.Walk.{placeOf}
+use Rattle.opening_place.specs.Opening.{openingOf}
 use Rattle.text.specs.Words.{ascii, decimal, field, told}
 use Rattle.refusal_text.specs.RefusalText.{refusalText}
+use Rattle.place_text.specs.PlaceText.{placeText}
+use Rattle.opening_text.specs.OpeningText.{openingText}
 use Rattle.verdict_text.specs.SpreadWords.{ticks, lacking, spreadLine, meetingWords, nearWords, startMargin, endMargin, untilWords, listenWords, aroundWords}
 
 -- ## The windows that met
@@ -138,21 +143,30 @@ unfolding decimal
 bandText table number [] = []
 bandText table number (fault ∷ ws) = bandLine table number (fault .channel)
 
+-- ## Where the check stopped
+
+-- 4 to 6 stop at a place in the bytes, 7 to 9 at an opening (the laws `place-of-verdict` and `opening-of-verdict` in verdict_printer, proofs/Stops.antt:
+-- its number and its component are those of the verdict)
+unfoldable pub stopText : List ℕ → ℕ → List ℕ
+unfolding placeOf placeText openingOf openingText
+stopText table number =
+    cond (ltb number 4) [] (cond (ltb number 7) (placeText (placeOf table)) (cond (ltb number 10) (openingText (openingOf table)) []))
+
 -- ## The whole text, for any bytes
 
 abbrev pub verdictWith : ℕ → List ℕ → Verdict → List Passage → List ℕ
 verdictWith G table Accepted M = ascii "accepted\n" ++ spreadLine G
 verdictWith G table (Refused number component) M =
-    refusalText number component ++ spreadLine G ++ bandText table number (map metOf M) ++ meetingsText G number (map metOf M)
+    refusalText number component ++ spreadLine G ++ stopText table number ++ bandText table number (map metOf M) ++ meetingsText G number (map metOf M)
 
 -- at a spread
 unfoldable pub verdictTextAt : ℕ → List ℕ → List ℕ
-unfolding checkCallAt meetingsInAt refusalText bandText meetingsText
+unfolding checkCallAt meetingsInAt refusalText stopText bandText meetingsText
 verdictTextAt G table = verdictWith G table (checkCallAt G table) (meetingsInAt G table)
 
 -- without one
 unfoldable pub verdictText : List ℕ → List ℕ
-unfolding checkCall meetingsIn refusalText bandText meetingsText
+unfolding checkCall meetingsIn refusalText stopText bandText meetingsText
 verdictText table = verdictWith 0 table (checkCall table) (meetingsIn table)
 
 -- ## From the seven numbers of a passage

@@ -1,4 +1,7 @@
 -- `parts::edge_fine` meets its contract. Assumes nothing.
+use mathlib.Core.Path.{_≡_}
+use Prim.Native.Nat.{min}
+use native.Mathlib.Omega.{arith}
 use borrow.Author.Needs.{needs}
 use Rattle.parts.proofs.edge_fine.Statement.{statement}
 use Rattle.parts.proofs.edge_fine.Tie as tie
@@ -49,12 +52,15 @@ returns : tie.Need-returns
 returns c =
     let m = c .before .before .before .before in
     let n = m .before .before .before .before .before in
+    let start = n .before .before .before .before .before .before .before .before in
+    let few : min (start .args .sizes .clocks) 4 ≡ start .args .sizes .clocks = omega (arith, start .pre .1) in
     rw (
       c .both5 .ensures,
       c .before .counts-fine .ensures,
       m .both4 .ensures,
       m .before .before .both3 .ensures,
       m .before .before .before .mask-limit .ensures,
+      few,
       n .both2 .ensures,
       n .before .before .before .both .ensures,
     )

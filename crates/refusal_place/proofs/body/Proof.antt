@@ -16,17 +16,14 @@ add-byte-at-2 c = search needs
 byte-at-requires-2 : tie.Need-byte-at-requires-2
 byte-at-requires-2 c κs = search needs
 
-of-component-requires : tie.Need-of-component-requires
-of-component-requires c κs = search needs
-
-several-requires : tie.Need-several-requires
-several-requires c κs = search needs
+locations-requires : tie.Need-locations-requires
+locations-requires c κs = search needs
 
 edges-requires : tie.Need-edges-requires
 edges-requires c κs = search needs
 
-of-component-requires-2 : tie.Need-of-component-requires-2
-of-component-requires-2 c κs = search needs
+of-component-requires : tie.Need-of-component-requires
+of-component-requires c κs = search needs
 
 ends-requires : tie.Need-ends-requires
 ends-requires c κs = search needs
@@ -34,15 +31,14 @@ ends-requires c κs = search needs
 returns : tie.Need-returns
 unfolding bodyFrom
 returns c =
-    let t = c .before .before .before .before in (
+    let l = c .before .before .before in (
       rw (
         c .ends .ensures .0,
-        c .before .of-component2 .ensures,
+        c .before .of-component .ensures,
         c .before .before .edges .ensures .0,
-        c .before .before .before .several .ensures .0,
-        t .of-component .ensures,
-        t .before .byte-at2 .ensures,
-        t .before .before .byte-at .ensures,
+        l .locations .ensures .0,
+        l .before .byte-at2 .ensures,
+        l .before .before .byte-at .ensures,
       ),
       rw (c .ends .ensures .1) (c .before .before .edges .ensures .1),
     )
@@ -55,9 +51,8 @@ body-spec =
     byte-at-requires
     add-byte-at-2
     byte-at-requires-2
-    of-component-requires
-    several-requires
+    locations-requires
     edges-requires
-    of-component-requires-2
+    of-component-requires
     ends-requires
     returns)

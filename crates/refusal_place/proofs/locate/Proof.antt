@@ -22,7 +22,10 @@ returns c =
     (e, rw e (place-within s))
 
 body-start-requires : tie.Need-body-start-requires
-body-start-requires c κs = search needs
+body-start-requires c κs =
+    let s = c .before .before .before .args .table .now in
+    let k = walk-starts s (sym (c .before .header .ensures) ∙ c .if1 .left) in
+    omega (arith, k .0)
 
 nowhere-requires-2 : tie.Need-nowhere-requires-2
 nowhere-requires-2 c κs = search needs
@@ -40,7 +43,7 @@ components-requires c κs =
     let z : headerOf s ≡ 0 = sym (t .before .before .header .ensures) ∙ t .before .if1 .left in
     let k = walk-starts s z in
     let e = c .before .byte-at .ensures in
-    (rw (t .body-start .ensures) (k .0), k .1, omega (arith, k .2), e, c .byte-at2 .ensures)
+    (rw (t .body-start .ensures .0) (k .0), k .1, omega (arith, k .2), e, c .byte-at2 .ensures)
 
 returns-2 : tie.Need-returns-2
 returns-2 c =
@@ -48,7 +51,7 @@ returns-2 c =
     let s = t .before .before .before .before .before .args .table .now in
     let z : headerOf s ≡ 0 = sym (t .before .before .before .header .ensures) ∙ t .before .before .if1 .left in
     let w : c .before .components .result ≡ components s (record { at = bodyStart s; place = nowhere }) =
-    rw (c .before .components .ensures, t .nowhere2 .ensures, t .before .body-start .ensures) in
+    rw (c .before .components .ensures, t .nowhere2 .ensures, t .before .body-start .ensures .0) in
     let e : c .before .components .result .place ≡ placeOf s = rw w (sym (place-is s z)) in
     (e, rw e (place-within s))
 

@@ -11,16 +11,18 @@ use Rattle.window.specs.Views.{Placed}
 use Rattle.window.specs.Indexed.{Indexed}
 use Rattle.schedule.proofs.Tables.{counted, few-components, header, start-read, start-fits, initial-read, edge-small}
 use Rattle.schedule.proofs.Grown.{until}
-use Rattle.schedule.proofs.Turns.{Beginning, begin-first, begin-all, begin-location, begin-refused, begin-on}
+use Rattle.schedule.specs.Going.{firstStop}
+use Rattle.schedule.proofs.Stopping.{told-as}
+use Rattle.schedule.proofs.Turns.{Beginning, begin-first, begin-all, begin-location, begin-refused, begin-stops, begin-on}
 use Rattle.schedule.proofs.begin.Statement.{statement}
 use Rattle.schedule.proofs.begin.Tie as tie
 
 abbrev Inv-loop : tie.InvT-loop
-Inv-loop s l₀ index starts count nodes₀ ends₀ c₀ l nodes ends c =
+Inv-loop s l₀ index starts count none nodes₀ ends₀ c₀ l nodes ends c =
     (c ≤ count) × (count ≡ size (readOf s .table)) × (count ≤ 8) × (length nodes ≡ 8) × (length ends ≡ 8) × (length l ≡ length l₀) × Beginning s l c nodes ends
 
 abbrev μ-loop : tie.MeasureT-loop
-μ-loop s l₀ index starts count nodes₀ ends₀ c₀ l nodes ends c = count - c
+μ-loop s l₀ index starts count none nodes₀ ends₀ c₀ l nodes ends c = count - c
 
 shared-slice-read-wide : tie.Need-shared-slice-read-wide Inv-loop μ-loop
 shared-slice-read-wide c = let e = c .before .before .before .before in omega (arith, header (e .args .table .now) (c .shared-slice-known3 .given) (e .pre .0))
@@ -91,8 +93,8 @@ open-requires c κs =
 enum-known-opening : tie.Need-enum-known-opening Inv-loop μ-loop
 enum-known-opening c = search needs
 
-cast-t24 : tie.Need-cast-t24 Inv-loop μ-loop
-cast-t24 c = search needs
+cast-t25 : tie.Need-cast-t25 Inv-loop μ-loop
+cast-t25 c = search needs
 
 same-length : tie.Need-same-length Inv-loop μ-loop
 same-length c = c .before .before .before .before .before .before .before .loop .inv .5
@@ -107,7 +109,13 @@ returns c =
     let o = c .before .before .before .«open» in
     let r = begin-refused (e .args .table .now) (l .rows) b (l .component) (l .nodes) (l .ends) (l .inv .6) (there (p .before .before)) (n .result) (location-is p) (n .ensures .1) (n .ensures .2) (n .ensures .3)
     (o .result) (o .ensures .0) (c .before .opening .given .1) in
-    record { verdict = sym (ap verdictOf r); started = λ q. (let z : _≡_ {A = ℕ} 0 1 = cc in absurd (omega arith)) }
+    let s = begin-stops (e .args .table .now) (l .rows) b (l .component) (l .nodes) (l .ends) (l .inv .6) (there (p .before .before)) (n .result) (location-is p) (n .ensures .1) (n .ensures .2) (n .ensures .3)
+    (o .result) (o .ensures .0) (c .before .opening .given .1) in
+    record {
+      verdict = sym (ap verdictOf r);
+      started = λ q. (let z : _≡_ {A = ℕ} 0 1 = cc in absurd (omega arith));
+      stops = λ k d q. told-as (e .args .table .now) (firstStop (e .args .table .now)) (λ m j. j) s q;
+    }
 
 enum-known-opening-2 : tie.Need-enum-known-opening-2 Inv-loop μ-loop
 enum-known-opening-2 c = search needs
@@ -172,14 +180,14 @@ loop-again c =
     )
 
 same-length-2 : tie.Need-same-length-2 Inv-loop μ-loop
-same-length-2 c = c .before .loop .inv .5
+same-length-2 c = c .before .before .loop .inv .5
 
 returns-2 : tie.Need-returns-2 Inv-loop μ-loop
 returns-2 c =
-    let e = c .before .before .before .before .before .before .before .before in
-    let l = c .before .loop in
-    let s = begin-all (e .args .table .now) (l .rows) (c .before .before .before .before .before .before .before .shared-slice-known .given) (l .component) (l .nodes) (l .ends) (l .inv .6) (omega arith) (omega arith) in
-    record { verdict = sym (ap verdictOf (s .begins)); started = λ q. s }
+    let e = c .before .before .before .before .before .before .before .before .before in
+    let l = c .before .before .loop in
+    let s = begin-all (e .args .table .now) (l .rows) (c .before .before .before .before .before .before .before .before .shared-slice-known .given) (l .component) (l .nodes) (l .ends) (l .inv .6) (omega arith) (omega arith) in
+    record { verdict = sym (ap verdictOf (s .begins)); started = λ q. s; stops = λ k d q. (let z : _≡_ {A = ℕ} 0 1 = cc in absurd (omega arith)) }
 
 pub begin-spec : {M : Type 1} → statement M
 begin-spec =
@@ -198,7 +206,7 @@ begin-spec =
     cast-open
     open-requires
     enum-known-opening
-    cast-t24
+    cast-t25
     same-length
     returns
     enum-known-opening-2

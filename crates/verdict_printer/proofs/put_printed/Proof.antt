@@ -49,7 +49,7 @@ put-refused-requires c κs =
     let s = c .before .before .before .before .before .before .before .before .before .before in
     let m = c .before .before .before .before .before .before .meetings-spread in
     let few = few-listed _ _ _ (m .ensures .2) in
-    (s .pre, few, omega (arith, few, m .kept .1 .1 .0, long))
+    (s .pre, few, omega (arith, few, m .kept .1 .1 .0, long), judged (s .args .spread) (s .args .table .now) zeros (m .ensures .0) (c .before .before .before .v .given .1))
 
 same-length : tie.Need-same-length
 same-length c = search needs

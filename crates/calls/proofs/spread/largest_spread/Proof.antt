@@ -1,14 +1,14 @@
 -- `calls::spread::largest_spread` meets its contract. Assumes nothing.
-use mathlib.Core.Path.{_≡_, refl, sym, _∙_}
-use Prim.Native.Nat.{ℕ}
-use native.Mathlib.Omega.{arith}
+use mathlib.Core.Path.{sym, ap}
 use borrow.Author.Needs.{needs}
-use Rattle.model.proofs.Run.CallsApart.{check-together}
+use Rattle.model.specs.Calls.{verdictOf, checkCall}
+use Rattle.table.proofs.Answered.{was-valid, its-starts, was-refused}
+use Rattle.calls.proofs.Spreading.{no-spread}
 use Rattle.calls.proofs.spread.largest_spread.Statement.{statement}
 use Rattle.calls.proofs.spread.largest_spread.Tie as tie
 
-check-spread-requires : tie.Need-check-spread-requires
-check-spread-requires c κs = search needs
+read-requires : tie.Need-read-requires
+read-requires c κs = search needs
 
 enum-known-verdict : tie.Need-enum-known-verdict
 enum-known-verdict c = search needs
@@ -16,24 +16,24 @@ enum-known-verdict c = search needs
 enum-told : tie.Need-enum-told
 enum-told c = search needs
 
-bisect-requires : tie.Need-bisect-requires
-bisect-requires c κs = sym (c .before .before .check-spread .ensures .0) ∙ c .enum-told .given .1
+largest-read-requires : tie.Need-largest-read-requires
+largest-read-requires c κs =
+    let r = c .before .before .before .read in
+    let bs = c .before .before .before .before .before .args .table .now in
+    let v = c .before .enum-told .given .1 in
+    (was-valid bs (r .result) (r .ensures) v, its-starts bs (r .result) (r .ensures) v)
 
 returns : tie.Need-returns
-returns c = (
-  sym (c .before .verdict .given .1) ∙ c .before .before .before .check-spread .ensures .0 ∙ check-together (c .before .before .before .before .before .args .table .now),
-  λ a. let z : _≡_ {A = ℕ} 0 1 = cc in absurd (omega arith),
-  λ a. refl,
-)
+unfolding checkCall
+returns c =
+    let r = c .before .before .before .read in
+    let bs = c .before .before .before .before .before .args .table .now in
+    no-spread bs (sym (ap verdictOf (was-refused bs (r .result) (r .ensures) (c .before .verdict .given .1))))
 
 returns-2 : tie.Need-returns-2
-returns-2 c = (
-  sym (c .before .enum-told .given .1) ∙ c .before .before .before .check-spread .ensures .0 ∙ check-together (c .before .before .before .before .before .args .table .now),
-  λ a. c .bisect .ensures .0,
-  λ a. absurd (a refl),
-)
+returns-2 c = search needs
 
 pub largest-spread-spec : {M : Type 1} → statement M
 largest-spread-spec =
     tie.close
-    (tie.spec check-spread-requires enum-known-verdict enum-told bisect-requires returns returns-2)
+    (tie.spec read-requires enum-known-verdict enum-told largest-read-requires returns returns-2)

@@ -14,6 +14,9 @@ wide-requires c κs = search needs
 mask-limit-requires : tie.Need-mask-limit-requires
 mask-limit-requires c κs = search needs
 
+wide-requires-2 : tie.Need-wide-requires-2
+wide-requires-2 c κs = search needs
+
 byte-range-requires : tie.Need-byte-range-requires
 byte-range-requires c κs = search needs
 
@@ -32,12 +35,12 @@ edge-counts-requires c κs = search needs
 returns : tie.Need-returns
 returns c =
     let s = c .before .before .before .before in
-    let a = s .before .before .before .before .before .args in
-    let own = s .before .before .before .byte-at in (
+    let a = s .before .before .before .before .before .before .args in
+    let own = s .before .before .before .before .byte-at in (
       rw (← own .ensures)
-          (edge-steps (a .table .now) (a .who) (a .w) (s .byte-range .result) (c .before .before .before .byte-range2 .result) (c .before .before .byte-range3 .result) (c .before .byte-range4 .result) (a .sizes) (own .result) (s .before .before .wide .result) (s .before .mask-limit .result) (c .edge-counts .result)
-          (s .before .before .wide .ensures .0)
-          (s .before .mask-limit .ensures)
+          (edge-steps (a .table .now) (a .who) (a .w) (s .byte-range .result) (c .before .before .before .byte-range2 .result) (c .before .before .byte-range3 .result) (c .before .byte-range4 .result) (a .sizes) (own .result) (s .before .before .before .wide .result) (s .before .wide2 .result) (c .edge-counts .result)
+          (s .before .before .before .wide .ensures .0)
+          (s .before .wide2 .ensures .0 ∙ s .before .before .mask-limit .ensures)
           (s .byte-range .ensures .0)
           (c .before .before .before .byte-range2 .ensures .0)
           (c .before .before .byte-range3 .ensures .0)
@@ -53,6 +56,7 @@ edge-head-spec =
     byte-at-requires
     wide-requires
     mask-limit-requires
+    wide-requires-2
     byte-range-requires
     byte-range-requires-2
     byte-range-requires-3

@@ -1,4 +1,5 @@
 -- `refusal_place::edges::edge_from` meets its contract. Assumes nothing.
+use native.Mathlib.Omega.{arith}
 use Rattle.refusal_place.proofs.Sequence.{edge-is}
 use borrow.Author.Needs.{needs}
 use Rattle.refusal_place.proofs.edges.edge_from.Statement.{statement}
@@ -41,10 +42,14 @@ of-edge-requires-3 : tie.Need-of-edge-requires-3
 of-edge-requires-3 c κs = search needs
 
 several-requires-2 : tie.Need-several-requires-2
-several-requires-2 c κs = (c .before .several .ensures .1, c .before .before .before .before .before .before .before .before .before .before .pre .1)
+several-requires-2 c κs =
+    let p = c .before .before .before .before .before .before .before .before .before .before .pre in
+    (c .before .several .ensures .1, omega (arith, p .1, p .2))
 
 items-requires : tie.Need-items-requires
-items-requires c κs = (c .several2 .ensures .1, c .before .before .before .before .before .before .before .before .before .before .before .pre .1)
+items-requires c κs =
+    let p = c .before .before .before .before .before .before .before .before .before .before .before .pre in
+    (c .several2 .ensures .1, p .1, p .2)
 
 returns : tie.Need-returns
 returns c =

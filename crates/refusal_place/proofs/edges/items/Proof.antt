@@ -1,7 +1,8 @@
 -- `refusal_place::edges::items` meets its contract. Assumes nothing.
-use mathlib.Core.Path.{_≡_, sym}
+use mathlib.Core.Path.{_≡_, sym, ap}
 use Prim.Native.Nat.{ℕ, _≤_}
 use native.Mathlib.Omega.{arith}
+use Rattle.refusal_place.specs.declared.Subject.{Subject}
 use Rattle.refusal_place.proofs.Sequence.{items-receive}
 use borrow.Author.Needs.{needs}
 use Rattle.refusal_place.proofs.edges.items.Statement.{statement}
@@ -35,7 +36,9 @@ of-edge-requires-3 : tie.Need-of-edge-requires-3
 of-edge-requires-3 c κs = search needs
 
 pairs-requires : tie.Need-pairs-requires
-pairs-requires c κs = search needs
+pairs-requires c κs =
+    let p = c .before .before .before .before .pre in
+    (p .0, p .1, p .2, ap (λ (u : Subject). u .part) (c .of-edge3 .ensures))
 
 returns-3 : tie.Need-returns-3
 returns-3 c =

@@ -1,0 +1,2 @@
+pub mod OpeningText
+pub mod Cases

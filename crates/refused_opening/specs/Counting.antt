@@ -1,0 +1,65 @@
+-- The reasons of edges that are no candidates, counted edge by edge; and a first update that is out of range.
+use mathlib.Core.Bool.{cond}
+use mathlib.Core.List.{List}
+use mathlib.Core.Option.{Option, none, some}
+use Prim.Native.Nat.{ℕ, suc}
+use lib.Dec.{ltb, eqb}
+use lib.ListN.{length}
+use Rattle.model.specs.declared.Location.{Location}
+use Rattle.model.specs.Lists.{only}
+use Rattle.model.specs.Table.{Arc}
+use Rattle.model.specs.Window.{Entry, readyOf, pastOf, dataHolds}
+use Rattle.opening_place.specs.Opening.{blocked, windowless, Reasons}
+use Rattle.refused_opening.specs.declared.Reason.{Reason}
+use Rattle.refused_opening.specs.declared.Reason.the-variants.{Elsewhere, Blocked, Windowless, Candidate}
+use Rattle.refused_opening.specs.declared.Tally.{Tally}
+use Rattle.refused_opening.specs.declared.FirstOut.{FirstOut}
+
+-- ## Edges
+
+abbrev pub reasonOf : Location → Entry → Arc → Reason
+reasonOf l at a =
+    cond (eqb (a .edge .source) (at .location))
+    (cond (dataHolds (a .dataGuards) (at .values))
+    (cond (ltb (suc (readyOf (a .clockGuards) (at .clocks))) (pastOf l (a .clockGuards) (at .clocks))) Candidate Windowless)
+    Blocked)
+    Elsewhere
+
+-- how many of each kind it is
+abbrev pub leaves : Reason → ℕ
+leaves Elsewhere = 0
+leaves Blocked = 1
+leaves Windowless = 1
+leaves Candidate = 1
+
+abbrev pub fails : Reason → ℕ
+fails Elsewhere = 0
+fails Blocked = 1
+fails Windowless = 0
+fails Candidate = 0
+
+abbrev pub shut : Reason → ℕ
+shut Elsewhere = 0
+shut Blocked = 0
+shut Windowless = 1
+shut Candidate = 0
+
+abbrev pub reasonsOf : Tally → Reasons
+reasonsOf t = record { leaving = t .leaving; blocked = t .blocked; windowless = t .windowless }
+
+-- the reasons among some edges: for all edges of a component they are `reasons`
+abbrev pub leavingOf : Entry → List Arc → List Arc
+leavingOf at as′ = only (λ a. eqb (a .edge .source) (at .location)) as′
+
+abbrev pub reasonsAmong : Location → Entry → List Arc → Reasons
+reasonsAmong l at as′ =
+    record {
+      leaving = length (leavingOf at as′);
+      blocked = length (only (blocked at) (leavingOf at as′));
+      windowless = length (only (windowless l at) (leavingOf at as′));
+    }
+
+-- ## Updates
+
+abbrev pub outOf : FirstOut → Option ℕ
+outOf r = cond (r .found) (some (r .update)) none
