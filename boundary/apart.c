@@ -13,9 +13,10 @@ void apart_start(void) {
  * What holds for every verdict at a spread: 19 is said of a spread that there
  * is not, and then of nothing else, but after 1 to 3. At 0 it is the check.
  */
-VerdictNumbers guarded_check_spread(enum where where, struct bytes table, uint32_t spread) {
+timed_network_verdict_numbers guarded_check_spread(enum where where, struct bytes table,
+                                                   uint32_t spread) {
     const uint8_t *in = place_input(&table_place, where, table.at, table.length);
-    VerdictNumbers answer = timed_network_check_spread(in, table.length, spread);
+    timed_network_verdict_numbers answer = timed_network_check_spread(in, table.length, spread);
     made[CHECK_SPREAD]++;
     place_input_done(&table_place, table.at);
     int header = answer.number >= 1 && answer.number <= 3;
@@ -26,7 +27,7 @@ VerdictNumbers guarded_check_spread(enum where where, struct bytes table, uint32
     else if (answer.component != 255)
         fail("a spread concerns no component");
     if (spread == 0) {
-        VerdictNumbers check = guarded_check(where, table);
+        timed_network_verdict_numbers check = guarded_check(where, table);
         if (answer.number != check.number || answer.component != check.component)
             fail("another verdict at spread 0 than that of the check");
     }
@@ -34,12 +35,12 @@ VerdictNumbers guarded_check_spread(enum where where, struct bytes table, uint32
 }
 
 /* The largest spread is accepted, and the next one is not. */
-SpreadNumbers guarded_largest_spread(enum where where, struct bytes table) {
+timed_network_spread_numbers guarded_largest_spread(enum where where, struct bytes table) {
     const uint8_t *in = place_input(&table_place, where, table.at, table.length);
-    SpreadNumbers answer = timed_network_largest_spread(in, table.length);
+    timed_network_spread_numbers answer = timed_network_largest_spread(in, table.length);
     made[LARGEST_SPREAD]++;
     place_input_done(&table_place, table.at);
-    VerdictNumbers check = guarded_check(where, table);
+    timed_network_verdict_numbers check = guarded_check(where, table);
     if (answer.number != check.number || answer.component != check.component)
         fail("another verdict than that of the check");
     if (answer.number != 0 ? answer.spread != 0 : answer.spread > MAX_SPREAD)
@@ -61,8 +62,8 @@ static int is_above(struct bytes table, const struct waking *waking) {
 
 /* The run is refused as the check at its spread is, then with 13, 14 or 20. */
 static void try_refusal(enum where where, struct bytes table, struct bytes choices,
-                        const struct waking *waking, RunNumbers answer) {
-    VerdictNumbers verdict = guarded_check_spread(where, table, waking->spread);
+                        const struct waking *waking, timed_network_run_numbers answer) {
+    timed_network_verdict_numbers verdict = guarded_check_spread(where, table, waking->spread);
     if (verdict.number != 0) {
         if (answer.number != verdict.number || answer.component != verdict.component)
             fail("another refusal than that of the check at the spread");
@@ -75,8 +76,9 @@ static void try_refusal(enum where where, struct bytes table, struct bytes choic
         fail("an offset is taken or refused wrongly");
 }
 
-RunNumbers guarded_run_apart(enum where where, struct bytes table, struct bytes choices,
-                             const struct waking *waking, size_t lent) {
+timed_network_run_numbers guarded_run_apart(enum where where, struct bytes table,
+                                            struct bytes choices, const struct waking *waking,
+                                            size_t lent) {
     const uint8_t *in = place_input(&table_place, where, table.at, table.length);
     const uint8_t *chosen =
         place_input(&choices_place, where, choices.at, choices.length);
@@ -84,7 +86,7 @@ RunNumbers guarded_run_apart(enum where where, struct bytes table, struct bytes 
         place_input(&offsets_place, where, (const uint8_t *)waking->offsets,
                     waking->count * sizeof waking->offsets[0]);
     uint8_t *out = place_output(&observations_place, where, lent);
-    RunNumbers answer = timed_network_run_apart(
+    timed_network_run_numbers answer = timed_network_run_apart(
         in, table.length, chosen, choices.length, waking->spread,
         (const uint32_t *)(const void *)offsets, waking->count, out, lent);
     made[RUN_APART]++;

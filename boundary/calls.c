@@ -2,36 +2,19 @@
 
 #include <string.h>
 
-/* The layout that the Rust wrapper has too. */
-_Static_assert(sizeof(VerdictNumbers) == 2, "verdict");
-_Static_assert(sizeof(CallNumbers) == 8 && offsetof(CallNumbers, size) == 4, "call");
-_Static_assert(sizeof(PartNumbers) == 16 && offsetof(PartNumbers, length) == 8, "part");
-_Static_assert(sizeof(RunNumbers) == 16 && offsetof(RunNumbers, tick) == 4 &&
-                   offsetof(RunNumbers, size) == 12,
-               "run");
-_Static_assert(sizeof(Passage) == 16 && offsetof(Passage, entry) == 4, "passage");
-_Static_assert(sizeof(EntryNumbers) == 28 && offsetof(EntryNumbers, clocks) == 4 &&
-                   offsetof(EntryNumbers, values) == 20,
-               "entry");
-_Static_assert(sizeof(EdgeChoiceNumbers) == 16 && offsetof(EdgeChoiceNumbers, edge) == 3 &&
-                   offsetof(EdgeChoiceNumbers, looked) == 12,
-               "edge choice");
-_Static_assert(sizeof(MeetingsNumbers) == 8 && offsetof(MeetingsNumbers, size) == 4,
-               "meetings");
-_Static_assert(sizeof(SpreadNumbers) == 8 && offsetof(SpreadNumbers, spread) == 4, "spread");
-
 const char *const call_names[CALLS] = {
-    "check",     "schedule", "timing_chart",   "plan",            "edge_choice",
-    "translate", "part",     "run",            "check_spread",    "run_apart",
-    "passages",  "meetings", "largest_spread", "meetings_spread", "start",
-    "step",      "take_message"};
+    "check",         "schedule",        "timing_chart",   "plan",
+    "edge_choice",   "translate",       "part",           "run",
+    "check_spread",  "run_apart",       "refusal_place",  "refused_opening",
+    "passages",      "meetings",        "largest_spread", "meetings_spread",
+    "start",         "step",            "take_message"};
 unsigned long made[CALLS];
 uint32_t list[MAX_LIST];
 uint8_t chart[MAX_CHART];
 uint8_t plan[MAX_PLAN];
 uint8_t program[MAX_PROGRAM];
 uint8_t observations[MAX_OBSERVATIONS];
-Passage passages[MAX_PASSAGES];
+timed_network_passage passages[MAX_PASSAGES];
 
 static struct place table_place, choices_place, bytes_place, part_place;
 static struct place list_place, chart_place, plan_place, program_place;
@@ -49,9 +32,10 @@ void calls_start(void) {
     program_place = place_new(MAX_PROGRAM);
     observations_place = place_new(MAX_OBSERVATIONS);
     passages_place = place_new(sizeof passages);
-    node_place = place_new(sizeof(NodeRegisters));
+    node_place = place_new(sizeof(timed_network_node_registers));
     meetings_start();
     apart_start();
+    refused_start();
 }
 
 void try_verdict(uint8_t number, uint8_t component, uint8_t most) {
@@ -63,25 +47,25 @@ void try_verdict(uint8_t number, uint8_t component, uint8_t most) {
         fail("there is no such component");
 }
 
-static void try_call(CallNumbers answer, size_t most) {
+static void try_call(timed_network_call_numbers answer, size_t most) {
     try_verdict(answer.number, answer.component, 13);
     if (answer.number == 0 ? answer.size > most : answer.size != 0)
         fail("the size cannot be");
 }
 
-VerdictNumbers guarded_check(enum where where, struct bytes table) {
+timed_network_verdict_numbers guarded_check(enum where where, struct bytes table) {
     const uint8_t *in = place_input(&table_place, where, table.at, table.length);
-    VerdictNumbers answer = timed_network_check(in, table.length);
+    timed_network_verdict_numbers answer = timed_network_check(in, table.length);
     made[CHECK]++;
     place_input_done(&table_place, table.at);
     try_verdict(answer.number, answer.component, 12);
     return answer;
 }
 
-CallNumbers guarded_schedule(enum where where, struct bytes table, size_t lent) {
+timed_network_call_numbers guarded_schedule(enum where where, struct bytes table, size_t lent) {
     const uint8_t *in = place_input(&table_place, where, table.at, table.length);
     uint8_t *out = place_output(&list_place, where, lent * sizeof list[0]);
-    CallNumbers answer =
+    timed_network_call_numbers answer =
         timed_network_schedule(in, table.length, (uint32_t *)(void *)out, lent);
     made[SCHEDULE]++;
     try_call(answer, MAX_PASSAGES);
@@ -102,10 +86,11 @@ static int is_chart_row(const uint8_t *row, size_t component) {
 }
 
 /* A chart has a row for each component of the table. */
-CallNumbers guarded_timing_chart(enum where where, struct bytes table, size_t lent) {
+timed_network_call_numbers guarded_timing_chart(enum where where, struct bytes table,
+                                                size_t lent) {
     const uint8_t *in = place_input(&table_place, where, table.at, table.length);
     uint8_t *out = place_output(&chart_place, where, lent);
-    CallNumbers answer = timed_network_timing_chart(in, table.length, out, lent);
+    timed_network_call_numbers answer = timed_network_timing_chart(in, table.length, out, lent);
     made[TIMING_CHART]++;
     try_call(answer, MAX_CHART);
     place_input_done(&table_place, table.at);
@@ -119,10 +104,10 @@ CallNumbers guarded_timing_chart(enum where where, struct bytes table, size_t le
 }
 
 /* Every plan written is a table that the check accepts. */
-CallNumbers guarded_plan(enum where where, struct slots slots, size_t lent) {
+timed_network_call_numbers guarded_plan(enum where where, struct slots slots, size_t lent) {
     uint8_t *out = place_output(&plan_place, where, lent);
-    CallNumbers answer = timed_network_plan(slots.probes, slots.slot, slots.guard,
-                                            slots.period, out, lent);
+    timed_network_call_numbers answer =
+        timed_network_plan(slots.probes, slots.slot, slots.guard, slots.period, out, lent);
     made[PLAN]++;
     if (answer.number != 0 && answer.number != 13 && answer.number != 18)
         fail("there is no such refusal of a plan");
@@ -143,10 +128,11 @@ CallNumbers guarded_plan(enum where where, struct slots slots, size_t lent) {
  * What holds for every edge choice: the edge taken is one of those looked at,
  * and the last of them where it is ready with no delay.
  */
-EdgeChoiceNumbers guarded_edge_choice(enum where where, struct bytes table,
-                                      EntryNumbers entry) {
+timed_network_edge_choice_numbers guarded_edge_choice(enum where where, struct bytes table,
+                                                      timed_network_entry_numbers entry) {
     const uint8_t *in = place_input(&table_place, where, table.at, table.length);
-    EdgeChoiceNumbers answer = timed_network_edge_choice(in, table.length, entry);
+    timed_network_edge_choice_numbers answer =
+        timed_network_edge_choice(in, table.length, entry);
     made[EDGE_CHOICE]++;
     place_input_done(&table_place, table.at);
     try_verdict(answer.number, answer.component, 6);
@@ -161,10 +147,11 @@ EdgeChoiceNumbers guarded_edge_choice(enum where where, struct bytes table,
     return answer;
 }
 
-CallNumbers guarded_translate(enum where where, struct bytes table, size_t lent) {
+timed_network_call_numbers guarded_translate(enum where where, struct bytes table,
+                                             size_t lent) {
     const uint8_t *in = place_input(&table_place, where, table.at, table.length);
     uint8_t *out = place_output(&program_place, where, lent);
-    CallNumbers answer = timed_network_translate(in, table.length, out, lent);
+    timed_network_call_numbers answer = timed_network_translate(in, table.length, out, lent);
     made[TRANSLATE]++;
     try_call(answer, MAX_PROGRAM);
     place_input_done(&table_place, table.at);
@@ -172,9 +159,9 @@ CallNumbers guarded_translate(enum where where, struct bytes table, size_t lent)
     return answer;
 }
 
-PartNumbers guarded_part(enum where where, struct bytes bytes, uint8_t node) {
+timed_network_part_numbers guarded_part(enum where where, struct bytes bytes, uint8_t node) {
     const uint8_t *in = place_input(&bytes_place, where, bytes.at, bytes.length);
-    PartNumbers answer = timed_network_part(in, bytes.length, node);
+    timed_network_part_numbers answer = timed_network_part(in, bytes.length, node);
     made[PART]++;
     place_input_done(&bytes_place, bytes.at);
     if (answer.start > bytes.length || answer.length > bytes.length - answer.start)
@@ -182,7 +169,7 @@ PartNumbers guarded_part(enum where where, struct bytes bytes, uint8_t node) {
     return answer;
 }
 
-void try_run(RunNumbers answer, struct bytes choices) {
+void try_run(timed_network_run_numbers answer, struct bytes choices) {
     if (answer.end > 3 || (answer.end == 2 ? answer.node >= 8 : answer.node != 255))
         fail("there is no such end");
     if (answer.used > choices.length || answer.tick > answer.used)
@@ -193,14 +180,14 @@ void try_run(RunNumbers answer, struct bytes choices) {
         fail("a refused run has numbers");
 }
 
-RunNumbers guarded_run(enum where where, struct bytes table,
-                       struct bytes choices, size_t lent) {
+timed_network_run_numbers guarded_run(enum where where, struct bytes table,
+                                      struct bytes choices, size_t lent) {
     const uint8_t *in = place_input(&table_place, where, table.at, table.length);
     const uint8_t *chosen =
         place_input(&choices_place, where, choices.at, choices.length);
     uint8_t *out = place_output(&observations_place, where, lent);
-    RunNumbers answer = timed_network_run(in, table.length, chosen,
-                                          choices.length, out, lent);
+    timed_network_run_numbers answer =
+        timed_network_run(in, table.length, chosen, choices.length, out, lent);
     made[RUN]++;
     try_verdict(answer.number, answer.component, 14);
     try_run(answer, choices);
@@ -212,7 +199,7 @@ RunNumbers guarded_run(enum where where, struct bytes table,
 }
 
 /* The seven numbers that the schedule has of a passage. */
-static int same_passage(const Passage *passage, const uint32_t *row) {
+static int same_passage(const timed_network_passage *passage, const uint32_t *row) {
     return passage->component == row[0] && passage->edge == row[1] &&
            passage->location == row[2] && passage->entry == row[3] &&
            passage->ready == row[4] && passage->end == row[5] &&
@@ -220,17 +207,17 @@ static int same_passage(const Passage *passage, const uint32_t *row) {
 }
 
 /* The answer and the passages are held to those of the schedule. */
-CallNumbers guarded_passages(enum where where, struct bytes table, size_t lent) {
+timed_network_call_numbers guarded_passages(enum where where, struct bytes table, size_t lent) {
     const uint8_t *in = place_input(&table_place, where, table.at, table.length);
     uint8_t *out = place_output(&passages_place, where, lent * sizeof passages[0]);
-    CallNumbers answer =
-        timed_network_passages(in, table.length, (Passage *)(void *)out, lent);
+    timed_network_call_numbers answer =
+        timed_network_passages(in, table.length, (timed_network_passage *)(void *)out, lent);
     made[PASSAGES]++;
     try_call(answer, MAX_PASSAGES);
     place_input_done(&table_place, table.at);
     place_output_done(&passages_place, answer.size * sizeof passages[0],
                       (uint8_t *)passages);
-    CallNumbers planned = guarded_schedule(where, table, FIELDS * lent);
+    timed_network_call_numbers planned = guarded_schedule(where, table, FIELDS * lent);
     if (answer.number != planned.number || answer.component != planned.component ||
         answer.size != planned.size)
         fail("another answer than that of the schedule");
@@ -240,31 +227,33 @@ CallNumbers guarded_passages(enum where where, struct bytes table, size_t lent) 
     return answer;
 }
 
-NodeRegisters guarded_start(enum where where, struct bytes part) {
+timed_network_node_registers guarded_start(enum where where, struct bytes part) {
     const uint8_t *in = place_input(&part_place, where, part.at, part.length);
-    NodeRegisters node = timed_network_start(in, part.length);
+    timed_network_node_registers node = timed_network_start(in, part.length);
     made[START]++;
     place_input_done(&part_place, part.at);
     return node;
 }
 
-void guarded_step(enum where where, NodeRegisters *node, struct bytes part,
+void guarded_step(enum where where, timed_network_node_registers *node, struct bytes part,
                   uint8_t clocks, uint8_t variables) {
     const uint8_t *in = place_input(&part_place, where, part.at, part.length);
     uint8_t *out = place_output(&node_place, where, sizeof *node);
     memcpy(out, node, sizeof *node);
-    timed_network_step((NodeRegisters *)(void *)out, in, part.length, clocks, variables);
+    timed_network_step((timed_network_node_registers *)(void *)out, in, part.length, clocks,
+                       variables);
     made[STEP]++;
     place_input_done(&part_place, part.at);
     place_output_done(&node_place, sizeof *node, (uint8_t *)node);
 }
 
-void guarded_take_message(enum where where, NodeRegisters *node, struct bytes part,
-                          uint8_t channel) {
+void guarded_take_message(enum where where, timed_network_node_registers *node,
+                          struct bytes part, uint8_t channel) {
     const uint8_t *in = place_input(&part_place, where, part.at, part.length);
     uint8_t *out = place_output(&node_place, where, sizeof *node);
     memcpy(out, node, sizeof *node);
-    timed_network_take_message((NodeRegisters *)(void *)out, in, part.length, channel);
+    timed_network_take_message((timed_network_node_registers *)(void *)out, in, part.length,
+                               channel);
     made[TAKE_MESSAGE]++;
     place_input_done(&part_place, part.at);
     place_output_done(&node_place, sizeof *node, (uint8_t *)node);

@@ -41,7 +41,7 @@ struct slots {
     uint32_t probes, slot, guard, period;
 };
 
-/* The exported calls; vectors ask for those up to RUN_APART. */
+/* The exported calls; vectors ask for those up to REFUSED_OPENING. */
 enum call {
     CHECK,
     SCHEDULE,
@@ -53,6 +53,8 @@ enum call {
     RUN,
     CHECK_SPREAD,
     RUN_APART,
+    REFUSAL_PLACE,
+    REFUSED_OPENING,
     PASSAGES,
     MEETINGS,
     LARGEST_SPREAD,
@@ -73,12 +75,13 @@ extern uint8_t chart[MAX_CHART];
 extern uint8_t plan[MAX_PLAN];
 extern uint8_t program[MAX_PROGRAM];
 extern uint8_t observations[MAX_OBSERVATIONS];
-extern Passage passages[MAX_PASSAGES];
+extern timed_network_passage passages[MAX_PASSAGES];
 extern uint32_t met[MAX_MET];
 
 void calls_start(void);
 void meetings_start(void);
 void apart_start(void);
+void refused_start(void);
 
 /*
  * What holds for every verdict: 0 to `most`, the last number of the call, or,
@@ -87,31 +90,37 @@ void apart_start(void);
 void try_verdict(uint8_t number, uint8_t component, uint8_t most);
 
 /* What holds for every run. */
-void try_run(RunNumbers answer, struct bytes choices);
+void try_run(timed_network_run_numbers answer, struct bytes choices);
 
 /* Each call, its buffers at the place named, as long as said. */
-VerdictNumbers guarded_check(enum where where, struct bytes table);
-CallNumbers guarded_schedule(enum where where, struct bytes table, size_t lent);
-CallNumbers guarded_timing_chart(enum where where, struct bytes table, size_t lent);
-CallNumbers guarded_plan(enum where where, struct slots slots, size_t lent);
-EdgeChoiceNumbers guarded_edge_choice(enum where where, struct bytes table,
-                                      EntryNumbers entry);
-CallNumbers guarded_translate(enum where where, struct bytes table, size_t lent);
-PartNumbers guarded_part(enum where where, struct bytes bytes, uint8_t node);
-RunNumbers guarded_run(enum where where, struct bytes table,
-                       struct bytes choices, size_t lent);
-CallNumbers guarded_passages(enum where where, struct bytes table, size_t lent);
-MeetingsNumbers guarded_meetings(enum where where, struct bytes table, size_t lent);
-MeetingsNumbers guarded_meetings_spread(enum where where, struct bytes table,
-                                        uint32_t spread, size_t lent);
-VerdictNumbers guarded_check_spread(enum where where, struct bytes table, uint32_t spread);
-SpreadNumbers guarded_largest_spread(enum where where, struct bytes table);
-RunNumbers guarded_run_apart(enum where where, struct bytes table, struct bytes choices,
-                             const struct waking *waking, size_t lent);
-NodeRegisters guarded_start(enum where where, struct bytes part);
-void guarded_step(enum where where, NodeRegisters *node, struct bytes part,
+timed_network_verdict_numbers guarded_check(enum where where, struct bytes table);
+timed_network_call_numbers guarded_schedule(enum where where, struct bytes table, size_t lent);
+timed_network_call_numbers guarded_timing_chart(enum where where, struct bytes table,
+                                                size_t lent);
+timed_network_call_numbers guarded_plan(enum where where, struct slots slots, size_t lent);
+timed_network_edge_choice_numbers guarded_edge_choice(enum where where, struct bytes table,
+                                                      timed_network_entry_numbers entry);
+timed_network_call_numbers guarded_translate(enum where where, struct bytes table, size_t lent);
+timed_network_part_numbers guarded_part(enum where where, struct bytes bytes, uint8_t node);
+timed_network_run_numbers guarded_run(enum where where, struct bytes table,
+                                      struct bytes choices, size_t lent);
+timed_network_call_numbers guarded_passages(enum where where, struct bytes table, size_t lent);
+timed_network_meetings_numbers guarded_meetings(enum where where, struct bytes table,
+                                                size_t lent);
+timed_network_meetings_numbers guarded_meetings_spread(enum where where, struct bytes table,
+                                                       uint32_t spread, size_t lent);
+timed_network_verdict_numbers guarded_check_spread(enum where where, struct bytes table,
+                                                   uint32_t spread);
+timed_network_spread_numbers guarded_largest_spread(enum where where, struct bytes table);
+timed_network_run_numbers guarded_run_apart(enum where where, struct bytes table,
+                                            struct bytes choices, const struct waking *waking,
+                                            size_t lent);
+timed_network_place_numbers guarded_refusal_place(enum where where, struct bytes table);
+timed_network_opening_numbers guarded_refused_opening(enum where where, struct bytes table);
+timed_network_node_registers guarded_start(enum where where, struct bytes part);
+void guarded_step(enum where where, timed_network_node_registers *node, struct bytes part,
                   uint8_t clocks, uint8_t variables);
-void guarded_take_message(enum where where, NodeRegisters *node, struct bytes part,
-                          uint8_t channel);
+void guarded_take_message(enum where where, timed_network_node_registers *node,
+                          struct bytes part, uint8_t channel);
 
 #endif

@@ -135,7 +135,7 @@ static void lent_for_meetings(void) {
 
 /* Bytes of every length for a plan of these numbers, which need not be in range. */
 static void lend_for_plan(enum where where, struct slots slots, long more) {
-    CallNumbers ample = guarded_plan(where, slots, MAX_LIST);
+    timed_network_call_numbers ample = guarded_plan(where, slots, MAX_LIST);
     size_t needed = ample.number == 0 ? ample.size : 0;
     long sum = (long)needed + more;
     size_t lent = sum < 0 ? 0 : (size_t)sum;
@@ -167,7 +167,7 @@ static void random_plan(enum where where) {
 
 /* The edge choice at any entry, most with small numbers. */
 static void any_entry(enum where where, struct bytes table, uint8_t refusal) {
-    EntryNumbers entry;
+    timed_network_entry_numbers entry;
     memset(&entry, 0, sizeof entry);
     size_t most = random_below(4) == 0 ? 256 : 3;
     entry.component = (uint8_t)random_below(most);
@@ -176,7 +176,7 @@ static void any_entry(enum where where, struct bytes table, uint8_t refusal) {
         entry.clocks[i] = (uint32_t)(random_below(8) == 0 ? UINT32_MAX : random_below(12));
         entry.values[i] = (int16_t)(random_below(8) == 0 ? INT16_MIN : random_below(5));
     }
-    EdgeChoiceNumbers answer = guarded_edge_choice(where, table, entry);
+    timed_network_edge_choice_numbers answer = guarded_edge_choice(where, table, entry);
     same(answer.number == (refusal <= 6 ? refusal : 0), "another refusal than that of the check");
 }
 
@@ -191,10 +191,11 @@ static void apart_calls(enum where where, struct bytes table, struct bytes choic
     if (random_below(8) == 0)
         guarded_largest_spread(where, table);
     if (random_below(4) == 0) {
-        RunNumbers ran = guarded_run(where, table, choices, lent);
+        timed_network_run_numbers ran = guarded_run(where, table, choices, lent);
         size_t size = (size_t)ran.size * OBSERVATION;
         memcpy(shown, observations, size);
-        RunNumbers apart = guarded_run_apart(where, table, choices, &together, lent);
+        timed_network_run_numbers apart =
+            guarded_run_apart(where, table, choices, &together, lent);
         same(memcmp(&ran, &apart, sizeof ran) == 0 && memcmp(shown, observations, size) == 0,
              "another run together than without a spread");
     }
@@ -202,15 +203,17 @@ static void apart_calls(enum where where, struct bytes table, struct bytes choic
 
 static void all_calls(enum where where, struct bytes table, struct bytes choices,
                       size_t lent) {
-    VerdictNumbers verdict = guarded_check(where, table);
-    CallNumbers planned = guarded_schedule(where, table, lent);
-    CallNumbers translated = guarded_translate(where, table, lent);
-    RunNumbers ran = guarded_run(where, table, choices, lent);
+    timed_network_verdict_numbers verdict = guarded_check(where, table);
+    timed_network_call_numbers planned = guarded_schedule(where, table, lent);
+    timed_network_call_numbers translated = guarded_translate(where, table, lent);
+    timed_network_run_numbers ran = guarded_run(where, table, choices, lent);
     guarded_passages(where, table, lent / FIELDS);
-    CallNumbers charted = guarded_timing_chart(where, table, lent);
+    timed_network_call_numbers charted = guarded_timing_chart(where, table, lent);
     guarded_meetings(where, table, lent);
     apart_calls(where, table, choices, lent);
     any_entry(where, table, verdict.number);
+    guarded_refusal_place(where, table);
+    guarded_refused_opening(where, table);
     if (verdict.number != 0) {
         same(planned.number == verdict.number && translated.number == verdict.number &&
                  ran.number == verdict.number && charted.number == verdict.number,
@@ -262,11 +265,11 @@ static void many_choices(void) {
     memset(choices_bytes, 0, sizeof choices_bytes);
     for (int where = 0; where < PLACES; where++) {
         trying("many choices", "probe_and_hub");
-        RunNumbers taken = guarded_run((enum where)where, table,
-                                       of(choices_bytes, MAX_CHOICES), 256);
+        timed_network_run_numbers taken =
+            guarded_run((enum where)where, table, of(choices_bytes, MAX_CHOICES), 256);
         same(taken.number == 0 && taken.end == 3, "a million choices");
-        RunNumbers refused = guarded_run((enum where)where, table,
-                                         of(choices_bytes, MAX_CHOICES + 1), 256);
+        timed_network_run_numbers refused =
+            guarded_run((enum where)where, table, of(choices_bytes, MAX_CHOICES + 1), 256);
         same(refused.number == 14, "a million choices and one");
         struct waking above = {0, {1}, 1};
         refused = guarded_run_apart((enum where)where, table,
@@ -275,6 +278,10 @@ static void many_choices(void) {
         refused = guarded_run_apart((enum where)where, table,
                                     of(choices_bytes, MAX_CHOICES + 1), &above, 256);
         same(refused.number == 14, "a million choices and one, and an offset");
+        struct waking nine = {0, {1}, 9};
+        refused =
+            guarded_run_apart((enum where)where, table, of(choices_bytes, 1), &nine, 256);
+        same(refused.number == 20, "an offset and one more than there can be nodes");
     }
 }
 
@@ -283,8 +290,8 @@ static void grown_run(enum where where, struct bytes table) {
     size_t length = 0;
     for (int turn = 0; turn < 200; turn++) {
         length = random_choices(table, length, 1 + random_below(20));
-        RunNumbers ran = guarded_run(where, table, of(choices_bytes, length),
-                                     MAX_OBSERVATIONS);
+        timed_network_run_numbers ran =
+            guarded_run(where, table, of(choices_bytes, length), MAX_OBSERVATIONS);
         if (ran.number != 0 || ran.end == 0)
             return;
         length = ran.used - (ran.end == 2);
@@ -314,7 +321,7 @@ static void rounds(unsigned long count) {
         lend_for_meetings(where, table, (long)random_below(5) - 2);
         random_plan(where);
         struct bytes bytes = random_program(length);
-        PartNumbers part = guarded_part(where, bytes, random_node());
+        timed_network_part_numbers part = guarded_part(where, bytes, random_node());
         nodes_random(where, of(bytes.at + part.start, part.length));
         nodes_random(where, bytes);
     }

@@ -47,7 +47,7 @@ static void try_listener(uint8_t refusal, const uint32_t *send, const uint32_t *
  * the component concerned, then passages of others that are near to it, in the
  * order of the schedule; as many as the refusal takes.
  */
-static void try_met(const MeetingsNumbers *answer, uint32_t spread) {
+static void try_met(const timed_network_meetings_numbers *answer, uint32_t spread) {
     uint8_t refusal = answer->refusal;
     if (!met_size_fits(refusal, answer->size) || met[0] != answer->concerned)
         fail("not the passage at fault, or another count of those that it meets");
@@ -63,7 +63,8 @@ static void try_met(const MeetingsNumbers *answer, uint32_t spread) {
 }
 
 /* The verdict is held to that of the check, what is listed to its number. */
-static void try_meetings(MeetingsNumbers answer, VerdictNumbers verdict, uint32_t spread) {
+static void try_meetings(timed_network_meetings_numbers answer,
+                         timed_network_verdict_numbers verdict, uint32_t spread) {
     if (answer.refusal != verdict.number || answer.concerned != verdict.component)
         fail("another verdict than that of the check");
     if ((answer.number != 0 && answer.number != 13) || answer.component != 255)
@@ -76,10 +77,11 @@ static void try_meetings(MeetingsNumbers answer, VerdictNumbers verdict, uint32_
         try_met(&answer, spread);
 }
 
-MeetingsNumbers guarded_meetings(enum where where, struct bytes table, size_t lent) {
+timed_network_meetings_numbers guarded_meetings(enum where where, struct bytes table,
+                                                size_t lent) {
     const uint8_t *in = place_input(&table_place, where, table.at, table.length);
     uint8_t *out = place_output(&met_place, where, lent * sizeof met[0]);
-    MeetingsNumbers answer =
+    timed_network_meetings_numbers answer =
         timed_network_meetings(in, table.length, (uint32_t *)(void *)out, lent);
     made[MEETINGS]++;
     place_input_done(&table_place, table.at);
@@ -89,12 +91,12 @@ MeetingsNumbers guarded_meetings(enum where where, struct bytes table, size_t le
     return answer;
 }
 
-MeetingsNumbers guarded_meetings_spread(enum where where, struct bytes table,
-                                        uint32_t spread, size_t lent) {
+timed_network_meetings_numbers guarded_meetings_spread(enum where where, struct bytes table,
+                                                       uint32_t spread, size_t lent) {
     const uint8_t *in = place_input(&table_place, where, table.at, table.length);
     uint8_t *out = place_output(&met_place, where, lent * sizeof met[0]);
-    MeetingsNumbers answer = timed_network_meetings_spread(in, table.length, spread,
-                                                           (uint32_t *)(void *)out, lent);
+    timed_network_meetings_numbers answer =
+        timed_network_meetings_spread(in, table.length, spread, (uint32_t *)(void *)out, lent);
     made[MEETINGS_SPREAD]++;
     place_input_done(&table_place, table.at);
     place_output_done(&met_place, (size_t)answer.size * FIELDS * sizeof met[0],

@@ -10,7 +10,8 @@ enum { NODES = 8, PLACES_OF_A_KIND = 4, STATEMENT = 4 };
 static const uint64_t highest = 4000000000000000000u;
 
 /* Every register is the same; the bytes between them do not count. */
-static int same_node(const NodeRegisters *a, const NodeRegisters *b) {
+static int same_node(const timed_network_node_registers *a,
+                     const timed_network_node_registers *b) {
     return a->pc == b->pc && a->location == b->location && a->t == b->t && a->n == b->n &&
            a->d == b->d && a->edge == b->edge && a->taken == b->taken &&
            a->goes == b->goes && a->sleeps == b->sleeps &&
@@ -31,7 +32,7 @@ static size_t word_at(struct bytes bytes, size_t place) {
 }
 
 /* The op at the program counter. */
-static uint8_t op_at(const NodeRegisters *node, struct bytes part) {
+static uint8_t op_at(const timed_network_node_registers *node, struct bytes part) {
     if (part.length < STATEMENT || node->pc > part.length - STATEMENT)
         return NO_STATEMENT;
     uint8_t op = part.at[node->pc];
@@ -39,8 +40,8 @@ static uint8_t op_at(const NodeRegisters *node, struct bytes part) {
 }
 
 /* The start, by document 01: in the initial location's block. */
-static NodeRegisters started(enum where where, struct bytes part) {
-    NodeRegisters found = guarded_start(where, part), expected;
+static timed_network_node_registers started(enum where where, struct bytes part) {
+    timed_network_node_registers found = guarded_start(where, part), expected;
     size_t blocks = (size_t)byte_at(part, 2) + byte_at(part, 3);
     memset(&expected, 0, sizeof expected);
     expected.location = byte_at(part, 4);
@@ -52,7 +53,7 @@ static NodeRegisters started(enum where where, struct bytes part) {
 }
 
 /* Whether a step leaves the registers as they are. */
-static int stays(const NodeRegisters *node, struct bytes part, uint8_t clocks,
+static int stays(const timed_network_node_registers *node, struct bytes part, uint8_t clocks,
                  uint8_t variables) {
     if (part.length > MAX_PART || clocks > PLACES_OF_A_KIND || variables > PLACES_OF_A_KIND)
         return 1;
@@ -70,9 +71,9 @@ static int stays(const NodeRegisters *node, struct bytes part, uint8_t clocks,
 }
 
 /* A step, with what holds for each of them. */
-static void step(enum where where, NodeRegisters *node, struct bytes part, uint8_t clocks,
-                 uint8_t variables) {
-    NodeRegisters before = *node;
+static void step(enum where where, timed_network_node_registers *node, struct bytes part,
+                 uint8_t clocks, uint8_t variables) {
+    timed_network_node_registers before = *node;
     int stay = stays(node, part, clocks, variables);
     guarded_step(where, node, part, clocks, variables);
     if (stay && !same_node(node, &before))
@@ -95,7 +96,8 @@ static void step(enum where where, NodeRegisters *node, struct bytes part, uint8
  * The pair of the listen at the program counter that names the channel: its
  * place, 0 where none does, and 1 where the pairs run out of the part.
  */
-static size_t pair_of(const NodeRegisters *node, struct bytes part, uint8_t channel) {
+static size_t pair_of(const timed_network_node_registers *node, struct bytes part,
+                      uint8_t channel) {
     if (op_at(node, part) != LISTEN)
         return 0;
     size_t count = part.at[node->pc + 1], found = 0;
@@ -110,9 +112,9 @@ static size_t pair_of(const NodeRegisters *node, struct bytes part, uint8_t chan
 }
 
 /* A message; what it leaves is known unless the pairs run out of the part. */
-static void take_message(enum where where, NodeRegisters *node, struct bytes part,
-                         uint8_t channel) {
-    NodeRegisters expected = *node;
+static void take_message(enum where where, timed_network_node_registers *node,
+                         struct bytes part, uint8_t channel) {
+    timed_network_node_registers expected = *node;
     size_t pair = pair_of(node, part, channel);
     if (pair > 1 && !node->taken && part.length <= MAX_PART) {
         expected.taken = true;
@@ -129,7 +131,7 @@ struct network {
     unsigned count;
     struct bytes part[NODES];
     uint8_t clocks[NODES], variables[NODES];
-    NodeRegisters node[NODES];
+    timed_network_node_registers node[NODES];
 };
 
 /* Where the components of an accepted table begin: behind its header and its bands. */
@@ -143,7 +145,8 @@ static struct network network_of(enum where where, struct bytes table) {
     memcpy(program_bytes, program, length);
     network.count = table.at[3];
     for (unsigned c = 0; c < network.count; c++) {
-        PartNumbers part = guarded_part(where, of(program_bytes, length), (uint8_t)c);
+        timed_network_part_numbers part =
+            guarded_part(where, of(program_bytes, length), (uint8_t)c);
         network.part[c] = of(program_bytes + part.start, part.length);
         network.clocks[c] = table.at[at + 4];
         network.variables[c] = table.at[at + 5];
@@ -171,7 +174,7 @@ static void put(uint8_t **at, uint64_t number, int bytes) {
 
 /* What a node shows that finishes its sleep. */
 static void observe(uint8_t *at, const struct network *network, unsigned c, uint64_t tick) {
-    const NodeRegisters *node = &network->node[c];
+    const timed_network_node_registers *node = &network->node[c];
     put(&at, c, 1);
     put(&at, node->edge, 1);
     put(&at, node->location, 1);
@@ -185,7 +188,7 @@ static void observe(uint8_t *at, const struct network *network, unsigned c, uint
 
 /* The node finishes its statement, a send that of its listener too. */
 static void finish(enum where where, struct network *network, unsigned c) {
-    NodeRegisters *node = &network->node[c];
+    timed_network_node_registers *node = &network->node[c];
     struct bytes part = network->part[c];
     if (op_at(node, part) == SEND) {
         uint8_t channel = part.at[node->pc + 1];
@@ -197,7 +200,8 @@ static void finish(enum where where, struct network *network, unsigned c) {
 
 void nodes_run(enum where where, const struct stored *stored) {
     static uint8_t shown[MAX_OBSERVATIONS];
-    RunNumbers ran = guarded_run(where, stored->table, stored->choices, MAX_OBSERVATIONS);
+    timed_network_run_numbers ran =
+        guarded_run(where, stored->table, stored->choices, MAX_OBSERVATIONS);
     if (ran.number != 0)
         return;
     trying("nodes one at a time", stored->name);
@@ -228,7 +232,7 @@ void nodes_long(enum where where) {
     bytes[2] = 1;
     for (size_t length = MAX_PART - 1; length <= MAX_PART + 1; length++) {
         struct bytes part = of(bytes, length);
-        NodeRegisters node = started(where, part);
+        timed_network_node_registers node = started(where, part);
         step(where, &node, part, 4, 4);
         if (node.sleeps != (length <= MAX_PART))
             fail("a long part is taken or left wrongly");
@@ -244,8 +248,8 @@ void nodes_long(enum where where) {
 }
 
 /* Registers of any values, most of them at a statement of the part. */
-static NodeRegisters random_node_registers(struct bytes part) {
-    NodeRegisters node;
+static timed_network_node_registers random_node_registers(struct bytes part) {
+    timed_network_node_registers node;
     memset(&node, 0, sizeof node);
     size_t head = 6 + 2 * ((size_t)byte_at(part, 2) + byte_at(part, 3));
     node.pc = random_below(16) == 0 ? (size_t)random_number()
@@ -276,7 +280,7 @@ static NodeRegisters random_node_registers(struct bytes part) {
 
 void nodes_random(enum where where, struct bytes part) {
     started(where, part);
-    NodeRegisters node = random_node_registers(part);
+    timed_network_node_registers node = random_node_registers(part);
     uint8_t clocks = (uint8_t)random_below(6), variables = (uint8_t)random_below(6);
     for (int turn = 0; turn < 4; turn++) {
         take_message(where, &node, part, (uint8_t)random_below(4));

@@ -140,7 +140,7 @@ static void one(const char *path, enum program which, size_t i) {
     else if (which == TRIAL_RUN)
         choices = of(choices_bytes, random_choices(table, 0, random_below(300)));
     if (which == PROGRAM_LISTING && (stored == NULL || stored->request != PART)) {
-        CallNumbers answer =
+        timed_network_call_numbers answer =
             timed_network_translate(table.at, table.length, program, MAX_PROGRAM);
         table = stored != NULL ? of(program, answer.size) : random_program(answer.size);
     }

@@ -31,14 +31,16 @@ static uint8_t *wide;
 static size_t deepest[CALLS];
 static size_t named[CALLS];
 static int chosen;
-static NodeRegisters node;
-static VerdictNumbers verdict;
-static CallNumbers called;
-static PartNumbers placed;
-static RunNumbers ran;
-static MeetingsNumbers meetings;
-static SpreadNumbers largest;
-static EdgeChoiceNumbers edge_choice;
+static timed_network_node_registers node;
+static timed_network_verdict_numbers verdict;
+static timed_network_call_numbers called;
+static timed_network_part_numbers placed;
+static timed_network_run_numbers ran;
+static timed_network_meetings_numbers meetings;
+static timed_network_spread_numbers largest;
+static timed_network_edge_choice_numbers edge_choice;
+static timed_network_place_numbers refusal_place;
+static timed_network_opening_numbers refused_opening;
 
 /* What is lent to a call. For a node's calls `bytes` is its part. */
 struct lent {
@@ -58,8 +60,18 @@ __attribute__((noinline)) static void call_run_apart(const struct lent *lent) {
 
 /* Apart from the others, whose frame would else hold the entry that is passed. */
 __attribute__((noinline)) static void call_edge_choice(const uint8_t *bytes, size_t length) {
-    EntryNumbers entry = {0, 0, {0, 0, 0, 0}, {0, 0, 0, 0}};
+    timed_network_entry_numbers entry = {0, 0, {0, 0, 0, 0}, {0, 0, 0, 0}};
     edge_choice = timed_network_edge_choice(bytes, length, entry);
+}
+
+/* Apart from the others, whose frame would else hold the answer. */
+__attribute__((noinline)) static void call_refusal_place(const uint8_t *bytes, size_t length) {
+    refusal_place = timed_network_refusal_place(bytes, length);
+}
+
+__attribute__((noinline)) static void call_refused_opening(const uint8_t *bytes,
+                                                           size_t length) {
+    refused_opening = timed_network_refused_opening(bytes, length);
 }
 
 static void call(int request, const struct lent *lent) {
@@ -97,6 +109,12 @@ static void call(int request, const struct lent *lent) {
         break;
     case RUN_APART:
         call_run_apart(lent);
+        break;
+    case REFUSAL_PLACE:
+        call_refusal_place(bytes, length);
+        break;
+    case REFUSED_OPENING:
+        call_refused_opening(bytes, length);
         break;
     case PASSAGES:
         called = timed_network_passages(bytes, length, passages, MAX_PASSAGES);
@@ -168,10 +186,10 @@ static void each_statement(int request, measure *measure, struct lent *lent) {
 
 /* A node's call, with the part of each node of a stored table. */
 static void each_part(int request, measure *measure, const struct stored *stored) {
-    CallNumbers made_of = timed_network_translate(stored->table.at, stored->table.length,
-                                                  program, MAX_PROGRAM);
+    timed_network_call_numbers made_of =
+        timed_network_translate(stored->table.at, stored->table.length, program, MAX_PROGRAM);
     for (uint8_t c = 0; made_of.number == 0 && c < 8; c++) {
-        PartNumbers part = timed_network_part(program, made_of.size, c);
+        timed_network_part_numbers part = timed_network_part(program, made_of.size, c);
         struct lent lent;
         memset(&lent, 0, sizeof lent);
         lent.bytes.at = program + part.start;

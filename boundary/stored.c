@@ -95,6 +95,10 @@ static void read_waking(struct waking *waking, char *words) {
 static size_t request_of(const char *word, const char *words) {
     static const char *const all[] = {"check",  "schedule", "chart", "plan",
                                       "looked", "program",  "part",  "run"};
+    if (strcmp(word, "place") == 0)
+        return REFUSAL_PLACE;
+    if (strcmp(word, "opening") == 0)
+        return REFUSED_OPENING;
     size_t request = 0;
     while (request <= RUN && strcmp(all[request], word) != 0)
         request++;
@@ -162,6 +166,20 @@ static void read_spreads(const char *root, char *name, struct bytes table) {
     }
 }
 
+/* Where tables of the corpus are refused: a name, and a place or an opening, a line. */
+static void read_places(const char *root) {
+    char *line = (char *)read_file(root, "corpus/places.tsv").at;
+    while (*line != 0) {
+        char *next = cut(line, '\n');
+        char *answer = cut(line, '\t');
+        char path[300];
+        snprintf(path, sizeof path, "corpus/%s.bin", line);
+        enum call request = *answer <= '6' ? REFUSAL_PLACE : REFUSED_OPENING;
+        add(line, request, answer)->table = read_file(root, path);
+        line = next;
+    }
+}
+
 /* A table of the corpus: its verdict, and its schedule if accepted. */
 static void read_corpus(const char *root) {
     char *line = (char *)read_file(root, "corpus/answers.tsv").at;
@@ -195,146 +213,7 @@ void stored_read(const char *root) {
     read_vectors(root, "vectors/plan.tsv");
     read_vectors(root, "vectors/edge_choice.tsv");
     read_vectors(root, "vectors/apart.tsv");
+    read_vectors(root, "vectors/places.tsv");
     read_corpus(root);
-}
-
-/* The text of an answer as it grows. */
-static char text[400000];
-static size_t used;
-
-static void write_number(const char *before, unsigned long number) {
-    used += (size_t)snprintf(text + used, sizeof text - used, "%s%lu", before, number);
-}
-
-static void write_text(const char *more) {
-    used += (size_t)snprintf(text + used, sizeof text - used, "%s", more);
-}
-
-static void write_hex(const uint8_t *at, size_t length) {
-    for (size_t i = 0; i < length; i++)
-        used += (size_t)snprintf(text + used, sizeof text - used, "%02x", (unsigned)at[i]);
-}
-
-/* 1 for a refusal, which is written. */
-static int write_refusal(uint8_t number, uint8_t component) {
-    if (number == 0)
-        return 0;
-    write_number("refused ", number);
-    write_number(" ", component);
-    return 1;
-}
-
-static void write_check(const struct stored *stored, enum where where) {
-    VerdictNumbers answer = guarded_check(where, stored->table);
-    if (!write_refusal(answer.number, answer.component))
-        write_text("accepted");
-}
-
-static void write_schedule(const struct stored *stored, enum where where) {
-    CallNumbers answer = guarded_schedule(where, stored->table, MAX_LIST);
-    if (write_refusal(answer.number, answer.component))
-        return;
-    write_text("c e l entry ready end msg");
-    for (size_t i = 0; i < (size_t)answer.size * FIELDS; i++) {
-        size_t field = i % FIELDS;
-        if (field == FIELDS - 1 && list[i] == 255)
-            write_text(" -");
-        else
-            write_number(field == 0 ? "|" : " ", list[i]);
-    }
-}
-
-/* The rows, the line feeds between them written as |. */
-static void write_chart(const struct stored *stored, enum where where) {
-    CallNumbers answer = guarded_timing_chart(where, stored->table, stored->lent);
-    if (write_refusal(answer.number, answer.component))
-        return;
-    for (size_t i = 0; i < answer.size; i++)
-        if (chart[i] != '\n')
-            text[used++] = (char)chart[i];
-        else if (i + 1 < answer.size)
-            text[used++] = '|';
-    text[used] = 0;
-}
-
-static void write_plan(const struct stored *stored, enum where where) {
-    CallNumbers answer = guarded_plan(where, stored->slots, stored->lent);
-    if (!write_refusal(answer.number, answer.component))
-        write_hex(plan, answer.size);
-}
-
-/*
- * How many edges are looked at for the passages that open at tick 0, each with
- * the edge of the schedule: the front of the answer. The rest, at entries with
- * other clocks and variables, is not asked here.
- */
-static void write_looked(const struct stored *stored, enum where where) {
-    CallNumbers planned = guarded_schedule(where, stored->table, MAX_LIST);
-    if (write_refusal(planned.number, planned.component))
-        return;
-    for (uint8_t c = 0; c < stored->table.at[3]; c++) {
-        const uint32_t *row = &list[(size_t)FIELDS * c];
-        EntryNumbers entry = {c, (uint8_t)row[2], {0, 0, 0, 0}, {0, 0, 0, 0}};
-        EdgeChoiceNumbers answer = guarded_edge_choice(where, stored->table, entry);
-        if (!answer.taken || answer.edge != row[1] || answer.ready != row[4] ||
-            answer.end != row[5])
-            fail("another edge than that of the schedule");
-        write_number(c == 0 ? "" : " ", answer.looked);
-    }
-    if (used < strlen(stored->answer) && stored->answer[used] == ' ')
-        write_text(stored->answer + used);
-}
-
-static void write_program(const struct stored *stored, enum where where) {
-    CallNumbers answer = guarded_translate(where, stored->table, MAX_PROGRAM);
-    if (!write_refusal(answer.number, answer.component))
-        write_hex(program, answer.size);
-}
-
-static void write_part(const struct stored *stored, enum where where) {
-    PartNumbers answer = guarded_part(where, stored->table, stored->node);
-    write_hex(stored->table.at + answer.start, answer.length);
-    if (answer.length == 0)
-        write_text("-");
-}
-
-static void write_ran(RunNumbers answer) {
-    if (write_refusal(answer.number, answer.component))
-        return;
-    write_number("", answer.end);
-    write_number(" ", answer.node);
-    write_number(" ", answer.tick);
-    write_number(" ", answer.used);
-    for (size_t i = 0; i < answer.size; i++) {
-        write_text("|");
-        write_hex(observations + OBSERVATION * i, OBSERVATION);
-    }
-}
-
-static void write_run(const struct stored *stored, enum where where) {
-    write_ran(guarded_run(where, stored->table, stored->choices, MAX_OBSERVATIONS));
-}
-
-static void write_check_spread(const struct stored *stored, enum where where) {
-    VerdictNumbers answer =
-        guarded_check_spread(where, stored->table, stored->waking.spread);
-    if (!write_refusal(answer.number, answer.component))
-        write_text("accepted");
-}
-
-static void write_run_apart(const struct stored *stored, enum where where) {
-    write_ran(guarded_run_apart(where, stored->table, stored->choices, &stored->waking,
-                                stored->lent));
-}
-
-void stored_try(const struct stored *stored, enum where where) {
-    static void (*const writers[])(const struct stored *, enum where) = {
-        write_check,   write_schedule, write_chart, write_plan,         write_looked,
-        write_program, write_part,     write_run,   write_check_spread, write_run_apart};
-    trying("a stored case", stored->name);
-    used = 0;
-    text[0] = 0;
-    writers[stored->request](stored, where);
-    if (strcmp(text, stored->answer) != 0)
-        fail("another answer than the stored one");
+    read_places(root);
 }

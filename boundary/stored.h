@@ -6,7 +6,7 @@
 
 struct stored {
     char *name;
-    enum call request;    /* CHECK to RUN_APART */
+    enum call request;    /* CHECK to REFUSED_OPENING */
     struct bytes table;   /* for PART the program */
     size_t lent;          /* for TIMING_CHART, PLAN and RUN_APART */
     struct slots slots;   /* for PLAN, which has no table */

@@ -7,49 +7,29 @@
 
 #include "../include/timed_network.h"
 
-VerdictNumbers __real_timed_network_check(const uint8_t *, size_t);
-CallNumbers __real_timed_network_schedule(const uint8_t *, size_t, uint32_t *, size_t);
-CallNumbers __real_timed_network_translate(const uint8_t *, size_t, uint8_t *, size_t);
-PartNumbers __real_timed_network_part(const uint8_t *, size_t, uint8_t);
-RunNumbers __real_timed_network_run(const uint8_t *, size_t, const uint8_t *,
-                                    size_t, uint8_t *, size_t);
-CallNumbers __real_timed_network_passages(const uint8_t *, size_t, Passage *, size_t);
-MeetingsNumbers __real_timed_network_meetings(const uint8_t *, size_t, uint32_t *, size_t);
-NodeRegisters __real_timed_network_start(const uint8_t *, size_t);
-void __real_timed_network_step(NodeRegisters *, const uint8_t *, size_t, uint8_t, uint8_t);
-void __real_timed_network_take_message(NodeRegisters *, const uint8_t *, size_t, uint8_t);
-CallNumbers __real_timed_network_timing_chart(const uint8_t *, size_t, uint8_t *, size_t);
-CallNumbers __real_timed_network_plan(uint32_t, uint32_t, uint32_t, uint32_t, uint8_t *, size_t);
-EdgeChoiceNumbers __real_timed_network_edge_choice(const uint8_t *, size_t, EntryNumbers);
-VerdictNumbers __real_timed_network_check_spread(const uint8_t *, size_t, uint32_t);
-SpreadNumbers __real_timed_network_largest_spread(const uint8_t *, size_t);
-MeetingsNumbers __real_timed_network_meetings_spread(const uint8_t *, size_t, uint32_t,
-                                                     uint32_t *, size_t);
-RunNumbers __real_timed_network_run_apart(const uint8_t *, size_t, const uint8_t *, size_t,
-                                          uint32_t, const uint32_t *, size_t, uint8_t *,
-                                          size_t);
+/* A call, as the library has it and as it is put in front of it; both are of the header's type. */
+#define CALL(name)                                                                             \
+    __typeof__(timed_network_##name) __real_timed_network_##name, __wrap_timed_network_##name
 
-VerdictNumbers __wrap_timed_network_check(const uint8_t *, size_t);
-CallNumbers __wrap_timed_network_schedule(const uint8_t *, size_t, uint32_t *, size_t);
-CallNumbers __wrap_timed_network_translate(const uint8_t *, size_t, uint8_t *, size_t);
-PartNumbers __wrap_timed_network_part(const uint8_t *, size_t, uint8_t);
-RunNumbers __wrap_timed_network_run(const uint8_t *, size_t, const uint8_t *,
-                                    size_t, uint8_t *, size_t);
-CallNumbers __wrap_timed_network_passages(const uint8_t *, size_t, Passage *, size_t);
-MeetingsNumbers __wrap_timed_network_meetings(const uint8_t *, size_t, uint32_t *, size_t);
-NodeRegisters __wrap_timed_network_start(const uint8_t *, size_t);
-void __wrap_timed_network_step(NodeRegisters *, const uint8_t *, size_t, uint8_t, uint8_t);
-void __wrap_timed_network_take_message(NodeRegisters *, const uint8_t *, size_t, uint8_t);
-CallNumbers __wrap_timed_network_timing_chart(const uint8_t *, size_t, uint8_t *, size_t);
-CallNumbers __wrap_timed_network_plan(uint32_t, uint32_t, uint32_t, uint32_t, uint8_t *, size_t);
-EdgeChoiceNumbers __wrap_timed_network_edge_choice(const uint8_t *, size_t, EntryNumbers);
-VerdictNumbers __wrap_timed_network_check_spread(const uint8_t *, size_t, uint32_t);
-SpreadNumbers __wrap_timed_network_largest_spread(const uint8_t *, size_t);
-MeetingsNumbers __wrap_timed_network_meetings_spread(const uint8_t *, size_t, uint32_t,
-                                                     uint32_t *, size_t);
-RunNumbers __wrap_timed_network_run_apart(const uint8_t *, size_t, const uint8_t *, size_t,
-                                          uint32_t, const uint32_t *, size_t, uint8_t *,
-                                          size_t);
+CALL(check);
+CALL(schedule);
+CALL(translate);
+CALL(part);
+CALL(run);
+CALL(passages);
+CALL(meetings);
+CALL(start);
+CALL(step);
+CALL(take_message);
+CALL(timing_chart);
+CALL(plan);
+CALL(edge_choice);
+CALL(check_spread);
+CALL(largest_spread);
+CALL(meetings_spread);
+CALL(run_apart);
+CALL(refusal_place);
+CALL(refused_opening);
 
 static int wrong(int fault) {
     static int chosen = -1;
@@ -64,8 +44,8 @@ static void touch(const uint8_t *at) {
     (void)*(const volatile uint8_t *)at;
 }
 
-VerdictNumbers __wrap_timed_network_check(const uint8_t *table, size_t length) {
-    VerdictNumbers answer = __real_timed_network_check(table, length);
+timed_network_verdict_numbers __wrap_timed_network_check(const uint8_t *table, size_t length) {
+    timed_network_verdict_numbers answer = __real_timed_network_check(table, length);
     if (wrong(1))
         touch(table + length); /* reads the byte behind the table */
     if (wrong(2) && length > 0)
@@ -77,9 +57,10 @@ VerdictNumbers __wrap_timed_network_check(const uint8_t *table, size_t length) {
     return answer;
 }
 
-CallNumbers __wrap_timed_network_schedule(const uint8_t *table, size_t length,
-                                          uint32_t *list, size_t list_length) {
-    CallNumbers answer = __real_timed_network_schedule(table, length, list, list_length);
+timed_network_call_numbers __wrap_timed_network_schedule(const uint8_t *table, size_t length,
+                                                         uint32_t *list, size_t list_length) {
+    timed_network_call_numbers answer =
+        __real_timed_network_schedule(table, length, list, list_length);
     if (wrong(5) && list_length > 0)
         list[list_length] = 1; /* writes the number behind the list */
     if (wrong(6) && answer.number == 0 && 7 * answer.size < list_length)
@@ -93,11 +74,12 @@ CallNumbers __wrap_timed_network_schedule(const uint8_t *table, size_t length,
     return answer;
 }
 
-CallNumbers __wrap_timed_network_translate(const uint8_t *table, size_t length,
-                                           uint8_t *program, size_t program_length) {
+timed_network_call_numbers __wrap_timed_network_translate(const uint8_t *table, size_t length,
+                                                          uint8_t *program,
+                                                          size_t program_length) {
     if (wrong(9) && length == 0)
         touch(table); /* reads a table of no bytes */
-    CallNumbers answer =
+    timed_network_call_numbers answer =
         __real_timed_network_translate(table, length, program, program_length);
     if (wrong(10) && program_length > 0)
         program[-1] = 0; /* writes the byte before the program */
@@ -106,9 +88,10 @@ CallNumbers __wrap_timed_network_translate(const uint8_t *table, size_t length,
     return answer;
 }
 
-PartNumbers __wrap_timed_network_part(const uint8_t *program, size_t program_length,
-                                      uint8_t node) {
-    PartNumbers answer = __real_timed_network_part(program, program_length, node);
+timed_network_part_numbers __wrap_timed_network_part(const uint8_t *program,
+                                                     size_t program_length, uint8_t node) {
+    timed_network_part_numbers answer =
+        __real_timed_network_part(program, program_length, node);
     if (wrong(12) && program_length < 6)
         touch(program + 5); /* reads the header without its length */
     if (wrong(13) && answer.length > 0)
@@ -116,11 +99,12 @@ PartNumbers __wrap_timed_network_part(const uint8_t *program, size_t program_len
     return answer;
 }
 
-RunNumbers __wrap_timed_network_run(const uint8_t *table, size_t length,
-                                    const uint8_t *choices, size_t choices_length,
-                                    uint8_t *observations, size_t observations_length) {
-    RunNumbers answer = __real_timed_network_run(table, length, choices, choices_length,
-                                                 observations, observations_length);
+timed_network_run_numbers __wrap_timed_network_run(const uint8_t *table, size_t length,
+                                                   const uint8_t *choices,
+                                                   size_t choices_length, uint8_t *observations,
+                                                   size_t observations_length) {
+    timed_network_run_numbers answer = __real_timed_network_run(
+        table, length, choices, choices_length, observations, observations_length);
     if (wrong(14))
         touch(choices + choices_length); /* reads the choice behind the last */
     if (wrong(15) && answer.number == 13 && observations_length > 0)
@@ -132,9 +116,11 @@ RunNumbers __wrap_timed_network_run(const uint8_t *table, size_t length,
     return answer;
 }
 
-CallNumbers __wrap_timed_network_passages(const uint8_t *table, size_t length,
-                                          Passage *list, size_t list_length) {
-    CallNumbers answer = __real_timed_network_passages(table, length, list, list_length);
+timed_network_call_numbers __wrap_timed_network_passages(const uint8_t *table, size_t length,
+                                                         timed_network_passage *list,
+                                                         size_t list_length) {
+    timed_network_call_numbers answer =
+        __real_timed_network_passages(table, length, list, list_length);
     if (wrong(18) && answer.number == 0 && answer.size < list_length)
         list[answer.size].end = 0; /* writes past the result */
     if (wrong(19) && answer.number == 0)
@@ -142,9 +128,10 @@ CallNumbers __wrap_timed_network_passages(const uint8_t *table, size_t length,
     return answer;
 }
 
-MeetingsNumbers __wrap_timed_network_meetings(const uint8_t *table, size_t length,
-                                              uint32_t *list, size_t list_length) {
-    MeetingsNumbers answer =
+timed_network_meetings_numbers __wrap_timed_network_meetings(const uint8_t *table,
+                                                             size_t length, uint32_t *list,
+                                                             size_t list_length) {
+    timed_network_meetings_numbers answer =
         __real_timed_network_meetings(table, length, list, list_length);
     if (wrong(20) && list_length > 0)
         list[list_length] = 1; /* writes the number behind the list */
@@ -163,8 +150,8 @@ MeetingsNumbers __wrap_timed_network_meetings(const uint8_t *table, size_t lengt
     return answer;
 }
 
-NodeRegisters __wrap_timed_network_start(const uint8_t *part, size_t length) {
-    NodeRegisters node = __real_timed_network_start(part, length);
+timed_network_node_registers __wrap_timed_network_start(const uint8_t *part, size_t length) {
+    timed_network_node_registers node = __real_timed_network_start(part, length);
     if (wrong(27))
         touch(part + length); /* reads the byte behind the part */
     if (wrong(28) && length > 0)
@@ -176,9 +163,9 @@ NodeRegisters __wrap_timed_network_start(const uint8_t *part, size_t length) {
     return node;
 }
 
-void __wrap_timed_network_step(NodeRegisters *node, const uint8_t *part, size_t length,
-                               uint8_t clocks, uint8_t variables) {
-    NodeRegisters before = *node;
+void __wrap_timed_network_step(timed_network_node_registers *node, const uint8_t *part,
+                               size_t length, uint8_t clocks, uint8_t variables) {
+    timed_network_node_registers before = *node;
     __real_timed_network_step(node, part, length, clocks, variables);
     if (wrong(31))
         ((uint8_t *)node)[sizeof *node] = 1; /* writes behind the registers */
@@ -198,9 +185,9 @@ void __wrap_timed_network_step(NodeRegisters *node, const uint8_t *part, size_t 
         node->n += 1; /* another ready delay of the edge taken */
 }
 
-void __wrap_timed_network_take_message(NodeRegisters *node, const uint8_t *part,
+void __wrap_timed_network_take_message(timed_network_node_registers *node, const uint8_t *part,
                                        size_t length, uint8_t channel) {
-    NodeRegisters before = *node;
+    timed_network_node_registers before = *node;
     __real_timed_network_take_message(node, part, length, channel);
     if (wrong(39))
         ((uint8_t *)node)[sizeof *node] = 1; /* writes behind the registers */
@@ -214,9 +201,10 @@ void __wrap_timed_network_take_message(NodeRegisters *node, const uint8_t *part,
         node->pc = before.pc + 4; /* does not skip the pairs */
 }
 
-CallNumbers __wrap_timed_network_timing_chart(const uint8_t *table, size_t length,
-                                              uint8_t *chart, size_t chart_length) {
-    CallNumbers answer =
+timed_network_call_numbers __wrap_timed_network_timing_chart(const uint8_t *table,
+                                                             size_t length, uint8_t *chart,
+                                                             size_t chart_length) {
+    timed_network_call_numbers answer =
         __real_timed_network_timing_chart(table, length, chart, chart_length);
     if (wrong(44) && answer.number == 0 && answer.size < chart_length)
         chart[answer.size] = 0; /* writes past the result */
@@ -225,9 +213,10 @@ CallNumbers __wrap_timed_network_timing_chart(const uint8_t *table, size_t lengt
     return answer;
 }
 
-CallNumbers __wrap_timed_network_plan(uint32_t probes, uint32_t slot, uint32_t guard,
-                                      uint32_t period, uint8_t *table, size_t length) {
-    CallNumbers answer =
+timed_network_call_numbers __wrap_timed_network_plan(uint32_t probes, uint32_t slot,
+                                                     uint32_t guard, uint32_t period,
+                                                     uint8_t *table, size_t length) {
+    timed_network_call_numbers answer =
         __real_timed_network_plan(probes, slot, guard, period, table, length);
     if (wrong(46) && answer.number == 0 && answer.size < length)
         table[answer.size] = 0; /* writes past the result */
@@ -240,11 +229,13 @@ CallNumbers __wrap_timed_network_plan(uint32_t probes, uint32_t slot, uint32_t g
     return answer;
 }
 
-EdgeChoiceNumbers __wrap_timed_network_edge_choice(const uint8_t *table, size_t length,
-                                                   EntryNumbers entry) {
+timed_network_edge_choice_numbers
+__wrap_timed_network_edge_choice(const uint8_t *table, size_t length,
+                                 timed_network_entry_numbers entry) {
     if (wrong(50))
         entry.component = 0; /* asks for component 0 whatever is asked */
-    EdgeChoiceNumbers answer = __real_timed_network_edge_choice(table, length, entry);
+    timed_network_edge_choice_numbers answer =
+        __real_timed_network_edge_choice(table, length, entry);
     if (wrong(51) && length > 0)
         touch(table - 1); /* reads the byte before the table */
     if (wrong(52) && answer.taken && answer.ready > 0)
@@ -254,15 +245,16 @@ EdgeChoiceNumbers __wrap_timed_network_edge_choice(const uint8_t *table, size_t 
     return answer;
 }
 
-VerdictNumbers __wrap_timed_network_check_spread(const uint8_t *table, size_t length,
-                                                 uint32_t spread) {
+timed_network_verdict_numbers
+__wrap_timed_network_check_spread(const uint8_t *table, size_t length, uint32_t spread) {
     if (wrong(54))
         touch(table + length); /* reads the byte behind the table */
     if (wrong(55) && spread == 1001)
         spread = 1000; /* takes a spread of 1,001 */
     if (wrong(56) && spread > 65535)
         spread = (uint16_t)spread; /* cuts the spread to 16 bits */
-    VerdictNumbers answer = __real_timed_network_check_spread(table, length, spread);
+    timed_network_verdict_numbers answer =
+        __real_timed_network_check_spread(table, length, spread);
     if (wrong(57) && answer.number == 19)
         answer.component = 0; /* names a component with refusal 19 */
     if (wrong(58) && spread == 0 && answer.number == 16)
@@ -270,8 +262,9 @@ VerdictNumbers __wrap_timed_network_check_spread(const uint8_t *table, size_t le
     return answer;
 }
 
-SpreadNumbers __wrap_timed_network_largest_spread(const uint8_t *table, size_t length) {
-    SpreadNumbers answer = __real_timed_network_largest_spread(table, length);
+timed_network_spread_numbers __wrap_timed_network_largest_spread(const uint8_t *table,
+                                                                 size_t length) {
+    timed_network_spread_numbers answer = __real_timed_network_largest_spread(table, length);
     if (wrong(59) && length > 0)
         touch(table - 1); /* reads the byte before the table */
     if (wrong(60) && answer.number == 0 && answer.spread > 0)
@@ -283,10 +276,10 @@ SpreadNumbers __wrap_timed_network_largest_spread(const uint8_t *table, size_t l
     return answer;
 }
 
-MeetingsNumbers __wrap_timed_network_meetings_spread(const uint8_t *table, size_t length,
-                                                     uint32_t spread, uint32_t *list,
-                                                     size_t list_length) {
-    MeetingsNumbers answer =
+timed_network_meetings_numbers
+__wrap_timed_network_meetings_spread(const uint8_t *table, size_t length, uint32_t spread,
+                                     uint32_t *list, size_t list_length) {
+    timed_network_meetings_numbers answer =
         __real_timed_network_meetings_spread(table, length, spread, list, list_length);
     if (wrong(63) && list_length > 0)
         list[list_length] = 1; /* writes the number behind the list */
@@ -301,11 +294,11 @@ MeetingsNumbers __wrap_timed_network_meetings_spread(const uint8_t *table, size_
     return answer;
 }
 
-RunNumbers __wrap_timed_network_run_apart(const uint8_t *table, size_t length,
-                                          const uint8_t *choices, size_t choices_length,
-                                          uint32_t spread, const uint32_t *offsets,
-                                          size_t offsets_length, uint8_t *observations,
-                                          size_t observations_length) {
+timed_network_run_numbers
+__wrap_timed_network_run_apart(const uint8_t *table, size_t length, const uint8_t *choices,
+                               size_t choices_length, uint32_t spread, const uint32_t *offsets,
+                               size_t offsets_length, uint8_t *observations,
+                               size_t observations_length) {
     if (wrong(68))
         touch((const uint8_t *)(offsets + offsets_length)); /* reads the offset behind the last */
     if (wrong(69) && offsets_length > 0)
@@ -316,9 +309,9 @@ RunNumbers __wrap_timed_network_run_apart(const uint8_t *table, size_t length,
         offsets_length = 0; /* takes more offsets than nodes for none */
     if (wrong(72) && offsets_length == 0)
         offsets_length = 1; /* reads an offset where there is none */
-    RunNumbers answer = __real_timed_network_run_apart(
-        table, length, choices, choices_length, spread, offsets, offsets_length, observations,
-        observations_length);
+    timed_network_run_numbers answer =
+        __real_timed_network_run_apart(table, length, choices, choices_length, spread, offsets,
+                                       offsets_length, observations, observations_length);
     if (wrong(73) && answer.number == 20)
         answer.number = 14; /* another refusal of an offset */
     if (wrong(74) && answer.number == 20 && observations_length > 0)
@@ -329,5 +322,61 @@ RunNumbers __wrap_timed_network_run_apart(const uint8_t *table, size_t length,
         observations[7] += (uint8_t)offsets[0]; /* the common tick in an observation */
     if (wrong(77) && answer.number == 19)
         answer.tick = 1; /* a refused run with a tick */
+    return answer;
+}
+
+timed_network_place_numbers __wrap_timed_network_refusal_place(const uint8_t *table,
+                                                               size_t length) {
+    timed_network_place_numbers answer = __real_timed_network_refusal_place(table, length);
+    if (wrong(78))
+        touch(table + length); /* reads the byte behind the table */
+    if (wrong(79) && length > 0)
+        touch(table - 1); /* reads the byte before it */
+    if (wrong(80) && answer.number == 0)
+        answer.component = 0; /* names a component without a refusal */
+    if (wrong(81) && answer.number == 5 && answer.width == 2)
+        answer.offset += 1; /* the second byte of the number at fault */
+    if (wrong(82) && answer.number == 5)
+        answer.start += answer.offset, answer.offset = 0; /* the number for its part */
+    if (wrong(83) && answer.part == TIMED_NETWORK_PART_PAIR)
+        answer.part = TIMED_NETWORK_PART_CHANNEL; /* a receive's pair for a send's channel */
+    if (wrong(84) && answer.limit > answer.least)
+        answer.limit -= 1; /* the most that is allowed for the limit */
+    if (wrong(85) && answer.number == 4 && answer.width == 0)
+        answer.value += 1; /* one byte more than there is */
+    if (wrong(86))
+        answer.unbounded = false; /* not even 65,535 */
+    if (wrong(87) && answer.number == 6)
+        answer.index -= 1; /* the pair before */
+    if (wrong(88) && answer.number == 6)
+        answer.number = 5, answer.limit = 0; /* a channel twice is out of range */
+    return answer;
+}
+
+timed_network_opening_numbers __wrap_timed_network_refused_opening(const uint8_t *table,
+                                                                   size_t length) {
+    timed_network_opening_numbers answer = __real_timed_network_refused_opening(table, length);
+    if (wrong(89))
+        touch(table + length); /* reads the byte behind the table */
+    if (wrong(90) && length > 0)
+        touch(table - 1); /* reads the byte before it */
+    if (wrong(91) && answer.number == 0)
+        answer.entry.component = 0; /* an entry without a refusal */
+    if (wrong(92) && answer.number == 7)
+        answer.passage -= 1; /* the last passage that opened */
+    if (wrong(93) && answer.number == 8)
+        answer.blocked = answer.leaving, answer.windowless = 0; /* all blocked by data */
+    if (wrong(94) && answer.number == 9)
+        answer.update += 1; /* the update behind the first */
+    if (wrong(95) && answer.number == 9)
+        answer.leaving = 1; /* counts edges where one is taken */
+    if (wrong(96) && answer.number != 0)
+        answer.tick += 1; /* one tick later */
+    if (wrong(97) && answer.number == 8 && answer.passage > 0)
+        answer.entry.clocks[0] = 0; /* as if each location were entered with a clock of 0 */
+    if (wrong(98) && answer.number == 9)
+        answer.entry.values[0] += 1; /* a variable after an update */
+    if (wrong(99) && answer.passage > 0)
+        answer.entry.location = 0; /* the initial location */
     return answer;
 }

@@ -30,8 +30,8 @@
  * The version of this header and its archive, as words and as a number that
  * grows: 10,000 x major + 100 x minor + patch.
  */
-#define TIMED_NETWORK_VERSION "0.5.0"
-#define TIMED_NETWORK_VERSION_NUMBER 500
+#define TIMED_NETWORK_VERSION "0.6.0"
+#define TIMED_NETWORK_VERSION_NUMBER 600
 
 /*
  * Limits and sizes. "Enough" is what a buffer needs for any table.
@@ -79,12 +79,27 @@ enum timed_network_number {
     TIMED_NETWORK_REFUSED_OFFSET = 20
 };
 
-/* What the end of a run means; see RunNumbers. */
+/* What the end of a run means; see timed_network_run_numbers. */
 enum timed_network_end {
     TIMED_NETWORK_END_HORIZON = 0,
     TIMED_NETWORK_END_USED_UP = 1,
     TIMED_NETWORK_END_LATE = 2,
     TIMED_NETWORK_END_NOT_ALLOWED = 3
+};
+
+/* What a part of a table is; see timed_network_place_numbers. */
+enum timed_network_table_part {
+    TIMED_NETWORK_PART_COMPONENT_LENGTH = 1, /* the two bytes of a component's length */
+    TIMED_NETWORK_PART_COMPONENT_HEAD = 2,   /* its first 7 bytes, the length among them */
+    TIMED_NETWORK_PART_LOCATION = 3,         /* 3 bytes */
+    TIMED_NETWORK_PART_EDGE_HEAD = 4,        /* an edge's first 7 bytes */
+    TIMED_NETWORK_PART_CLOCK_BOUND = 5,      /* 5 bytes */
+    TIMED_NETWORK_PART_DATA_BOUND = 6,       /* 5 bytes */
+    TIMED_NETWORK_PART_UPDATE = 7,           /* of an internal edge, 4 bytes */
+    TIMED_NETWORK_PART_CHANNEL = 8,          /* of a send, 1 byte */
+    TIMED_NETWORK_PART_PAIR = 9,             /* of a receive, 2 bytes */
+    TIMED_NETWORK_PART_COMPONENT_END = 10,   /* what is left over behind its last edge */
+    TIMED_NETWORK_PART_TABLE_END = 11        /* and behind the last component */
 };
 
 #ifdef __cplusplus
@@ -128,10 +143,10 @@ extern "C" {
  * schedule, for 12 that of the first receive at fault. 255 if the table is
  * accepted, and with 1, 2 and 3.
  */
-typedef struct VerdictNumbers {
+typedef struct timed_network_verdict_numbers {
     uint8_t number;
     uint8_t component;
-} VerdictNumbers;
+} timed_network_verdict_numbers;
 
 /*
  * Tries a table with checks 1 to 12 of document 01. Accepted means that all
@@ -143,7 +158,8 @@ typedef struct VerdictNumbers {
  *
  * Nothing is written, and no byte behind the last one is read.
  */
-VerdictNumbers timed_network_check(const uint8_t *table, size_t length);
+timed_network_verdict_numbers
+timed_network_check(const uint8_t *table, size_t length);
 
 /*
  * Tries a table for nodes that wake apart (document 02, wish 6): at a spread.
@@ -165,8 +181,9 @@ VerdictNumbers timed_network_check(const uint8_t *table, size_t length);
  *
  * then with 4 to 12 and 15 to 17. Nothing is written.
  */
-VerdictNumbers timed_network_check_spread(const uint8_t *table, size_t length,
-                                          uint32_t spread);
+timed_network_verdict_numbers
+timed_network_check_spread(const uint8_t *table, size_t length,
+                           uint32_t spread);
 
 /*
  * The answer of timed_network_largest_spread.
@@ -174,11 +191,11 @@ VerdictNumbers timed_network_check_spread(const uint8_t *table, size_t length,
  * number, component: the verdict on the table, as timed_network_check gives it.
  * spread:            the largest spread, 0 to 1,000; 0 after a refusal.
  */
-typedef struct SpreadNumbers {
+typedef struct timed_network_spread_numbers {
     uint8_t number;
     uint8_t component;
     uint32_t spread;
-} SpreadNumbers;
+} timed_network_spread_numbers;
 
 /*
  * The largest spread at which timed_network_check_spread accepts a table: it
@@ -189,7 +206,8 @@ typedef struct SpreadNumbers {
  * Refused with 1 to 12 as timed_network_check refuses, and with nothing else.
  * Nothing is written.
  */
-SpreadNumbers timed_network_largest_spread(const uint8_t *table, size_t length);
+timed_network_spread_numbers
+timed_network_largest_spread(const uint8_t *table, size_t length);
 
 /*
  * The answer of a call that writes into lent memory, as three numbers.
@@ -201,11 +219,11 @@ SpreadNumbers timed_network_largest_spread(const uint8_t *table, size_t length);
  * size: how many passages, or bytes of a chart, a table or a program, were
  * written; 0 after a refusal.
  */
-typedef struct CallNumbers {
+typedef struct timed_network_call_numbers {
     uint8_t number;
     uint8_t component;
     uint32_t size;
-} CallNumbers;
+} timed_network_call_numbers;
 
 /*
  * Writes the schedule of a table.
@@ -225,8 +243,9 @@ typedef struct CallNumbers {
  *
  * The list must not overlap the table.
  */
-CallNumbers timed_network_schedule(const uint8_t *table, size_t length,
-                                   uint32_t *list, size_t list_length);
+timed_network_call_numbers
+timed_network_schedule(const uint8_t *table, size_t length,
+                       uint32_t *list, size_t list_length);
 
 /*
  * Draws the schedule of a table as a chart: one row of 69 bytes a component, 0
@@ -250,8 +269,9 @@ CallNumbers timed_network_schedule(const uint8_t *table, size_t length,
  *
  * The chart must not overlap the table.
  */
-CallNumbers timed_network_timing_chart(const uint8_t *table, size_t length,
-                                       uint8_t *chart, size_t chart_length);
+timed_network_call_numbers
+timed_network_timing_chart(const uint8_t *table, size_t length,
+                           uint8_t *chart, size_t chart_length);
 
 /*
  * Writes the table of a plan: a cellar with one hub and `probes` probes, in
@@ -280,8 +300,9 @@ CallNumbers timed_network_timing_chart(const uint8_t *table, size_t length,
  *
  * then with 13 where length is below 29 + 55 x probes, and with nothing else.
  */
-CallNumbers timed_network_plan(uint32_t probes, uint32_t slot, uint32_t guard,
-                               uint32_t period, uint8_t *table, size_t length);
+timed_network_call_numbers
+timed_network_plan(uint32_t probes, uint32_t slot, uint32_t guard,
+                   uint32_t period, uint8_t *table, size_t length);
 
 /*
  * A component as it enters a location. 28 bytes.
@@ -290,12 +311,12 @@ CallNumbers timed_network_plan(uint32_t probes, uint32_t slot, uint32_t guard,
  * clocks, values:      its clocks and its variables at the entry. Those that
  *                      the component does not have are not read.
  */
-typedef struct EntryNumbers {
+typedef struct timed_network_entry_numbers {
     uint8_t component;
     uint8_t location;
     uint32_t clocks[4];
     int16_t values[4];
-} EntryNumbers;
+} timed_network_entry_numbers;
 
 /*
  * The answer of timed_network_edge_choice.
@@ -310,7 +331,7 @@ typedef struct EntryNumbers {
  *                    the component's edges where there is none. 0 after a
  *                    refusal.
  */
-typedef struct EdgeChoiceNumbers {
+typedef struct timed_network_edge_choice_numbers {
     uint8_t number;
     uint8_t component;
     bool taken;
@@ -318,7 +339,7 @@ typedef struct EdgeChoiceNumbers {
     uint32_t ready;
     uint32_t end;
     uint32_t looked;
-} EdgeChoiceNumbers;
+} timed_network_edge_choice_numbers;
 
 /*
  * Chooses the edge that a component takes as it enters a location: the
@@ -333,8 +354,9 @@ typedef struct EdgeChoiceNumbers {
  * at. No edge leaves a location that the component does not have: none is
  * taken, and all are looked at. Nothing is written.
  */
-EdgeChoiceNumbers timed_network_edge_choice(const uint8_t *table, size_t length,
-                                            EntryNumbers entry);
+timed_network_edge_choice_numbers
+timed_network_edge_choice(const uint8_t *table, size_t length,
+                          timed_network_entry_numbers entry);
 
 /*
  * Writes the program bytes of a table: the programs of all its nodes, laid
@@ -354,8 +376,9 @@ EdgeChoiceNumbers timed_network_edge_choice(const uint8_t *table, size_t length,
  *
  * The program must not overlap the table.
  */
-CallNumbers timed_network_translate(const uint8_t *table, size_t length,
-                                    uint8_t *program, size_t program_length);
+timed_network_call_numbers
+timed_network_translate(const uint8_t *table, size_t length,
+                        uint8_t *program, size_t program_length);
 
 /*
  * Where the part of one node stands in program bytes.
@@ -366,10 +389,10 @@ CallNumbers timed_network_translate(const uint8_t *table, size_t length,
  * Both are 0 where there is no such part. A part that states the length 0 has
  * no bytes either, and a start of 6 or more.
  */
-typedef struct PartNumbers {
+typedef struct timed_network_part_numbers {
     size_t start;
     size_t length;
-} PartNumbers;
+} timed_network_part_numbers;
 
 /*
  * Finds the part of the program bytes that belongs to one node.
@@ -384,8 +407,8 @@ typedef struct PartNumbers {
  * start + length is at most program_length. Nothing else of the bytes is
  * tried, and nothing is written.
  */
-PartNumbers timed_network_part(const uint8_t *program, size_t program_length,
-                               uint8_t node);
+timed_network_part_numbers
+timed_network_part(const uint8_t *program, size_t program_length, uint8_t node);
 
 /*
  * The answer of a run.
@@ -413,7 +436,7 @@ PartNumbers timed_network_part(const uint8_t *program, size_t program_length,
  *
  * After a refusal end, tick, used and size are 0, and node is 255.
  */
-typedef struct RunNumbers {
+typedef struct timed_network_run_numbers {
     uint8_t number;
     uint8_t component;
     uint8_t end;
@@ -421,7 +444,7 @@ typedef struct RunNumbers {
     uint32_t tick;
     uint32_t used;
     uint32_t size;
-} RunNumbers;
+} timed_network_run_numbers;
 
 /*
  * Runs the programs of a table's nodes together under a list of choices.
@@ -445,9 +468,10 @@ typedef struct RunNumbers {
  *
  * The observations must overlap neither the table nor the choices.
  */
-RunNumbers timed_network_run(const uint8_t *table, size_t length,
-                             const uint8_t *choices, size_t choices_length,
-                             uint8_t *observations, size_t observations_length);
+timed_network_run_numbers
+timed_network_run(const uint8_t *table, size_t length,
+                  const uint8_t *choices, size_t choices_length,
+                  uint8_t *observations, size_t observations_length);
 
 /*
  * The same for nodes that wake apart (document 02, wish 6): each node has a
@@ -481,11 +505,12 @@ RunNumbers timed_network_run(const uint8_t *table, size_t length,
  * At spread 0 and without offsets this is timed_network_run. The observations
  * must overlap neither the table nor the choices nor the offsets.
  */
-RunNumbers timed_network_run_apart(const uint8_t *table, size_t length,
-                                   const uint8_t *choices, size_t choices_length,
-                                   uint32_t spread,
-                                   const uint32_t *offsets, size_t offsets_length,
-                                   uint8_t *observations, size_t observations_length);
+timed_network_run_numbers
+timed_network_run_apart(const uint8_t *table, size_t length,
+                        const uint8_t *choices, size_t choices_length,
+                        uint32_t spread,
+                        const uint32_t *offsets, size_t offsets_length,
+                        uint8_t *observations, size_t observations_length);
 
 /*
  * A passage of a schedule: one stay in a location, with the window of the edge
@@ -495,7 +520,7 @@ RunNumbers timed_network_run_apart(const uint8_t *table, size_t length,
  * message:                   a channel, or 255 for no message.
  * entry, ready, end:         ticks.
  */
-typedef struct Passage {
+typedef struct timed_network_passage {
     uint8_t component;
     uint8_t edge;
     uint8_t location;
@@ -503,7 +528,7 @@ typedef struct Passage {
     uint32_t entry;
     uint32_t ready;
     uint32_t end;
-} Passage;
+} timed_network_passage;
 
 /*
  * Writes the schedule of a table as passages.
@@ -521,8 +546,9 @@ typedef struct Passage {
  *
  * The list must not overlap the table.
  */
-CallNumbers timed_network_passages(const uint8_t *table, size_t length,
-                                   Passage *list, size_t list_length);
+timed_network_call_numbers
+timed_network_passages(const uint8_t *table, size_t length,
+                       timed_network_passage *list, size_t list_length);
 
 /*
  * The answer of timed_network_meetings and timed_network_meetings_spread.
@@ -535,13 +561,13 @@ CallNumbers timed_network_passages(const uint8_t *table, size_t length,
  *                     short.
  * size:               how many passages are listed.
  */
-typedef struct MeetingsNumbers {
+typedef struct timed_network_meetings_numbers {
     uint8_t number;
     uint8_t component;
     uint8_t refusal;
     uint8_t concerned;
     uint32_t size;
-} MeetingsNumbers;
+} timed_network_meetings_numbers;
 
 /*
  * Which windows met: for a table that checks 10 to 12 refuse (with 10, 11, 12
@@ -557,8 +583,9 @@ typedef struct MeetingsNumbers {
  * The numbers past those listed stay as they were; after 13 the whole list
  * does. The list must not overlap the table.
  */
-MeetingsNumbers timed_network_meetings(const uint8_t *table, size_t length,
-                                       uint32_t *list, size_t list_length);
+timed_network_meetings_numbers
+timed_network_meetings(const uint8_t *table, size_t length,
+                       uint32_t *list, size_t list_length);
 
 /*
  * Which windows met at a spread: as timed_network_meetings, with the verdict of
@@ -570,9 +597,113 @@ MeetingsNumbers timed_network_meetings(const uint8_t *table, size_t length,
  * spread:            as for timed_network_check_spread.
  * list, list_length: as for timed_network_meetings.
  */
-MeetingsNumbers timed_network_meetings_spread(const uint8_t *table, size_t length,
-                                              uint32_t spread,
-                                              uint32_t *list, size_t list_length);
+timed_network_meetings_numbers
+timed_network_meetings_spread(const uint8_t *table, size_t length,
+                              uint32_t spread,
+                              uint32_t *list, size_t list_length);
+
+/*
+ * Where checks 4 to 6 stop: the part of the table that was being read, and what
+ * is wrong in it. 32 bytes.
+ *
+ * number:      4, 5 or 6, the refusal; 0 where none of these refuses the table.
+ * component:   the component being read; 255 where number is 0.
+ * part:        what kind of part it is, a number of enum
+ *              timed_network_table_part.
+ * edge:        the edge that the part belongs to; 255 for none.
+ * index:       which location, or which bound, update, channel or pair of the
+ *              edge; 255 for none.
+ * start:       the place in the table of the part's first byte.
+ * offset:      the place in the part of the number at fault.
+ * width:       its bytes, 1 or 2. With 0 it is no number of the part, but how
+ *              many bytes there are for the part, or are left over.
+ * value:       what stands there, or how many bytes there are.
+ * least,
+ * limit:       allowed are `least` up to, but not including, `limit`; none
+ *              where they are equal. After 6 the value is in this range, but
+ *              stands in an earlier pair of the edge.
+ * unbounded:   whether 65,535, which stands for none, is allowed too.
+ *
+ * Where number is 0 all fields but the component are 0.
+ */
+typedef struct timed_network_place_numbers {
+    uint8_t number;
+    uint8_t component;
+    uint8_t part;
+    uint8_t edge;
+    uint8_t index;
+    bool unbounded;
+    uint32_t start;
+    uint32_t offset;
+    uint32_t width;
+    uint32_t value;
+    uint32_t least;
+    uint32_t limit;
+} timed_network_place_numbers;
+
+/*
+ * Tells where checks 4 to 6 stop. They read a table front to back: a
+ * component's length, its first 7 bytes, its locations, its edges, each with
+ * its clock bounds, data bounds and items. Each part has to fit before its
+ * numbers are tried, in the order of its bytes, and the first fault is told.
+ *
+ * table, length: as for timed_network_check.
+ *
+ * The number is 4, 5 or 6, with that component, exactly if timed_network_check
+ * refuses the table so. Nothing is written.
+ */
+timed_network_place_numbers
+timed_network_refusal_place(const uint8_t *table, size_t length);
+
+/*
+ * Where checks 7 to 9 stop: the opening of a passage that is refused, and why.
+ * 44 bytes.
+ *
+ * number:     7, 8 or 9, the refusal; 0 where none of these refuses the table.
+ * component:  the component that was opening the passage; 255 where number is 0.
+ * leaving,
+ * blocked,
+ * windowless: with 8, how many edges leave the location entered; of how many of
+ *             them a data bound fails; and how many others have no window of at
+ *             least one tick's length. They leave no candidate:
+ *             leaving = blocked + windowless. Else 0.
+ * edge,
+ * update:     with 9, the edge taken, and the number, counted from 0, of its
+ *             first update that leaves -32,768 to 32,767. Else 255.
+ * passage:    how many passages were opened before it: its number, counted from
+ *             0; with 7 it is 1,024.
+ * tick:       the tick of its entry.
+ * entry:      the component, the location entered, and the clocks and variables
+ *             at the entry; those that the component does not have are 0. In
+ *             the form that timed_network_edge_choice takes. With 7 as if the
+ *             passage opened.
+ *
+ * Where number is 0, the component of the entry is 255, edge and update are
+ * too, and all else is 0.
+ */
+typedef struct timed_network_opening_numbers {
+    uint8_t number;
+    uint8_t component;
+    uint8_t leaving;
+    uint8_t blocked;
+    uint8_t windowless;
+    uint8_t edge;
+    uint8_t update;
+    uint32_t passage;
+    uint32_t tick;
+    timed_network_entry_numbers entry;
+} timed_network_opening_numbers;
+
+/*
+ * Tells where checks 7 to 9 stop: the opening that they refuse.
+ *
+ * table, length: as for timed_network_check.
+ *
+ * The number is 7, 8 or 9, with that component, exactly if timed_network_check
+ * refuses the table so. Nothing is written.
+ */
+timed_network_opening_numbers
+timed_network_refused_opening(const uint8_t *table, size_t length);
 
 /*
  * One node, whose registers the caller lends. A node's part is the part of the
@@ -581,26 +712,26 @@ MeetingsNumbers timed_network_meetings_spread(const uint8_t *table, size_t lengt
  */
 
 /* A trial: an edge's bounds as far as they were looked at. */
-typedef struct NodeTrial {
+typedef struct timed_network_node_trial {
     uint16_t ready; /* the ready delay so far */
     bool ended;     /* whether the end was lowered */
     uint16_t end;   /* the end, once it was lowered */
     bool good;      /* whether no bound failed */
-} NodeTrial;
+} timed_network_node_trial;
 
 /* The edge kept, if any. */
-typedef struct NodeKept {
+typedef struct timed_network_node_kept {
     bool some;      /* whether there is one */
     uint8_t edge;   /* its number */
     uint16_t ready; /* its ready delay */
     uint16_t end;   /* its end */
-} NodeKept;
+} timed_network_node_kept;
 
 /*
  * The registers of one node. Places of clocks and variables that the node does
  * not have mean nothing.
  */
-typedef struct NodeRegisters {
+typedef struct timed_network_node_registers {
     size_t pc;          /* the next statement, in bytes from the part's start */
     uint8_t location;   /* the present location */
     uint64_t clocks[4]; /* the clocks at its entry */
@@ -611,10 +742,10 @@ typedef struct NodeRegisters {
     uint8_t edge;       /* its number */
     bool taken;         /* a message was taken, no location entered since */
     uint8_t goes;       /* the location paired with that message */
-    NodeTrial tried;    /* the trial under way */
-    NodeKept kept;      /* the edge kept so far */
+    timed_network_node_trial tried; /* the trial under way */
+    timed_network_node_kept kept;   /* the edge kept so far */
     uint64_t sleeps;    /* how many sleeps were finished */
-} NodeRegisters;
+} timed_network_node_registers;
 
 /*
  * The registers at the start of a part: in the initial location's block, with
@@ -623,7 +754,8 @@ typedef struct NodeRegisters {
  * part:   the first of `length` bytes that can be read.
  * length: how many bytes there are. It may be 0; then the pointer is not read.
  */
-NodeRegisters timed_network_start(const uint8_t *part, size_t length);
+timed_network_node_registers
+timed_network_start(const uint8_t *part, size_t length);
 
 /*
  * Carries out the statement at the program counter of the node's part.
@@ -642,8 +774,9 @@ NodeRegisters timed_network_start(const uint8_t *part, size_t length);
  * of a sleep or a listen, and the listener of a send. A listen that takes a
  * message is timed_network_take_message; this call finishes it without one.
  */
-void timed_network_step(NodeRegisters *node, const uint8_t *part,
-                        size_t length, uint8_t clocks, uint8_t variables);
+void timed_network_step(timed_network_node_registers *node,
+                        const uint8_t *part, size_t length,
+                        uint8_t clocks, uint8_t variables);
 
 /*
  * Finishes the listen at the program counter with a message on a channel:
@@ -657,8 +790,9 @@ void timed_network_step(NodeRegisters *node, const uint8_t *part,
  * part has more than 65,535 bytes. Whether the node has listened long enough
  * is the caller's to know.
  */
-void timed_network_take_message(NodeRegisters *node, const uint8_t *part,
-                                size_t length, uint8_t channel);
+void timed_network_take_message(timed_network_node_registers *node,
+                                const uint8_t *part, size_t length,
+                                uint8_t channel);
 
 #ifdef __cplusplus
 }

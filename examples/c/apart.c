@@ -70,7 +70,7 @@ static void print_refusal(uint8_t refusal, uint8_t component) {
     printf("refused %u %u\n", (unsigned)refusal, (unsigned)component);
 }
 
-static void print_run(RunNumbers ran) {
+static void print_run(timed_network_run_numbers ran) {
     if (ran.number != TIMED_NETWORK_ACCEPTED) {
         print_refusal(ran.number, ran.component);
         return;
@@ -98,12 +98,12 @@ int main(int count, char **words) {
     size_t nodes =
         count == 5 ? numbers(words[4], offsets, TIMED_NETWORK_MAX_COMPONENTS) : 0;
 
-    VerdictNumbers verdict = timed_network_check_spread(table, length, spread);
+    timed_network_verdict_numbers verdict = timed_network_check_spread(table, length, spread);
     if (verdict.number != TIMED_NETWORK_ACCEPTED) {
         print_refusal(verdict.number, verdict.component);
     } else {
         puts("accepted");
-        SpreadNumbers largest = timed_network_largest_spread(table, length);
+        timed_network_spread_numbers largest = timed_network_largest_spread(table, length);
         printf("largest spread %u\n", (unsigned)largest.spread);
         print_run(timed_network_run_apart(table, length, choices, chosen, spread, offsets,
                                           nodes, observations, sizeof observations));

@@ -15,91 +15,117 @@
     FACT(offsetof(type, field) == (place) && sizeof(((type *)0)->field) == (bytes))
 #define SIZE(type, bytes) FACT(sizeof(type) == (bytes))
 
-SIZE(VerdictNumbers, 2);
-AT(VerdictNumbers, number, 0, 1);
-AT(VerdictNumbers, component, 1, 1);
+SIZE(timed_network_verdict_numbers, 2);
+AT(timed_network_verdict_numbers, number, 0, 1);
+AT(timed_network_verdict_numbers, component, 1, 1);
 
-SIZE(SpreadNumbers, 8);
-AT(SpreadNumbers, number, 0, 1);
-AT(SpreadNumbers, component, 1, 1);
-AT(SpreadNumbers, spread, 4, 4);
+SIZE(timed_network_spread_numbers, 8);
+AT(timed_network_spread_numbers, number, 0, 1);
+AT(timed_network_spread_numbers, component, 1, 1);
+AT(timed_network_spread_numbers, spread, 4, 4);
 
-SIZE(CallNumbers, 8);
-AT(CallNumbers, number, 0, 1);
-AT(CallNumbers, component, 1, 1);
-AT(CallNumbers, size, 4, 4);
+SIZE(timed_network_call_numbers, 8);
+AT(timed_network_call_numbers, number, 0, 1);
+AT(timed_network_call_numbers, component, 1, 1);
+AT(timed_network_call_numbers, size, 4, 4);
 
-SIZE(PartNumbers, 16);
-AT(PartNumbers, start, 0, 8);
-AT(PartNumbers, length, 8, 8);
+SIZE(timed_network_part_numbers, 16);
+AT(timed_network_part_numbers, start, 0, 8);
+AT(timed_network_part_numbers, length, 8, 8);
 
-SIZE(RunNumbers, 16);
-AT(RunNumbers, number, 0, 1);
-AT(RunNumbers, component, 1, 1);
-AT(RunNumbers, end, 2, 1);
-AT(RunNumbers, node, 3, 1);
-AT(RunNumbers, tick, 4, 4);
-AT(RunNumbers, used, 8, 4);
-AT(RunNumbers, size, 12, 4);
+SIZE(timed_network_run_numbers, 16);
+AT(timed_network_run_numbers, number, 0, 1);
+AT(timed_network_run_numbers, component, 1, 1);
+AT(timed_network_run_numbers, end, 2, 1);
+AT(timed_network_run_numbers, node, 3, 1);
+AT(timed_network_run_numbers, tick, 4, 4);
+AT(timed_network_run_numbers, used, 8, 4);
+AT(timed_network_run_numbers, size, 12, 4);
 
-SIZE(Passage, TIMED_NETWORK_PASSAGE_BYTES);
-AT(Passage, component, 0, 1);
-AT(Passage, edge, 1, 1);
-AT(Passage, location, 2, 1);
-AT(Passage, message, 3, 1);
-AT(Passage, entry, 4, 4);
-AT(Passage, ready, 8, 4);
-AT(Passage, end, 12, 4);
+SIZE(timed_network_passage, TIMED_NETWORK_PASSAGE_BYTES);
+AT(timed_network_passage, component, 0, 1);
+AT(timed_network_passage, edge, 1, 1);
+AT(timed_network_passage, location, 2, 1);
+AT(timed_network_passage, message, 3, 1);
+AT(timed_network_passage, entry, 4, 4);
+AT(timed_network_passage, ready, 8, 4);
+AT(timed_network_passage, end, 12, 4);
 
-SIZE(MeetingsNumbers, 8);
-AT(MeetingsNumbers, number, 0, 1);
-AT(MeetingsNumbers, component, 1, 1);
-AT(MeetingsNumbers, refusal, 2, 1);
-AT(MeetingsNumbers, concerned, 3, 1);
-AT(MeetingsNumbers, size, 4, 4);
+SIZE(timed_network_meetings_numbers, 8);
+AT(timed_network_meetings_numbers, number, 0, 1);
+AT(timed_network_meetings_numbers, component, 1, 1);
+AT(timed_network_meetings_numbers, refusal, 2, 1);
+AT(timed_network_meetings_numbers, concerned, 3, 1);
+AT(timed_network_meetings_numbers, size, 4, 4);
 
 SIZE(bool, 1);
-SIZE(EntryNumbers, 28);
-AT(EntryNumbers, component, 0, 1);
-AT(EntryNumbers, location, 1, 1);
-AT(EntryNumbers, clocks, 4, 16);
-AT(EntryNumbers, values, 20, 8);
+SIZE(timed_network_entry_numbers, 28);
+AT(timed_network_entry_numbers, component, 0, 1);
+AT(timed_network_entry_numbers, location, 1, 1);
+AT(timed_network_entry_numbers, clocks, 4, 16);
+AT(timed_network_entry_numbers, values, 20, 8);
 
-SIZE(EdgeChoiceNumbers, 16);
-AT(EdgeChoiceNumbers, number, 0, 1);
-AT(EdgeChoiceNumbers, component, 1, 1);
-AT(EdgeChoiceNumbers, taken, 2, 1);
-AT(EdgeChoiceNumbers, edge, 3, 1);
-AT(EdgeChoiceNumbers, ready, 4, 4);
-AT(EdgeChoiceNumbers, end, 8, 4);
-AT(EdgeChoiceNumbers, looked, 12, 4);
+SIZE(timed_network_edge_choice_numbers, 16);
+AT(timed_network_edge_choice_numbers, number, 0, 1);
+AT(timed_network_edge_choice_numbers, component, 1, 1);
+AT(timed_network_edge_choice_numbers, taken, 2, 1);
+AT(timed_network_edge_choice_numbers, edge, 3, 1);
+AT(timed_network_edge_choice_numbers, ready, 4, 4);
+AT(timed_network_edge_choice_numbers, end, 8, 4);
+AT(timed_network_edge_choice_numbers, looked, 12, 4);
 
-SIZE(NodeTrial, 8);
-AT(NodeTrial, ready, 0, 2);
-AT(NodeTrial, ended, 2, 1);
-AT(NodeTrial, end, 4, 2);
-AT(NodeTrial, good, 6, 1);
+SIZE(timed_network_place_numbers, 32);
+AT(timed_network_place_numbers, number, 0, 1);
+AT(timed_network_place_numbers, component, 1, 1);
+AT(timed_network_place_numbers, part, 2, 1);
+AT(timed_network_place_numbers, edge, 3, 1);
+AT(timed_network_place_numbers, index, 4, 1);
+AT(timed_network_place_numbers, unbounded, 5, 1);
+AT(timed_network_place_numbers, start, 8, 4);
+AT(timed_network_place_numbers, offset, 12, 4);
+AT(timed_network_place_numbers, width, 16, 4);
+AT(timed_network_place_numbers, value, 20, 4);
+AT(timed_network_place_numbers, least, 24, 4);
+AT(timed_network_place_numbers, limit, 28, 4);
 
-SIZE(NodeKept, 6);
-AT(NodeKept, some, 0, 1);
-AT(NodeKept, edge, 1, 1);
-AT(NodeKept, ready, 2, 2);
-AT(NodeKept, end, 4, 2);
+SIZE(timed_network_opening_numbers, 44);
+AT(timed_network_opening_numbers, number, 0, 1);
+AT(timed_network_opening_numbers, component, 1, 1);
+AT(timed_network_opening_numbers, leaving, 2, 1);
+AT(timed_network_opening_numbers, blocked, 3, 1);
+AT(timed_network_opening_numbers, windowless, 4, 1);
+AT(timed_network_opening_numbers, edge, 5, 1);
+AT(timed_network_opening_numbers, update, 6, 1);
+AT(timed_network_opening_numbers, passage, 8, 4);
+AT(timed_network_opening_numbers, tick, 12, 4);
+AT(timed_network_opening_numbers, entry, 16, 28);
 
-SIZE(NodeRegisters, 96);
-AT(NodeRegisters, pc, 0, 8);
-AT(NodeRegisters, location, 8, 1);
-AT(NodeRegisters, clocks, 16, 32);
-AT(NodeRegisters, values, 48, 8);
-AT(NodeRegisters, t, 56, 8);
-AT(NodeRegisters, n, 64, 2);
-AT(NodeRegisters, d, 66, 2);
-AT(NodeRegisters, edge, 68, 1);
-AT(NodeRegisters, taken, 69, 1);
-AT(NodeRegisters, goes, 70, 1);
-AT(NodeRegisters, tried, 72, 8);
-AT(NodeRegisters, kept, 80, 6);
-AT(NodeRegisters, sleeps, 88, 8);
+SIZE(timed_network_node_trial, 8);
+AT(timed_network_node_trial, ready, 0, 2);
+AT(timed_network_node_trial, ended, 2, 1);
+AT(timed_network_node_trial, end, 4, 2);
+AT(timed_network_node_trial, good, 6, 1);
+
+SIZE(timed_network_node_kept, 6);
+AT(timed_network_node_kept, some, 0, 1);
+AT(timed_network_node_kept, edge, 1, 1);
+AT(timed_network_node_kept, ready, 2, 2);
+AT(timed_network_node_kept, end, 4, 2);
+
+SIZE(timed_network_node_registers, 96);
+AT(timed_network_node_registers, pc, 0, 8);
+AT(timed_network_node_registers, location, 8, 1);
+AT(timed_network_node_registers, clocks, 16, 32);
+AT(timed_network_node_registers, values, 48, 8);
+AT(timed_network_node_registers, t, 56, 8);
+AT(timed_network_node_registers, n, 64, 2);
+AT(timed_network_node_registers, d, 66, 2);
+AT(timed_network_node_registers, edge, 68, 1);
+AT(timed_network_node_registers, taken, 69, 1);
+AT(timed_network_node_registers, goes, 70, 1);
+AT(timed_network_node_registers, tried, 72, 8);
+AT(timed_network_node_registers, kept, 80, 6);
+AT(timed_network_node_registers, sleeps, 88, 8);
 
 FACT(TIMED_NETWORK_MAX_TABLE == 8192);
 FACT(TIMED_NETWORK_MAX_PASSAGES == 1024);
@@ -120,6 +146,7 @@ FACT(TIMED_NETWORK_REFUSED_PLAN == 18);
 FACT(TIMED_NETWORK_REFUSED_SPREAD == 19);
 FACT(TIMED_NETWORK_REFUSED_OFFSET == 20);
 FACT(TIMED_NETWORK_END_NOT_ALLOWED == 3);
+FACT(TIMED_NETWORK_PART_COMPONENT_LENGTH == 1 && TIMED_NETWORK_PART_TABLE_END == 11);
 
 #if TIMED_NETWORK_VERSION_NUMBER < 300
 #error "a preprocessor cannot compare the version"

@@ -77,8 +77,8 @@ static void print_refusal(uint8_t number, uint8_t component) {
 }
 
 static void print_schedule(struct bytes table) {
-    CallNumbers answer = timed_network_schedule(table.at, table.length, list,
-                                                FIELDS * MAX_PASSAGES);
+    timed_network_call_numbers answer =
+        timed_network_schedule(table.at, table.length, list, FIELDS * MAX_PASSAGES);
     if (answer.number != 0) {
         print_refusal(answer.number, answer.component);
         return;
@@ -96,8 +96,8 @@ static void print_schedule(struct bytes table) {
 }
 
 static void print_chart(struct bytes table) {
-    CallNumbers answer = timed_network_timing_chart(table.at, table.length, chart,
-                                                    CHART_ROW * MAX_COMPONENTS);
+    timed_network_call_numbers answer =
+        timed_network_timing_chart(table.at, table.length, chart, CHART_ROW * MAX_COMPONENTS);
     if (answer.number != 0) {
         print_refusal(answer.number, answer.component);
         return;
@@ -106,8 +106,8 @@ static void print_chart(struct bytes table) {
 }
 
 static void print_program(struct bytes table) {
-    CallNumbers answer = timed_network_translate(table.at, table.length,
-                                                 program, MAX_PROGRAM);
+    timed_network_call_numbers answer =
+        timed_network_translate(table.at, table.length, program, MAX_PROGRAM);
     if (answer.number != 0) {
         print_refusal(answer.number, answer.component);
         return;
@@ -115,7 +115,8 @@ static void print_program(struct bytes table) {
     printf("program %u\n", (unsigned)answer.size);
     print_hex(program, answer.size);
     for (unsigned node = 0; node < 256; node++) {
-        PartNumbers part = timed_network_part(program, answer.size, (uint8_t)node);
+        timed_network_part_numbers part =
+            timed_network_part(program, answer.size, (uint8_t)node);
         if (part.length == 0)
             break;
         printf("part %u ", node);
@@ -124,9 +125,9 @@ static void print_program(struct bytes table) {
 }
 
 static void print_run(struct bytes table, struct bytes choices) {
-    RunNumbers answer = timed_network_run(table.at, table.length, choices.at,
-                                          choices.length, observations,
-                                          OBSERVATION * MAX_PASSAGES);
+    timed_network_run_numbers answer =
+        timed_network_run(table.at, table.length, choices.at, choices.length, observations,
+                          OBSERVATION * MAX_PASSAGES);
     if (answer.number != 0) {
         print_refusal(answer.number, answer.component);
         return;
@@ -144,7 +145,7 @@ int main(int count, char **words) {
     }
     struct bytes table = read_file(words[1]);
     struct bytes choices = read_file(words[2]);
-    VerdictNumbers verdict = timed_network_check(table.at, table.length);
+    timed_network_verdict_numbers verdict = timed_network_check(table.at, table.length);
     if (verdict.number != 0) {
         print_refusal(verdict.number, verdict.component);
     } else {

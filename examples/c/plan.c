@@ -32,9 +32,9 @@ int main(int count, char **words) {
         fputs("usage: plan PROBES SLOT GUARD PERIOD\n", stderr);
         return 2;
     }
-    CallNumbers answer = timed_network_plan(number(words[1]), number(words[2]),
-                                            number(words[3]), number(words[4]),
-                                            table, sizeof table);
+    timed_network_call_numbers answer =
+        timed_network_plan(number(words[1]), number(words[2]), number(words[3]),
+                           number(words[4]), table, sizeof table);
     if (answer.number != 0)
         printf("refused %u %u", (unsigned)answer.number, (unsigned)answer.component);
     for (uint32_t i = 0; i < answer.size; i++)

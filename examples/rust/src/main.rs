@@ -11,7 +11,7 @@ use std::error::Error;
 use std::fs;
 use std::io::{self, BufWriter, Write};
 
-use timed_network::{check, part, passages, program, run, timing_chart, End, Verdict};
+use timed_network::{check, part, passages, program, run, timing_chart, Verdict};
 use timed_network::{CHART_ROW, FIELDS, MAX_PASSAGES, NO_MESSAGE, OBSERVATION};
 
 fn main() -> Result<(), Box<dyn Error>> {
@@ -35,7 +35,7 @@ fn main() -> Result<(), Box<dyn Error>> {
 fn print_schedule(out: &mut impl Write, table: &[u8]) -> io::Result<()> {
     let rows = match passages(table) {
         Ok(rows) => rows,
-        Err(refused) => return writeln!(out, "{refused}"),
+        Err(refused) => return writeln!(out, "{}", Verdict::from(refused)),
     };
     writeln!(out, "c e l entry ready end msg")?;
     for row in rows {
@@ -62,7 +62,7 @@ fn print_chart(out: &mut impl Write, table: &[u8]) -> io::Result<()> {
 fn print_program(out: &mut impl Write, table: &[u8]) -> io::Result<()> {
     let program = match program(table) {
         Ok(program) => program,
-        Err(refused) => return writeln!(out, "{refused}"),
+        Err(refused) => return writeln!(out, "{}", Verdict::from(refused)),
     };
     writeln!(out, "program {}", program.len())?;
     print_hex(out, &program)?;
@@ -81,14 +81,9 @@ fn print_run(out: &mut impl Write, table: &[u8], choices: &[u8]) -> io::Result<(
     let mut bytes = vec![0; OBSERVATION * MAX_PASSAGES];
     let run = match run(table, choices, &mut bytes) {
         Ok(run) => run,
-        Err(refused) => return writeln!(out, "{refused}"),
+        Err(refused) => return writeln!(out, "{}", Verdict::from(refused)),
     };
-    let end = match run.end {
-        End::Horizon => 0,
-        End::UsedUp => 1,
-        End::Late => 2,
-        End::NotAllowed => 3,
-    };
+    let end = run.end.number();
     writeln!(out, "run {end} {} {} {}", run.node, run.tick, run.used)?;
     for observation in bytes.chunks_exact(OBSERVATION).take(run.size) {
         print_hex(out, observation)?;

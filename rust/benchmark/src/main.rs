@@ -6,6 +6,7 @@
 mod apart;
 mod clock;
 mod processor;
+mod refused;
 mod report;
 mod tables;
 
@@ -76,13 +77,7 @@ fn measure(effort: Effort) -> Result<(), String> {
         apart::time(effort, row, &choices);
     }
     time_plan(effort)?;
-    println!("refused tables");
-    for (number, table) in &tables::refused() {
-        let call = |reader: Reader| move || (reader.check)(black_box(table));
-        let name = format!("check: {number}, {} bytes", table.len());
-        line(&name, in_turns(effort, sides().map(call)));
-    }
-    Ok(())
+    refused::time(effort)
 }
 
 /// The row's name and sizes.
@@ -218,7 +213,7 @@ fn time_run(effort: Effort, row: &Row, choices: &[u8], each: &str) {
 
 #[cfg(test)]
 mod tests {
-    use super::{apart, demand_agreement, tables};
+    use super::{apart, demand_agreement, refused, tables};
 
     #[test]
     fn all_sides_agree_on_every_row() {
@@ -231,6 +226,9 @@ mod tests {
         for row in &tables::apart_rows() {
             let choices = apart::demand_agreement(row).unwrap();
             assert!(!choices.is_empty(), "{}", row.name);
+        }
+        for (number, table) in refused::read().iter().chain(&refused::opened()) {
+            assert_eq!(refused::demand_agreement(*number, table), Ok(()));
         }
     }
 }

@@ -115,48 +115,6 @@ pub fn apart_rows() -> Vec<Row> {
     rows
 }
 
-/// Tables that are refused by 1 to 6. Those of 4 to 6 are as long as a table
-/// can be, or a byte shorter, and their last part is at fault.
-pub fn refused() -> Vec<(u8, Vec<u8>)> {
-    let whole = write_table(&with_passages(longest(), 22));
-    let with = |place: usize, byte: u8| {
-        let mut bytes = whole.clone();
-        bytes[place] = byte;
-        bytes
-    };
-    let last = whole.len() - 1;
-    let (version, length, components) = (0, 2, 3);
-    let tables = vec![
-        (1, with(version, 3)),
-        (2, with(length, 1)),
-        (3, with(components, 9)),
-        (4, cut(&whole)),
-        (5, with(last, 16)),
-        (6, with(last - 1, whole[last - 3])),
-    ];
-    for (number, table) in &tables {
-        let refusal = verdict(table).expect_err("the table is refused");
-        assert_eq!(refusal.number, *number);
-    }
-    tables
-}
-
-/// A table without its last byte, with the lengths to match: its last part
-/// does not fit.
-fn cut(whole: &[u8]) -> Vec<u8> {
-    let mut bytes = whole[..whole.len() - 1].to_vec();
-    let mut place = 7;
-    let length = |bytes: &[u8], at: usize| u16::from_be_bytes([bytes[at], bytes[at + 1]]);
-    while place + usize::from(length(&bytes, place)) < whole.len() {
-        place += usize::from(length(&bytes, place));
-    }
-    for at in [1, place] {
-        let shorter = length(&bytes, at) - 1;
-        bytes[at..at + 2].copy_from_slice(&shorter.to_be_bytes());
-    }
-    bytes
-}
-
 /// "Probe and hub" with all ticks so many times as long.
 fn worked_example(times: u16) -> Table {
     let mut table = read_table(&WORKED_EXAMPLE).expect("the worked example is accepted");
@@ -187,7 +145,7 @@ fn plain(lanes: &[Lane], channels: u8) -> Table {
 
 /// A hub that hears 7 probes in each round, with all ticks so many times as
 /// long.
-fn hub(times: u32) -> Table {
+pub fn hub(times: u32) -> Table {
     let plan = Plan::regular(7, 4 * times, 2 * times, 100 * times);
     plain(&plan.plain_lanes(), plan.channels)
 }
@@ -233,7 +191,7 @@ fn listeners(times: u32) -> Table {
 /// The hub and its probes with as many edges as there may be, 8,192 bytes in
 /// all. None of the edges put in is ever taken, but they leave the locations
 /// that are passed. The last one is a receive with two pairs.
-fn longest() -> Table {
+pub fn longest() -> Table {
     let mut table = hub(1);
     for component in &mut table.components {
         component.variables = 1;
@@ -349,7 +307,7 @@ fn edge_length(edge: &Edge) -> usize {
 }
 
 /// The table with the least horizon that gives it so many passages or more.
-fn with_passages(mut table: Table, passages: usize) -> Table {
+pub fn with_passages(mut table: Table, passages: usize) -> Table {
     let (mut least, mut most) = (1, MAX_TICKS);
     while least < most {
         let middle = least + (most - least) / 2;
@@ -373,7 +331,6 @@ mod tests {
         assert_eq!(rows().len(), 12);
         assert_eq!(slow_rows().len(), 2);
         assert_eq!(apart_rows().len(), 3);
-        assert_eq!(refused().len(), 6);
     }
 
     #[test]

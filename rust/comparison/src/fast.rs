@@ -2,10 +2,10 @@
 //! a thread answers all calls, so that what a call leaves in its buffers is
 //! there when the next one is made.
 
-use crate::readers::{refused, second_edge_choice, Reader};
+use crate::readers::{refused, second_edge_choice, OpeningNumbers, PlaceNumbers, Reader};
 use std::cell::RefCell;
 use timed_network::{Call, Meetings, RunNumbers, Slots, Verdict, NO_NODE};
-use yardstick::{Refusal, Run, Yardstick};
+use yardstick::{Place, Refusal, RefusedOpening, Run, Yardstick};
 
 thread_local! {
     static YARDSTICK: RefCell<Yardstick> = RefCell::new(Yardstick::new());
@@ -32,6 +32,8 @@ pub(crate) const READER: Reader = Reader {
     largest_spread,
     meetings_spread,
     run_apart,
+    refusal_place,
+    refused_opening,
 };
 
 fn check(table: &[u8]) -> Verdict {
@@ -96,6 +98,58 @@ fn run_apart(
     run_numbers(with(|yardstick| {
         yardstick.run_apart(table, choices, spread, offsets, observations)
     }))
+}
+
+fn refusal_place(table: &[u8]) -> Option<PlaceNumbers> {
+    let place = with(|yardstick| yardstick.refusal_place(table))?;
+    let Place {
+        number,
+        component,
+        part,
+        edge,
+        index,
+        unbounded,
+        start,
+        offset,
+        width,
+        value,
+        least,
+        limit,
+    } = place;
+    let [number, component, part, edge, index] =
+        [number, component, part, edge, index].map(u32::from);
+    let unbounded = unbounded.into();
+    Some([
+        number, component, part, edge, index, start, offset, width, value, least, limit, unbounded,
+    ])
+}
+
+fn refused_opening(table: &[u8]) -> Option<OpeningNumbers> {
+    let opening = with(|yardstick| yardstick.refused_opening(table))?;
+    let RefusedOpening {
+        number,
+        component,
+        location,
+        leaving,
+        blocked,
+        windowless,
+        edge,
+        update,
+        passage,
+        tick,
+        clocks,
+        variables,
+    } = opening;
+    let [number, component, location] = [number, component, location].map(i64::from);
+    let [passage, tick] = [passage, tick].map(i64::from);
+    let [x0, x1, x2, x3] = clocks.map(i64::from);
+    let [v0, v1, v2, v3] = variables.map(i64::from);
+    let [leaving, blocked, windowless] = [leaving, blocked, windowless].map(i64::from);
+    let [edge, update] = [edge, update].map(i64::from);
+    Some([
+        number, component, passage, tick, location, x0, x1, x2, x3, v0, v1, v2, v3, leaving,
+        blocked, windowless, edge, update,
+    ])
 }
 
 fn run_numbers(answer: Result<Run, Refusal>) -> RunNumbers {

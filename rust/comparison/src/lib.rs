@@ -4,8 +4,9 @@
 //! Both sides get the same tables, class after class, and are lent lists and bytes
 //! of the same lengths for schedules, charts, programs, plans and observations; at
 //! the entries of schedules and at others both are asked for the edge that is
-//! taken. At spreads both are asked for verdicts and for the windows that met,
-//! and run nodes that wake apart. The first difference ends the comparison. Each
+//! taken. Of each table both are asked where it is refused by checks 4 to 9. At
+//! spreads both are asked for verdicts and for the windows that met, and run nodes
+//! that wake apart. The first difference ends the comparison. Each
 //! run is also held to demand 3.
 //! [`tables`] makes well-formed tables, [`layout`] and [`bytes`] serve to
 //! damage them, [`runs`] draws choices, [`classes`] lists what is tried,
@@ -21,6 +22,7 @@ pub mod edge_choices;
 mod fast;
 pub mod layout;
 pub mod lists;
+pub mod places;
 pub mod programs;
 pub mod random;
 pub mod readers;
@@ -100,6 +102,8 @@ pub struct Least {
     /// Of each kind of answer at a spread, and of each kind of run of nodes that
     /// wake apart.
     pub of_each_apart: u64,
+    /// Of each way in which checks 4 to 9 stop.
+    pub of_each_place: u64,
 }
 
 /// What the comparison should have tried and did not: a class without cases,
@@ -107,7 +111,8 @@ pub struct Least {
 /// too rarely, lists or bytes that never came back in one of the ways, a kind of
 /// edge choice that never came, parts never found or never missed, a kind of run
 /// that is too rare, an answer at a spread or a kind of run of nodes that wake
-/// apart that is, fewer cases or runs in all than demanded.
+/// apart that is, a way in which checks 4 to 9 stop that is, fewer cases or runs in
+/// all than demanded.
 pub fn gaps(tallies: &[Tally], least: &Least) -> Vec<String> {
     let empty = tallies.iter().filter(|tally| tally.is_empty());
     let mut gaps: Vec<String> = empty
@@ -129,6 +134,7 @@ pub fn gaps(tallies: &[Tally], least: &Least) -> Vec<String> {
     gaps.extend(sum.runs.gaps(least.of_each_kind));
     gaps.extend(sum.spreads.gaps(least.of_each_apart));
     gaps.extend(sum.apart.gaps(least.of_each_apart));
+    gaps.extend(sum.places.gaps(least.of_each_place));
     let (cases, runs) = (sum.cases(), sum.runs.ran());
     for (count, least, what) in [(cases, least.cases, "cases"), (runs, least.runs, "runs")] {
         if count < least {

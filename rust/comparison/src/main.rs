@@ -24,6 +24,7 @@ const LEAST: Least = Least {
     of_each_kind: 500,
     of_each_hearing: 1_000,
     of_each_apart: 400,
+    of_each_place: 400,
 };
 /// The comparison with the yardstick has to try at least so much.
 const LEAST_SHARE: Least = Least {
@@ -32,6 +33,7 @@ const LEAST_SHARE: Least = Least {
     of_each_kind: 100,
     of_each_hearing: 100,
     of_each_apart: 50,
+    of_each_place: 60,
 };
 
 fn main() -> ExitCode {
@@ -79,7 +81,10 @@ fn asked(words: &[String]) -> Option<(u64, &str)> {
 
 /// The last lines, after all classes went through without a difference.
 fn conclude(tallies: &[Tally], least: &Least, name: &str) -> ExitCode {
-    println!("{}", Tally::sum(tallies));
+    let sum = Tally::sum(tallies);
+    println!("{sum}");
+    let (count, way) = sum.places.rarest();
+    println!("checks 4 to 9, the rarest: {count} {way}");
     let gaps = match name {
         "" => gaps(tallies, least),
         _ => Vec::new(),

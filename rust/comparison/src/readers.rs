@@ -1,11 +1,14 @@
 //! The implementations that are compared, two at a time.
 
 mod apart;
+mod places;
 
 pub use apart::{
     second_check_spread, second_largest_spread, second_meetings, second_meetings_spread,
     second_run_apart,
 };
+use places::{library_opening, library_place};
+pub use places::{second_opening, second_place, OpeningNumbers, PlaceNumbers, NONE};
 
 use crate::fast;
 use reference::run::Outcome;
@@ -46,6 +49,10 @@ pub type Chooses = fn(&[u8], &Entry) -> Result<EdgeChoice, Verdict>;
 pub type ChecksSpread = fn(&[u8], u32) -> Verdict;
 /// A call that lists the windows that met at a spread.
 pub type ListsMet = fn(&[u8], u32, &mut [u32]) -> Meetings;
+/// A call that tells where checks 4 to 6 stop.
+pub type Locates = fn(&[u8]) -> Option<PlaceNumbers>;
+/// A call that tells where checks 7 to 9 stop.
+pub type LocatesOpening = fn(&[u8]) -> Option<OpeningNumbers>;
 /// A call that runs a table under choices, at a spread, with offsets.
 pub type RunApart = fn(&[u8], &[u8], u32, &[u32], &mut [u8]) -> RunNumbers;
 
@@ -78,6 +85,10 @@ pub struct Reader {
     pub meetings_spread: ListsMet,
     /// What it says of a run whose nodes wake apart, and writes.
     pub run_apart: RunApart,
+    /// Where it says that checks 4 to 6 stop.
+    pub refusal_place: Locates,
+    /// Where it says that checks 7 to 9 stop.
+    pub refused_opening: LocatesOpening,
 }
 
 /// The two implementations.
@@ -98,14 +109,18 @@ impl Readers {
             translate: timed_network::translate,
             timing_chart: timed_network::timing_chart,
             plan: timed_network::plan,
-            edge_choice: timed_network::edge_choice,
+            edge_choice: |table, entry| {
+                timed_network::edge_choice(table, entry).map_err(Verdict::from)
+            },
             part: timed_network::part,
             run: timed_network::run_numbers,
             meetings: timed_network::meetings,
             check_spread: timed_network::check_spread,
-            largest_spread: timed_network::largest_spread,
+            largest_spread: |table| timed_network::largest_spread(table).map_err(Verdict::from),
             meetings_spread: timed_network::meetings_spread,
             run_apart: timed_network::run_apart_numbers,
+            refusal_place: library_place,
+            refused_opening: library_opening,
         };
         let second = Reader::second();
         Readers { library, second }
@@ -137,6 +152,8 @@ impl Reader {
             largest_spread: second_largest_spread,
             meetings_spread: second_meetings_spread,
             run_apart: second_run_apart,
+            refusal_place: second_place,
+            refused_opening: second_opening,
         }
     }
 

@@ -1,5 +1,5 @@
-//! The programs, parts, charts, plans, edge choices, verdicts at a spread and runs
-//! that the vectors keep, with their answers.
+//! The programs, parts, charts, plans, edge choices, verdicts at a spread, runs and
+//! places of refusals that the vectors keep, with their answers.
 
 mod apart;
 
@@ -75,6 +75,20 @@ pub enum Request {
     },
     /// A run of nodes that wake apart.
     Apart(Apart),
+    /// Where checks 4 to 6 stop.
+    Place {
+        /// The table.
+        table: Vec<u8>,
+        /// The twelve words, or `none`.
+        answer: String,
+    },
+    /// Where checks 7 to 9 stop.
+    Opening {
+        /// The table.
+        table: Vec<u8>,
+        /// The twelve words, or `none`.
+        answer: String,
+    },
     /// A program or a run of a table that is refused.
     Refused {
         /// The table.
@@ -125,6 +139,14 @@ fn request(line: &str) -> Option<Option<Request>> {
         (["chart", table, lent], _) => chart(table, lent, answer)?,
         (["plan", numbers @ ..], _) => plan(numbers, answer)?,
         (["looked", table], _) => looked(table, answer)?,
+        (["place", table], _) => Request::Place {
+            table: unhex(table)?,
+            answer: located(answer)?,
+        },
+        (["opening", table], _) => Request::Opening {
+            table: unhex(table)?,
+            answer: located(answer)?,
+        },
         (["check", table, spread], Some(answer)) => Request::Spread {
             table: unhex(table)?,
             spread: spread.parse().ok()?,
@@ -189,6 +211,12 @@ fn looked(table: &str, answer: &str) -> Option<Request> {
         table: unhex(table)?,
         answer,
     })
+}
+
+/// Twelve words, or `none`.
+pub(crate) fn located(answer: &str) -> Option<String> {
+    let there = answer == "none" || answer.split(' ').count() == 12;
+    there.then(|| answer.to_string())
 }
 
 /// `end node tick used`, then each observation, with `|` between them.
@@ -297,6 +325,25 @@ mod tests {
         let read = request("a\tlooked 0102\trefused 8 0");
         assert_eq!(read, looked(Err(refused(8, 0))));
         assert_eq!(request("a\tlooked 0102\t3 x"), None);
+    }
+
+    #[test]
+    fn places_are_read() {
+        let table = vec![1, 2];
+        let answer = "5 0 2 - - 7 2 1 0 1 17 0".to_string();
+        let read = request("a\tplace 0102\t5 0 2 - - 7 2 1 0 1 17 0");
+        assert_eq!(
+            read,
+            Some(Some(Request::Place {
+                table: table.clone(),
+                answer
+            }))
+        );
+        let answer = "none".to_string();
+        let read = request("a\topening 0102\tnone");
+        assert_eq!(read, Some(Some(Request::Opening { table, answer })));
+        assert_eq!(request("a\tplace 0102\t5 0 2"), None);
+        assert_eq!(request("a\topening 010\tnone"), None);
     }
 
     #[test]

@@ -1,6 +1,7 @@
 //! The tables that the repository keeps, with their answers and schedules.
 
 use crate::bytes::unhex;
+use crate::requests::located;
 use std::fs;
 use std::path::{Path, PathBuf};
 use table_text::corpus::{names_with_spreads, read_answers, read_schedule, read_spreads, Answer};
@@ -116,6 +117,34 @@ pub fn corpus_spreads() -> Result<Vec<(Vec<u8>, u32, Verdict)>, String> {
     Ok(all)
 }
 
+/// Where the tables of the corpus that checks 4 to 9 refuse are refused: each table, its
+/// verdict, and the words of its place or opening. The file has each of them, sorted,
+/// and no other.
+pub fn corpus_places() -> Result<Vec<(Vec<u8>, Verdict, String)>, String> {
+    let folder = folder("corpus");
+    let file = folder.join("places.tsv");
+    let text = fs::read_to_string(&file).map_err(|error| at(&file, &error.to_string()))?;
+    let mut lines = text.lines();
+    let mut all = Vec::new();
+    for (name, answer) in read_answers(&folder)? {
+        if !matches!(answer, Answer::Refused { number: 4..=9, .. }) {
+            continue;
+        }
+        let words = lines.next().and_then(|line| line.split_once('\t'));
+        let words = words.filter(|(named, words)| *named == name && located(words).is_some());
+        let Some((_, words)) = words else {
+            return Err(at(&file, &format!("{name}: no line with twelve words")));
+        };
+        let table = folder.join(format!("{name}.bin"));
+        let bytes = fs::read(&table).map_err(|error| at(&table, &error.to_string()))?;
+        all.push((bytes, verdict(answer), words.to_string()));
+    }
+    match lines.next() {
+        Some(line) => Err(at(&file, &format!("not refused by 4 to 9: {line}"))),
+        None => Ok(all),
+    }
+}
+
 fn verdict(answer: Answer) -> Verdict {
     match answer {
         Answer::Accepted => Verdict::Accepted,
@@ -179,6 +208,16 @@ mod tests {
         assert_eq!(read.passages, Some(vec![[0, 0, 0, 0, 3, 5, 255]]));
         let read = vector("a name\tschedule 0100\trefused 2 255");
         assert_eq!(read, checked(&[1, 0], refused(2, 255)));
+    }
+
+    #[test]
+    fn places_of_the_corpus_begin_with_their_verdict() {
+        let places = corpus_places().unwrap();
+        assert!(places.len() > 100);
+        for (_, verdict, words) in places {
+            let begins = |refused: &str| refused.starts_with(&verdict.to_string());
+            assert!(begins(&format!("refused {words}")), "{words}");
+        }
     }
 
     #[test]

@@ -1,6 +1,7 @@
 //! What was counted.
 
 use crate::edge_choices::Chosen;
+use crate::places::Places;
 use crate::readers::{NUMBERS, TOO_SHORT};
 use crate::runs::apart::RunsApart;
 use crate::runs::Runs;
@@ -36,6 +37,8 @@ pub struct Tally {
     pub spreads: Spreads,
     /// The runs of nodes that wake apart.
     pub apart: RunsApart,
+    /// Where the tables were refused.
+    pub places: Places,
 }
 
 /// How lent lists came back, or lent bytes.
@@ -155,6 +158,7 @@ impl Tally {
             runs: Runs::default(),
             spreads: Spreads::default(),
             apart: RunsApart::default(),
+            places: Places::default(),
         }
     }
 
@@ -206,14 +210,15 @@ impl Tally {
             sum.runs.add(&tally.runs);
             sum.spreads.add(&tally.spreads);
             sum.apart.add(&tally.apart);
+            sum.places.add(&tally.places);
         }
         sum
     }
 }
 
 /// What was tried: the answers that were given, each with how often, then
-/// lists, programs, charts, plans, edge choices, parts, runs, and what there is of
-/// nodes that wake apart.
+/// lists, programs, charts, plans, edge choices, parts, runs, what there is of nodes
+/// that wake apart, and where the tables were refused.
 impl fmt::Display for Tally {
     fn fmt(&self, out: &mut fmt::Formatter<'_>) -> fmt::Result {
         let [accepted, refusals @ ..] = &self.answers;
@@ -253,6 +258,9 @@ impl fmt::Display for Tally {
         }
         if self.apart.all() > 0 {
             write!(out, "; {}", self.apart)?;
+        }
+        if self.places.all() > 0 {
+            write!(out, "; {}", self.places)?;
         }
         Ok(())
     }

@@ -131,12 +131,12 @@ fn nothing_filled_in_and_the_order_of_the_run() {
     assert!(broken(8000, in_the_runs_order) > 50);
 }
 
-/// A machine whose observations carry the common tick.
-#[test]
-fn observations_with_the_common_tick() {
+/// The answers of a wrong machine hold to the demand exactly where they are
+/// those of the right one, and many of 4,000 are not.
+fn breaks_where_it_differs(machine: fn(&Case) -> Answer) {
     let mut different = 0;
     for_each_case(11, 4000, permitted, |case| {
-        let answer = case.with_common_ticks();
+        let answer = machine(case);
         different += usize::from(answer != case.answer);
         let found = case.hold_to(&answer);
         assert_eq!(answer == case.answer, found.is_ok(), "{found:?}");
@@ -145,18 +145,14 @@ fn observations_with_the_common_tick() {
     assert!(different > 1000);
 }
 
-/// A machine that judges late by the common tick.
+#[test]
+fn observations_with_the_common_tick() {
+    breaks_where_it_differs(|case| case.with_common_ticks());
+}
+
 #[test]
 fn late_by_the_common_tick() {
-    let mut different = 0;
-    for_each_case(11, 4000, permitted, |case| {
-        let answer = case.late_by_the_common_tick();
-        different += usize::from(answer != case.answer);
-        let found = case.hold_to(&answer);
-        assert_eq!(answer == case.answer, found.is_ok(), "{found:?}");
-    });
-    println!("{different}");
-    assert!(different > 1000);
+    breaks_where_it_differs(|case| case.late_by_the_common_tick());
 }
 
 /// An offset of one more than the spread: the margins are needed.

@@ -1,13 +1,11 @@
 //! Runs that are wrong in one point are found out, by the comparison and, if
 //! both sides are wrong, by the demand.
 
+mod finding;
 mod plain_run;
 
-use comparison::classes::{Class, Extent, CLASSES};
-use comparison::compare_class;
-use comparison::difference::{Outcome, Stop};
-use comparison::random::Random;
 use comparison::readers::{Reader, Readers};
+use finding::{classes, finder, tried};
 use plain_run::Fault;
 
 /// Implementations, each with one of the faults.
@@ -25,34 +23,16 @@ macro_rules! wrong {
     };
 }
 
-const EXTENT: Extent = Extent {
-    rounds: 20,
-    step: 41,
-};
-
 /// The classes of runs without stored answers.
-fn classes() -> impl Iterator<Item = &'static Class> {
-    let runs = |class: &&Class| class.name.starts_with("runs ");
-    CLASSES.iter().filter(runs)
-}
-
-fn tried(readers: &Readers, class: &Class) -> Outcome {
-    let mut random = Random::new(Random::SEED);
-    compare_class(readers, class, &mut random, &EXTENT).map(|_| ())
-}
-
-/// A class that finds a difference.
-fn finder(library: Reader, second: Reader) -> Option<&'static str> {
-    let readers = Readers { library, second };
-    let finds = |class: &&Class| matches!(tried(&readers, class), Err(Stop::Differs(_)));
-    Some(classes().find(finds)?.name)
+fn of_runs(name: &str) -> bool {
+    name.starts_with("runs ")
 }
 
 #[test]
 fn the_plain_run_agrees_with_the_second() {
     let [(_, library)] = wrong![None];
     let second = Reader::second();
-    for class in classes() {
+    for class in classes(of_runs) {
         let readers = Readers { library, second };
         assert_eq!(tried(&readers, class), Ok(()), "{}", class.name);
     }
@@ -74,8 +54,8 @@ fn each_fault_is_found() {
     ];
     let mut missed = Vec::new();
     for (fault, reader) in faults {
-        let by_comparison = finder(reader, Reader::second());
-        let by_demand = finder(reader, reader);
+        let by_comparison = finder(of_runs, reader, Reader::second());
+        let by_demand = finder(of_runs, reader, reader);
         println!("{fault:?}: {by_comparison:?}, {by_demand:?}");
         if by_comparison.is_none() || by_demand.is_none() {
             missed.push(fault);

@@ -1,5 +1,6 @@
 //! What was counted is told, and so is what was not tried.
 
+use comparison::places::Places;
 use comparison::runs::apart::RunsApart;
 use comparison::runs::Runs;
 use comparison::spreads::Spreads;
@@ -7,7 +8,8 @@ use comparison::tally::{EdgeChoices, Lists, Tally};
 use comparison::{cases, gaps, Least};
 
 /// A class with these answers, and lists, programs, charts, plans, edge choices,
-/// parts and runs of all kinds, also of nodes that wake apart.
+/// parts and runs of all kinds, also of nodes that wake apart, and refusals at all
+/// places.
 fn tally(class: &'static str, answers: [u64; 16]) -> Tally {
     let lists = Lists {
         written: 3,
@@ -31,6 +33,17 @@ fn tally(class: &'static str, answers: [u64; 16]) -> Tally {
         runs: all_kinds(),
         spreads: all_spreads(),
         apart: all_apart(),
+        places: all_places(),
+    }
+}
+
+/// A table for each way in which checks 4 to 9 stop, and one that they accept.
+fn all_places() -> Places {
+    Places {
+        places: [[1; 3]; 36],
+        on_bands: 1,
+        openings: [1; 12],
+        none: 1,
     }
 }
 
@@ -86,6 +99,7 @@ fn least(cases: u64, runs: u64) -> Least {
         of_each_kind: 1,
         of_each_hearing: 12,
         of_each_apart: 1,
+        of_each_place: 1,
     }
 }
 
@@ -114,6 +128,7 @@ fn what_was_not_tried_is_told() {
         runs: all_kinds(),
         spreads: all_spreads(),
         apart: all_apart(),
+        places: all_places(),
         ..Tally::new("bare")
     };
     let told = [
@@ -145,9 +160,14 @@ fn what_was_not_tried_is_told() {
     let not_apart = Tally {
         spreads: Spreads::default(),
         apart: RunsApart::default(),
-        ..full
+        ..full.clone()
     };
     assert_eq!(gaps(&[not_apart], &least(0, 0)).len(), 16 + 16);
+    let nowhere = Tally {
+        places: Places::default(),
+        ..full
+    };
+    assert_eq!(gaps(&[nowhere], &least(0, 0)).len(), 23 + 50 + 2 + 12 + 2);
 }
 
 #[test]
@@ -176,7 +196,9 @@ fn a_line_tells_all_answers_that_were_given() {
                 (1 no such node, 6 yet to wake), 6 too few bytes, 1 too many choices, \
                 3 table refused; 100 choices, 30 observations, 20 messages, 10 timeouts; \
                 2 with an offset above the spread, 1 together, 3 with something filled in, \
-                8 messages of a sender ahead, 9 behind";
+                8 messages of a sender ahead, 9 behind; \
+                108 places: 4: 36, 5: 69, 6: 3; 12 refused openings: 7: 1, 8: 4 at the start, \
+                4 later, 9: 1 at the start, 2 later; 1 with neither";
     assert_eq!(some.to_string(), line);
     let sum = Tally::sum(&[some.clone(), some]);
     assert!(sum

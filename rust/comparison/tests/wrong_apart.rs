@@ -3,34 +3,19 @@
 //! own clocks.
 
 mod apart_cases;
+mod finding;
 
 use apart_cases::{Answer, Case};
-use comparison::classes::{Class, Extent, CLASSES};
-use comparison::compare_class;
-use comparison::difference::{Difference, Stop};
-use comparison::random::Random;
-use comparison::readers::{second_run_apart, Reader, Readers, RunApart};
+use comparison::difference::Difference;
+use comparison::readers::{second_run_apart, Reader, RunApart};
 use comparison::runs::Subject;
 use reference::program::program;
 use reference::run::{Happening, Machine};
 use timed_network::{RunNumbers, MAX_CHOICES, NO_NODE, OBSERVATION, TICK};
 
-const EXTENT: Extent = Extent {
-    rounds: 20,
-    step: 41,
-};
-
 /// The first difference in the classes of runs of nodes that wake apart.
 fn difference(library: Reader, second: Reader) -> Option<Difference> {
-    let readers = Readers { library, second };
-    let apart = |class: &&Class| class.name.starts_with("apart: ");
-    CLASSES.iter().filter(apart).find_map(|class| {
-        let mut random = Random::new(Random::SEED);
-        match compare_class(&readers, class, &mut random, &EXTENT) {
-            Err(Stop::Differs(difference)) => Some(*difference),
-            _ => None,
-        }
-    })
+    finding::difference(|name| name.starts_with("apart: "), library, second)
 }
 
 fn with_run(run_apart: RunApart) -> Reader {

@@ -1,39 +1,28 @@
 //! Verdicts at a spread, largest spreads and lists of windows that met that are
 //! wrong in one point are found out.
 
+mod finding;
 mod plain_spread;
 
-use comparison::classes::{Class, Extent, CLASSES};
+use comparison::classes::{Extent, CLASSES};
 use comparison::compare_class;
-use comparison::difference::{Outcome, Stop};
+use comparison::difference::Stop;
 use comparison::random::Random;
 use comparison::readers::{
     second_check_spread, second_largest_spread, second_meetings_spread, Reader, Readers,
 };
+use finding::{classes, tried};
 use plain_spread::Fault;
 use timed_network::{Meetings, Verdict, FIELDS, MAX_SPREAD};
 
-const EXTENT: Extent = Extent {
-    rounds: 20,
-    step: 41,
-};
-
 /// The classes of verdicts at a spread.
-fn classes() -> impl Iterator<Item = &'static Class> {
-    let spreads = |class: &&Class| class.name.ends_with(" at a spread");
-    CLASSES.iter().filter(spreads)
+fn at_a_spread(name: &str) -> bool {
+    name.ends_with(" at a spread")
 }
 
-fn tried(readers: &Readers, class: &Class) -> Outcome {
-    let mut random = Random::new(Random::SEED);
-    compare_class(readers, class, &mut random, &EXTENT).map(|_| ())
-}
-
-/// A class that finds a difference.
+/// One of them that finds a difference.
 fn finder(library: Reader, second: Reader) -> Option<&'static str> {
-    let readers = Readers { library, second };
-    let finds = |class: &&Class| matches!(tried(&readers, class), Err(Stop::Differs(_)));
-    Some(classes().find(finds)?.name)
+    finding::finder(at_a_spread, library, second)
 }
 
 /// Implementations, each with one of the faults.
@@ -52,8 +41,8 @@ macro_rules! wrong {
 #[test]
 fn the_plain_check_agrees_with_the_second() {
     let [(_, library)] = wrong![None];
-    assert_eq!(classes().count(), 3);
-    for class in classes() {
+    assert_eq!(classes(at_a_spread).count(), 3);
+    for class in classes(at_a_spread) {
         let second = Reader::second();
         let readers = Readers { library, second };
         assert_eq!(tried(&readers, class), Ok(()), "{}", class.name);

@@ -5,10 +5,12 @@
 use crate::chart;
 use crate::checks::{self, met_within, scheduled_within, verdict, verdict_within};
 use crate::edge_choice::{self, EdgeChoice, Entry};
+use crate::opening::RefusedOpening;
+use crate::place::{self, Place};
 use crate::plan::{self, Slots};
 use crate::program::{self, program_length, write_program};
 use crate::run::{run_apart_into, Outcome, OBSERVATION};
-use crate::schedule::Passage;
+use crate::schedule::{schedule_or_fault, Passage};
 use crate::table::{read_table, write_table, Refusal};
 
 /// "14. Are there at most 1,000,000 choices? Else 14."
@@ -26,6 +28,17 @@ pub fn check(table: &[u8]) -> Result<(), Refusal> {
 /// Document 02, wish 6: "The check now takes a bound G on the spread".
 pub fn check_spread(table: &[u8], spread: u32) -> Result<(), Refusal> {
     verdict_within(table, spread).map(|_| ())
+}
+
+/// Where checks 4 to 6 stop in a table that one of them refuses.
+pub fn refusal_place(table: &[u8]) -> Option<Place> {
+    place::refusal_place(table)
+}
+
+/// The opening at which checks 7 to 9 stop in a table that one of them refuses.
+pub fn refused_opening(table: &[u8]) -> Option<RefusedOpening> {
+    let table = read_table(table).ok()?;
+    schedule_or_fault(&table).err()
 }
 
 /// The largest spread at which a table is accepted; refused as [`check`] refuses.

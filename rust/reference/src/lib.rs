@@ -4,7 +4,8 @@
 //!
 //! One module stands for each heading of document 01, `chart` for wish 1, `plan`
 //! for wish 4 and `edge_choice` for wish 5; the spread of wish 6 stands in `checks`
-//! and its offsets in `run`.
+//! and its offsets in `run`. `place` and `opening` say where a table is refused: the
+//! one by checks 4 to 6, the other by checks 7 to 9.
 //! Sentences in quotation marks in the comments are the documents' own.
 #![forbid(unsafe_code)]
 #![warn(missing_docs)]
@@ -14,6 +15,8 @@ pub mod chart;
 pub mod checks;
 pub mod edge_choice;
 pub mod network;
+pub mod opening;
+pub mod place;
 pub mod plan;
 pub mod program;
 pub mod run;

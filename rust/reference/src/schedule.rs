@@ -1,7 +1,8 @@
-//! Passage and schedule: windows, candidates, and the list of passages with
-//! checks 7 to 9 "at each opening".
+//! Passage and schedule: windows, candidates, and the list of passages, each
+//! opened with checks 7 to 9.
 
 use crate::edge_choice::Entry;
+use crate::opening::{opened, Arrival, RefusedOpening};
 use crate::table::*;
 use std::fmt;
 
@@ -66,16 +67,6 @@ pub fn window(location: &Location, edge: &Edge, clocks: &Clocks) -> Option<Windo
     })
 }
 
-/// Where and with which values a component enters a location.
-#[derive(Clone, Copy, Debug, PartialEq, Eq)]
-struct Arrival {
-    component: u8,
-    location: u8,
-    entry: u32,
-    clocks: Clocks,
-    variables: Variables,
-}
-
 impl Passage {
     /// The edge taken, in its table.
     pub fn edge_in<'a>(&self, table: &'a Table) -> &'a Edge {
@@ -120,10 +111,12 @@ impl Passage {
         }
         Arrival {
             component: self.component,
-            location: edge.target(self.message),
-            entry: self.end,
-            clocks,
-            variables: edge.updated(&self.variables).unwrap_or(self.variables),
+            tick: self.end,
+            entry: Entry {
+                location: edge.target(self.message),
+                clocks,
+                variables: edge.updated(&self.variables).unwrap_or(self.variables),
+            },
         }
     }
 }
@@ -149,11 +142,16 @@ pub fn print(passages: &[Passage]) -> String {
     text
 }
 
-/// The schedule of a table, with checks 7 to 9. "They stand in the order of
-/// opening. Components 0 upward open at tick 0. Then, while the least end of
-/// an open passage is below H, that passage closes (ties: lowest component)
-/// and its component's next opens."
+/// The schedule of a table, with checks 7 to 9.
 pub fn schedule(table: &Table) -> Result<Vec<Passage>, Refusal> {
+    schedule_or_fault(table).map_err(|refused| refused.refusal())
+}
+
+/// The schedule, or the opening at which one of checks 7 to 9 is not passed. "They
+/// stand in the order of opening. Components 0 upward open at tick 0. Then, while
+/// the least end of an open passage is below H, that passage closes (ties: lowest
+/// component) and its component's next opens."
+pub fn schedule_or_fault(table: &Table) -> Result<Vec<Passage>, RefusedOpening> {
     let mut list = Vec::new();
     let mut open = [0; MAX_COMPONENTS];
     let open = &mut open[..table.components.len()];
@@ -161,10 +159,12 @@ pub fn schedule(table: &Table) -> Result<Vec<Passage>, Refusal> {
         open[number] = list.len();
         let start = Arrival {
             component: number as u8,
-            location: component.initial,
-            entry: 0,
-            clocks: [0; MAX_CLOCKS],
-            variables: [0; MAX_VARIABLES],
+            tick: 0,
+            entry: Entry {
+                location: component.initial,
+                clocks: [0; MAX_CLOCKS],
+                variables: [0; MAX_VARIABLES],
+            },
         };
         list.push(opened(table, &start, list.len())?);
     }
@@ -186,42 +186,6 @@ fn next_to_close(list: &[Passage], open: &[usize], horizon: u16) -> Option<usize
     let end = |component: &usize| list[open[*component]].end;
     let first = (0..open.len()).min_by_key(end)?;
     (end(&first) < u32::from(horizon)).then_some(first)
-}
-
-/// Opens a passage: checks 7, 8 and 9 in this order. `count` passages are
-/// open or closed already.
-fn opened(table: &Table, arrival: &Arrival, count: usize) -> Result<Passage, Refusal> {
-    let refused = |number| Err(Refusal::new(number, arrival.component));
-    if count >= MAX_PASSAGES {
-        return refused(7);
-    }
-    let component = &table.components[arrival.component as usize];
-    let entry = Entry {
-        location: arrival.location,
-        clocks: arrival.clocks,
-        variables: arrival.variables,
-    };
-    let Some((number, window)) = taken(component, &entry) else {
-        return refused(8);
-    };
-    let edge = &component.edges[number];
-    if edge.updated(&arrival.variables).is_none() {
-        return refused(9);
-    }
-    Ok(Passage {
-        component: arrival.component,
-        edge: number as u8,
-        location: arrival.location,
-        entry: arrival.entry,
-        ready: arrival.entry + window.ready,
-        end: arrival.entry + window.end,
-        message: match edge.action {
-            Action::Send(channel) => Some(channel),
-            _ => None,
-        },
-        clocks: arrival.clocks,
-        variables: arrival.variables,
-    })
 }
 
 /// "The edge is a candidate if they hold and ready < end": the window of an

@@ -24,10 +24,17 @@ fn answer(request: &[String]) -> Result<String, Refusal> {
         ("part", [node]) => Ok(hex(calls::part(&bytes, node.parse().unwrap()))),
         ("run", [choices]) => run_answer(&bytes, &unhex(choices)),
         ("looked", []) => looked_answer(&bytes),
+        ("place", []) => Ok(or_none(calls::refusal_place(&bytes))),
+        ("opening", []) => Ok(or_none(calls::refused_opening(&bytes))),
         ("chart", []) => chart_answer(&bytes, 552),
         ("chart", [lent]) => chart_answer(&bytes, lent.parse().unwrap()),
         _ => panic!("no such request: {request:?}"),
     }
+}
+
+/// What is told, `none` for nothing.
+fn or_none(told: Option<impl std::fmt::Display>) -> String {
+    told.map_or("none".to_string(), |told| told.to_string())
 }
 
 /// The list of the call must agree with the printed one.
@@ -115,7 +122,7 @@ fn plan_answer(words: &[String]) -> Result<String, Refusal> {
 fn all_vectors() {
     let mut counts = std::collections::BTreeMap::new();
     let mut wrong = Vec::new();
-    for vector in vectors() {
+    for vector in vectors().into_iter().chain(vectors_of_places()) {
         let given = match answer(&vector.request) {
             Ok(text) => text,
             Err(refusal) => format!("refused {} {}", refusal.number, refusal.component),
@@ -132,5 +139,5 @@ fn all_vectors() {
     }
     println!("{counts:?}");
     assert!(wrong.is_empty(), "{}", wrong.join("\n"));
-    assert!(counts.len() == 8);
+    assert!(counts.len() == 10);
 }

@@ -107,7 +107,7 @@ impl Scene {
                 let rows: Vec<&[u32]> = rows.iter().map(|row| &row[..]).collect();
                 Ok(Scene::with(bytes, &rows, Verdict::Accepted))
             }
-            Err(refused) => Scene::met(bytes, refused),
+            Err(refused) => Scene::met(bytes, refused.into()),
         }
     }
 

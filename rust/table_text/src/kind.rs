@@ -69,7 +69,7 @@ fn is_text(bytes: &[u8]) -> bool {
 }
 
 /// A number of two bytes, the highest first.
-fn word(bytes: &[u8], place: usize) -> Option<usize> {
+pub fn word(bytes: &[u8], place: usize) -> Option<usize> {
     let pair = bytes.get(place..place + 2)?;
     Some(usize::from(pair[0]) * 256 + usize::from(pair[1]))
 }

@@ -12,13 +12,17 @@ mod encode;
 mod kind;
 mod line;
 mod parse;
+mod places;
 pub mod schedule;
 mod source;
 
 use std::fmt;
 
 pub use decode::{decode, DecodeError};
+pub use encode::Encoded;
 pub use kind::{kind, Kind};
+pub use line::statement;
+pub use places::{location_start, update_start};
 
 /// A fault in a source text, with the number of its line, counted from 1.
 #[derive(Debug, Clone, PartialEq, Eq)]
@@ -37,17 +41,26 @@ impl std::error::Error for SourceError {}
 
 /// The bytes that a source text stands for.
 pub fn encode(text: &str) -> Result<Vec<u8>, SourceError> {
+    Ok(encode_with_lines(text)?.bytes)
+}
+
+/// The same, with the line that each byte comes from.
+pub fn encode_with_lines(text: &str) -> Result<Encoded, SourceError> {
     encode::encode_table(&parse::parse_table(text)?)
 }
 
-/// The same for the bytes of a source file, which must be UTF-8.
+/// The bytes that a source file stands for, which must be UTF-8.
 pub fn encode_file(file: &[u8]) -> Result<Vec<u8>, SourceError> {
-    let text = std::str::from_utf8(file).map_err(|error| {
+    encode(text_of(file)?)
+}
+
+/// The text in the bytes of a source file.
+pub fn text_of(file: &[u8]) -> Result<&str, SourceError> {
+    std::str::from_utf8(file).map_err(|error| {
         let read = &file[..error.valid_up_to()];
         SourceError {
             line: 1 + read.iter().filter(|byte| **byte == b'\n').count(),
             message: "a byte that is not UTF-8 text".to_string(),
         }
-    })?;
-    encode(text)
+    })
 }

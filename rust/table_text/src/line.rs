@@ -1,5 +1,6 @@
 //! Source lines: depth, words, and the numbers and names in them.
 
+use crate::source::Said;
 use crate::SourceError;
 use std::mem::size_of;
 
@@ -16,12 +17,24 @@ pub struct Line<'a> {
 pub fn split_lines(text: &str) -> Result<Vec<Line<'_>>, SourceError> {
     let mut lines = Vec::new();
     for (index, whole) in text.lines().enumerate() {
-        let said = whole.split('#').next().unwrap_or("").trim_end();
+        let said = without_comment(whole);
         if !said.trim_start().is_empty() {
             lines.push(read_line(index + 1, said)?);
         }
     }
     Ok(lines)
+}
+
+fn without_comment(whole: &str) -> &str {
+    whole.split('#').next().unwrap_or("").trim_end()
+}
+
+/// What the line of a text with this number says: its words, without what
+/// stands before them and without its comment.
+pub fn statement(text: &str, number: usize) -> String {
+    let whole = text.lines().nth(number.wrapping_sub(1)).unwrap_or("");
+    let words: Vec<&str> = without_comment(whole).split_whitespace().collect();
+    words.join(" ")
 }
 
 fn read_line(number: usize, said: &str) -> Result<Line<'_>, SourceError> {
@@ -50,6 +63,14 @@ fn read_line(number: usize, said: &str) -> Result<Line<'_>, SourceError> {
 }
 
 impl Line<'_> {
+    /// What this line says, with its number.
+    pub fn said<T>(&self, what: T) -> Said<T> {
+        Said {
+            line: self.number,
+            what,
+        }
+    }
+
     pub fn error(&self, message: impl Into<String>) -> SourceError {
         SourceError {
             line: self.number,
@@ -77,13 +98,13 @@ impl Line<'_> {
     /// Fills a number that a block may state once.
     pub fn set<T: TryFrom<i64>>(
         &self,
-        slot: &mut Option<T>,
+        slot: &mut Option<Said<T>>,
         word: &str,
     ) -> Result<(), SourceError> {
         if slot.is_some() {
             return Err(self.error("this number is stated a second time"));
         }
-        *slot = Some(self.number(word)?);
+        *slot = Some(self.said(self.number(word)?));
         Ok(())
     }
 

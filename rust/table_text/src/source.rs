@@ -3,25 +3,27 @@
 //! `None` in a number means that no line states it. The encoder then fills in
 //! what it can compute and asks for the rest.
 
+/// What a line says, and the line's number, counted from 1. A component and an
+/// edge have the number of their first line.
+#[derive(Debug, Clone, Copy, PartialEq, Eq)]
+pub struct Said<T> {
+    pub line: usize,
+    pub what: T,
+}
+
 /// The whole source text.
 #[derive(Debug, Default, Clone, PartialEq, Eq)]
 pub struct TableSource {
-    pub version: Option<u8>,
-    pub length: Option<u16>,
-    pub components: Option<u8>,
-    pub channels: Option<u8>,
-    pub horizon: Option<u16>,
+    pub version: Option<Said<u8>>,
+    pub length: Option<Said<u16>>,
+    pub components: Option<Said<u8>>,
+    pub channels: Option<Said<u8>>,
+    pub horizon: Option<Said<u16>>,
     /// The bytes behind the header in version 2, as many as the line lists.
-    pub bands: Option<Vec<u8>>,
-    pub parts: Vec<TablePart>,
-    pub cut: Option<Cut>,
-}
-
-/// Bytes dropped from the end of the whole table, and the line that says so.
-#[derive(Debug, Clone, PartialEq, Eq)]
-pub struct Cut {
-    pub line: usize,
-    pub count: u16,
+    pub bands: Option<Said<Vec<u8>>>,
+    pub parts: Vec<Said<TablePart>>,
+    /// Bytes dropped from the end of the whole table.
+    pub cut: Option<Said<u16>>,
 }
 
 #[derive(Debug, Clone, PartialEq, Eq)]
@@ -33,14 +35,13 @@ pub enum TablePart {
 /// One `component` line with what is indented under it.
 #[derive(Debug, Default, Clone, PartialEq, Eq)]
 pub struct ComponentSource {
-    pub line: usize,
-    pub length: Option<u16>,
-    pub locations: Option<u8>,
-    pub initial_location: Option<u8>,
-    pub clocks: Option<u8>,
-    pub variables: Option<u8>,
-    pub edges: Option<u8>,
-    pub parts: Vec<ComponentPart>,
+    pub length: Option<Said<u16>>,
+    pub locations: Option<Said<u8>>,
+    pub initial_location: Option<Said<u8>>,
+    pub clocks: Option<Said<u8>>,
+    pub variables: Option<Said<u8>>,
+    pub edges: Option<Said<u8>>,
+    pub parts: Vec<Said<ComponentPart>>,
 }
 
 #[derive(Debug, Clone, PartialEq, Eq)]
@@ -64,17 +65,17 @@ pub enum EdgeKind {
 /// One edge line with what is indented under it.
 #[derive(Debug, Clone, PartialEq, Eq)]
 pub struct EdgeSource {
-    pub line: usize,
     pub kind: EdgeKind,
     pub source: u8,
     pub destination: u8,
-    pub resets: u8,
-    pub stated_kind: Option<u8>,
-    pub reset_mask: Option<u8>,
-    pub clock_guards: Option<u8>,
-    pub data_guards: Option<u8>,
-    pub items: Option<u8>,
-    pub parts: Vec<EdgePart>,
+    /// The clocks that are reset, in the order of their lines.
+    pub resets: Vec<Said<u8>>,
+    pub stated_kind: Option<Said<u8>>,
+    pub reset_mask: Option<Said<u8>>,
+    pub clock_guards: Option<Said<u8>>,
+    pub data_guards: Option<Said<u8>>,
+    pub items: Option<Said<u8>>,
+    pub parts: Vec<Said<EdgePart>>,
 }
 
 /// What follows an edge's 7 bytes. A guard is a "bound" in document 01.

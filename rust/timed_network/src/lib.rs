@@ -4,14 +4,16 @@
 //! schedule of an accepted table into a lent list of numbers,
 //! [`schedule_into`] into a lent list of passages, [`passages`] gives it as a
 //! list of its own, and [`timing_chart`] draws it. [`meetings`] tells which
-//! windows met where checks 10 to 12 refuse a table, [`edge_choice`] which edge a
-//! component takes at an entry. [`plan`] writes the table of a cellar in which
+//! windows met where checks 10 to 12 refuse a table, [`refusal_place`] at which
+//! byte checks 4 to 6 stop, [`refused_opening`] at which opening of a passage
+//! checks 7 to 9 do, [`edge_choice`] which edge a component takes at an
+//! entry. [`plan`] writes the table of a cellar in which
 //! each probe has a slot of its own. [`translate`] writes the
 //! program of an accepted table, [`program`] gives it as bytes of its own,
 //! [`part`] finds one node's part in it, [`run`] carries out choices. For nodes
 //! that wake apart there are [`check_spread`], [`largest_spread`],
 //! [`meetings_spread`] and [`run_apart`]. [`node`] has one node whose registers
-//! the caller lends. The declarations of the library stand in three private
+//! the caller lends. The declarations of the library stand in four private
 //! modules; each call gets its safe form.
 //!
 //! Every slice may be lent: an empty one, one of any length (a slice never
@@ -24,10 +26,14 @@
 
 mod exported;
 pub mod node;
+mod places;
+mod refusal;
 mod running;
 mod spread;
 
-pub use exported::RunNumbers;
+pub use exported::{Entry, Passage, RunNumbers};
+pub use places::{refusal_place, refused_opening, Part, Place, RefusedOpening};
+pub use refusal::{Refusal, Refused, UnknownNumber, Verdict, NO_COMPONENT};
 pub use running::{
     part, program, run, run_numbers, translate, End, Run, MAX_CHOICES, MAX_PROGRAM, NO_NODE,
     OBSERVATION, TICK,
@@ -35,9 +41,6 @@ pub use running::{
 pub use spread::{
     check_spread, largest_spread, meetings_spread, run_apart, run_apart_numbers, MAX_SPREAD,
 };
-
-pub use exported::{Entry, Passage};
-use std::fmt;
 
 /// The numbers that a passage takes in a list: component, edge, location,
 /// entry, ready, end, message.
@@ -53,40 +56,6 @@ pub const CHART_ROW: usize = 69;
 /// The most bytes that the table of a plan has.
 pub const MAX_PLAN: usize = 414;
 
-/// What the library says of a table or of a call.
-#[derive(Clone, Copy, Debug, PartialEq, Eq)]
-pub enum Verdict {
-    /// All checks are passed.
-    Accepted,
-    /// A check is not passed.
-    Refused {
-        /// The number of the first check that is not passed; 15 to 17 stand
-        /// in the place of 11 (document 02, wish 3).
-        number: u8,
-        /// The component that it concerns, or 255 for none.
-        component: u8,
-    },
-}
-
-impl Verdict {
-    fn of(number: u8, component: u8) -> Verdict {
-        match number {
-            0 => Verdict::Accepted,
-            number => Verdict::Refused { number, component },
-        }
-    }
-}
-
-/// Written as the vectors write it: `accepted`, or `refused N C`.
-impl fmt::Display for Verdict {
-    fn fmt(&self, out: &mut fmt::Formatter<'_>) -> fmt::Result {
-        match self {
-            Verdict::Accepted => write!(out, "accepted"),
-            Verdict::Refused { number, component } => write!(out, "refused {number} {component}"),
-        }
-    }
-}
-
 /// The answer of a call that writes a schedule, a chart, a program or a plan.
 #[derive(Clone, Copy, Debug, PartialEq, Eq)]
 pub struct Call {
@@ -95,6 +64,39 @@ pub struct Call {
     /// How many passages, or bytes of a chart, a program or a table, were
     /// written; 0 after a refusal.
     pub size: usize,
+}
+
+impl Call {
+    fn of(answer: &exported::CallNumbers) -> Call {
+        Call {
+            verdict: Verdict::of(answer.number, answer.component),
+            size: answer.size as usize,
+        }
+    }
+
+    /// The size as a result, for `?`.
+    ///
+    /// # Panics
+    ///
+    /// As [`Verdict::into_result`] does.
+    ///
+    /// ```
+    /// use timed_network::{plan, Refused, Slots, MAX_PLAN};
+    ///
+    /// fn table(slots: Slots) -> Result<Vec<u8>, Refused> {
+    ///     let mut bytes = vec![0; MAX_PLAN];
+    ///     let size = plan(slots, &mut bytes).into_result()?;
+    ///     bytes.truncate(size);
+    ///     Ok(bytes)
+    /// }
+    /// let [probes, slot, guard, period] = [6, 40, 5, 500];
+    /// let slots = Slots { probes, slot, guard, period };
+    /// assert_eq!(table(slots).map(|bytes| bytes.len()), Ok(29 + 55 * 6));
+    /// assert!(table(Slots { probes: 8, ..slots }).is_err());
+    /// ```
+    pub fn into_result(self) -> Result<usize, Refused> {
+        self.verdict.into_result().map(|()| self.size)
+    }
 }
 
 /// Tries a table.
@@ -123,11 +125,7 @@ pub fn check(table: &[u8]) -> Verdict {
 /// assert_eq!((call.size, list), (0, [7; 14]));
 /// ```
 pub fn schedule(table: &[u8], list: &mut [u32]) -> Call {
-    let answer = exported::schedule(table, list);
-    Call {
-        verdict: Verdict::of(answer.number, answer.component),
-        size: answer.size as usize,
-    }
+    Call::of(&exported::schedule(table, list))
 }
 
 /// The answer of [`meetings`] and [`meetings_spread`].
@@ -183,11 +181,7 @@ pub fn meetings(table: &[u8], list: &mut [u32]) -> Meetings {
 /// assert_eq!((call.size, list), (0, [Passage::default(); 2]));
 /// ```
 pub fn schedule_into(table: &[u8], list: &mut [Passage]) -> Call {
-    let answer = exported::passages(table, list);
-    Call {
-        verdict: Verdict::of(answer.number, answer.component),
-        size: answer.size as usize,
-    }
+    Call::of(&exported::passages(table, list))
 }
 
 /// Draws the schedule of a table: one row of [`CHART_ROW`] bytes a component at
@@ -207,11 +201,7 @@ pub fn schedule_into(table: &[u8], list: &mut [Passage]) -> Call {
 /// assert_eq!((call.size, chart), (0, [7; CHART_ROW]));
 /// ```
 pub fn timing_chart(table: &[u8], chart: &mut [u8]) -> Call {
-    let answer = exported::timing_chart(table, chart);
-    Call {
-        verdict: Verdict::of(answer.number, answer.component),
-        size: answer.size as usize,
-    }
+    Call::of(&exported::timing_chart(table, chart))
 }
 
 /// What a plan is made from: a cellar with one hub and so many probes.
@@ -252,11 +242,7 @@ pub struct Slots {
 /// ```
 pub fn plan(slots: Slots, table: &mut [u8]) -> Call {
     let numbers = [slots.probes, slots.slot, slots.guard, slots.period];
-    let answer = exported::plan(numbers, table);
-    Call {
-        verdict: Verdict::of(answer.number, answer.component),
-        size: answer.size as usize,
-    }
+    Call::of(&exported::plan(numbers, table))
 }
 
 /// An edge that is taken, with its window: its first and its last tick, counted
@@ -288,43 +274,37 @@ pub struct EdgeChoice {
 /// location that the component does not have.
 ///
 /// ```
-/// use timed_network::{edge_choice, Entry, Verdict};
+/// use timed_network::{edge_choice, Entry, Refusal};
 ///
-/// let (number, component) = (1, 255);
-/// let refused = Verdict::Refused { number, component };
-/// assert_eq!(edge_choice(&[], &Entry::default()), Err(refused));
+/// let refused = edge_choice(&[], &Entry::default()).unwrap_err();
+/// assert_eq!(refused.refusal, Refusal::Version);
 /// ```
-pub fn edge_choice(table: &[u8], entry: &Entry) -> Result<EdgeChoice, Verdict> {
+pub fn edge_choice(table: &[u8], entry: &Entry) -> Result<EdgeChoice, Refused> {
     let answer = exported::edge_choice(table, *entry);
+    Verdict::of(answer.number, answer.component).into_result()?;
     let taken = TakenEdge {
         edge: answer.edge,
         ready: answer.ready,
         end: answer.end,
     };
-    match Verdict::of(answer.number, answer.component) {
-        Verdict::Accepted => Ok(EdgeChoice {
-            taken: answer.taken.then_some(taken),
-            looked: answer.looked,
-        }),
-        refused => Err(refused),
-    }
+    Ok(EdgeChoice {
+        taken: answer.taken.then_some(taken),
+        looked: answer.looked,
+    })
 }
 
 /// The schedule of a table, or why there is none.
 ///
 /// ```
-/// use timed_network::{passages, Verdict};
+/// use timed_network::{passages, Refusal};
 ///
-/// let (number, component) = (1, 255);
-/// assert_eq!(passages(&[]), Err(Verdict::Refused { number, component }));
+/// let refused = passages(&[]).unwrap_err();
+/// assert_eq!(refused.refusal, Refusal::Version);
 /// ```
-pub fn passages(table: &[u8]) -> Result<Vec<[u32; FIELDS]>, Verdict> {
+pub fn passages(table: &[u8]) -> Result<Vec<[u32; FIELDS]>, Refused> {
     let mut list = vec![0; FIELDS * MAX_PASSAGES];
-    let Call { verdict, size } = schedule(table, &mut list);
-    match verdict {
-        Verdict::Accepted => Ok(rows(&list[..FIELDS * size])),
-        refused => Err(refused),
-    }
+    let size = schedule(table, &mut list).into_result()?;
+    Ok(rows(&list[..FIELDS * size]))
 }
 
 /// The numbers of a list, passage by passage.

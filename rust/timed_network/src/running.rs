@@ -1,7 +1,8 @@
 //! Programs and runs: the safe forms of translate, part and run.
 
 use crate::exported;
-use crate::{Call, RunNumbers, Verdict};
+use crate::{Call, Refused, RunNumbers, UnknownNumber, Verdict};
+use std::fmt;
 
 /// The bytes that every program fits in.
 pub const MAX_PROGRAM: usize = 24_576;
@@ -14,7 +15,18 @@ pub const MAX_CHOICES: usize = 1_000_000;
 /// The node of a run that no node was late in.
 pub const NO_NODE: u8 = 255;
 
-/// How a run ended.
+/// How a run ended. Displayed in the words of the proved text
+/// (`crates/run_text`), without the node or the choice.
+///
+/// ```
+/// use timed_network::End;
+///
+/// let end = End::try_from(2)?;
+/// assert_eq!((end, end.number()), (End::Late, 2));
+/// assert_eq!(End::Horizon.to_string(), "horizon reached");
+/// assert!(End::try_from(4).is_err());
+/// # Ok::<(), timed_network::UnknownNumber>(())
+/// ```
 #[derive(Clone, Copy, Debug, PartialEq, Eq)]
 pub enum End {
     /// 0: at the horizon. Choices behind that are ignored.
@@ -31,9 +43,29 @@ impl End {
     /// All ends, each at the place of its number.
     pub const ALL: [End; 4] = [End::Horizon, End::UsedUp, End::Late, End::NotAllowed];
 
-    /// The end of a number. The library gives no number from 4 on.
-    fn of(number: u8) -> End {
-        End::ALL[usize::from(number)]
+    /// Its number, 0 to 3.
+    pub fn number(self) -> u8 {
+        self as u8
+    }
+}
+
+impl TryFrom<u8> for End {
+    type Error = UnknownNumber;
+
+    fn try_from(number: u8) -> Result<End, UnknownNumber> {
+        let found = End::ALL.get(usize::from(number)).copied();
+        found.ok_or(UnknownNumber(number))
+    }
+}
+
+impl fmt::Display for End {
+    fn fmt(&self, out: &mut fmt::Formatter<'_>) -> fmt::Result {
+        out.pad(match self {
+            End::Horizon => "horizon reached",
+            End::UsedUp => "choices used up",
+            End::Late => "late",
+            End::NotAllowed => "choice not allowed",
+        })
     }
 }
 
@@ -66,31 +98,22 @@ pub struct Run {
 /// assert_eq!((call.size, bytes), (0, [7; 60]));
 /// ```
 pub fn translate(table: &[u8], program: &mut [u8]) -> Call {
-    let answer = exported::translate(table, program);
-    Call {
-        verdict: Verdict::of(answer.number, answer.component),
-        size: answer.size as usize,
-    }
+    Call::of(&exported::translate(table, program))
 }
 
 /// The program bytes of a table, or why there are none.
 ///
 /// ```
-/// use timed_network::{program, Verdict};
+/// use timed_network::{program, Refusal};
 ///
-/// let (number, component) = (1, 255);
-/// assert_eq!(program(&[]), Err(Verdict::Refused { number, component }));
+/// let refused = program(&[]).unwrap_err();
+/// assert_eq!(refused.refusal, Refusal::Version);
 /// ```
-pub fn program(table: &[u8]) -> Result<Vec<u8>, Verdict> {
+pub fn program(table: &[u8]) -> Result<Vec<u8>, Refused> {
     let mut bytes = vec![0; MAX_PROGRAM];
-    let Call { verdict, size } = translate(table, &mut bytes);
-    match verdict {
-        Verdict::Accepted => {
-            bytes.truncate(size);
-            Ok(bytes)
-        }
-        refused => Err(refused),
-    }
+    let size = translate(table, &mut bytes).into_result()?;
+    bytes.truncate(size);
+    Ok(bytes)
 }
 
 /// The part of any program bytes that belongs to one node, empty where there
@@ -114,20 +137,15 @@ pub fn part(program: &[u8], node: u8) -> &[u8] {
 /// are asked for as the schedule has passages, times [`OBSERVATION`].
 ///
 /// ```
-/// use timed_network::{run, Verdict};
+/// use timed_network::{run, Refusal};
 ///
 /// let mut bytes = [7; 64];
-/// let (number, component) = (1, 255);
-/// let refused = Verdict::Refused { number, component };
-/// assert_eq!(run(&[], &[0, 1, 255], &mut bytes), Err(refused));
+/// let refused = run(&[], &[0, 1, 255], &mut bytes).unwrap_err();
+/// assert_eq!(refused.refusal, Refusal::Version);
 /// assert_eq!(bytes, [7; 64]);
 /// ```
-pub fn run(table: &[u8], choices: &[u8], observations: &mut [u8]) -> Result<Run, Verdict> {
-    let answer = run_numbers(table, choices, observations);
-    match Verdict::of(answer.number, answer.component) {
-        Verdict::Accepted => Ok(ran(&answer)),
-        refused => Err(refused),
-    }
+pub fn run(table: &[u8], choices: &[u8], observations: &mut [u8]) -> Result<Run, Refused> {
+    ran(&run_numbers(table, choices, observations))
 }
 
 /// The same call with its answer as plain numbers, those of a refused run
@@ -144,13 +162,14 @@ pub fn run_numbers(table: &[u8], choices: &[u8], observations: &mut [u8]) -> Run
     exported::run(table, choices, observations)
 }
 
-/// The answer of a run that took place.
-pub(crate) fn ran(answer: &RunNumbers) -> Run {
-    Run {
-        end: End::of(answer.end),
+/// What a run came to, or why it did not take place.
+pub(crate) fn ran(answer: &RunNumbers) -> Result<Run, Refused> {
+    Verdict::of(answer.number, answer.component).into_result()?;
+    Ok(Run {
+        end: End::try_from(answer.end).expect("the library gives no number from 4 on"),
         node: answer.node,
         tick: answer.tick,
         used: answer.used,
         size: answer.size as usize,
-    }
+    })
 }

@@ -5,7 +5,7 @@
 mod exported;
 
 use crate::running::{ran, Run};
-use crate::{Meetings, RunNumbers, Verdict};
+use crate::{Meetings, Refused, RunNumbers, Verdict};
 
 /// The largest spread that there is.
 pub const MAX_SPREAD: u32 = 1000;
@@ -42,7 +42,7 @@ pub fn check_spread(table: &[u8], spread: u32) -> Verdict {
 /// at all. It is accepted at every spread up to the largest, and at none above.
 ///
 /// ```
-/// use timed_network::{largest_spread, plan, Slots, Verdict, MAX_PLAN};
+/// use timed_network::{largest_spread, plan, Refusal, Slots, MAX_PLAN};
 ///
 /// let slots = Slots {
 ///     probes: 6,
@@ -53,15 +53,13 @@ pub fn check_spread(table: &[u8], spread: u32) -> Verdict {
 /// let mut table = [0; MAX_PLAN];
 /// let size = plan(slots, &mut table).size;
 /// assert_eq!(largest_spread(&table[..size]), Ok(4));
-/// let (number, component) = (1, 255);
-/// assert_eq!(largest_spread(&[]), Err(Verdict::Refused { number, component }));
+/// let refused = largest_spread(&[]).unwrap_err();
+/// assert_eq!(refused.refusal, Refusal::Version);
 /// ```
-pub fn largest_spread(table: &[u8]) -> Result<u32, Verdict> {
+pub fn largest_spread(table: &[u8]) -> Result<u32, Refused> {
     let answer = exported::largest_spread(table);
-    match Verdict::of(answer.number, answer.component) {
-        Verdict::Accepted => Ok(answer.spread),
-        refused => Err(refused),
-    }
+    Verdict::of(answer.number, answer.component).into_result()?;
+    Ok(answer.spread)
 }
 
 /// Lists which windows met at a spread: as [`meetings`](crate::meetings), with
@@ -91,12 +89,11 @@ pub fn meetings_spread(table: &[u8], spread: u32, list: &mut [u32]) -> Meetings 
 /// and without offsets this is [`run`](crate::run).
 ///
 /// ```
-/// use timed_network::{run_apart, Verdict};
+/// use timed_network::{run_apart, Refusal};
 ///
 /// let mut bytes = [7; 64];
-/// let (number, component) = (1, 255);
-/// let refused = Verdict::Refused { number, component };
-/// assert_eq!(run_apart(&[], &[0, 1, 255], 3, &[3, 0], &mut bytes), Err(refused));
+/// let refused = run_apart(&[], &[0, 1, 255], 3, &[3, 0], &mut bytes).unwrap_err();
+/// assert_eq!(refused.refusal, Refusal::Version);
 /// assert_eq!(bytes, [7; 64]);
 /// ```
 pub fn run_apart(
@@ -105,12 +102,14 @@ pub fn run_apart(
     spread: u32,
     offsets: &[u32],
     observations: &mut [u8],
-) -> Result<Run, Verdict> {
-    let answer = run_apart_numbers(table, choices, spread, offsets, observations);
-    match Verdict::of(answer.number, answer.component) {
-        Verdict::Accepted => Ok(ran(&answer)),
-        refused => Err(refused),
-    }
+) -> Result<Run, Refused> {
+    ran(&run_apart_numbers(
+        table,
+        choices,
+        spread,
+        offsets,
+        observations,
+    ))
 }
 
 /// The same call with its answer as plain numbers, those of a refused run

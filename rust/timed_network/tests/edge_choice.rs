@@ -10,13 +10,6 @@ use std::fs;
 use std::path::Path;
 use timed_network::{edge_choice, EdgeChoice, Entry, TakenEdge, Verdict};
 
-/// Bytes from hexadecimal; `-` is the empty byte string.
-fn unhex(text: &str) -> Vec<u8> {
-    let digits = text.strip_prefix('-').unwrap_or(text);
-    let pair = |at| u8::from_str_radix(&digits[at..at + 2], 16).unwrap();
-    (0..digits.len()).step_by(2).map(pair).collect()
-}
-
 /// What is chosen at the entry of a passage.
 fn at(table: &[u8], passage: &Passage) -> EdgeChoice {
     let entry = Entry {
@@ -117,7 +110,7 @@ fn an_absent_component_has_no_edges() {
 fn checks_1_to_6_alone_are_asked() {
     let refuses = |table: &[u8], number, component| {
         let answer = edge_choice(table, &hub(0, 0));
-        assert_eq!(answer, Err(refused(number, component)));
+        assert_eq!(answer, Err(refusal(number, component)));
     };
     refuses(&[], 1, 255);
     refuses(&PROBE_AND_HUB[..102], 2, 255);

@@ -69,15 +69,15 @@ fn no_bytes_and_no_room() {
         assert_eq!(check(empty), refused(1, 255));
         assert_eq!(schedule(empty, &mut []), call(refused(1, 255), 0));
         assert_eq!(translate(empty, &mut []), call(refused(1, 255), 0));
-        assert_eq!(run(empty, empty, &mut []), Err(refused(1, 255)));
-        assert_eq!(passages(empty), Err(refused(1, 255)));
-        assert_eq!(program(empty), Err(refused(1, 255)));
+        assert_eq!(run(empty, empty, &mut []), Err(refusal(1, 255)));
+        assert_eq!(passages(empty), Err(refusal(1, 255)));
+        assert_eq!(program(empty), Err(refusal(1, 255)));
         for node in 0..=255 {
             assert!(part(empty, node).is_empty());
         }
         // An accepted table with nothing lent, and with no choices.
         let full = &PROBE_AND_HUB;
-        assert_eq!(run(full, empty, &mut []), Err(refused(13, 255)));
+        assert_eq!(run(full, empty, &mut []), Err(refusal(13, 255)));
         let ran = run(full, empty, &mut [9; 8 * OBSERVATION]).unwrap();
         assert_eq!((ran.end, ran.used, ran.size), (End::UsedUp, 0, 0));
     }
@@ -122,7 +122,7 @@ fn observations_of_the_needed_length_and_of_one_less() {
         let ran = run(&table, &[TICK; 4], &mut bytes).unwrap();
         assert!(ran.used <= 4 && ran.size == 0);
         let mut bytes = vec![7; OBSERVATION * rows - 1];
-        assert_eq!(run(&table, &[TICK; 4], &mut bytes), Err(refused(13, 255)));
+        assert_eq!(run(&table, &[TICK; 4], &mut bytes), Err(refusal(13, 255)));
         assert!(bytes.iter().all(|&byte| byte == 7));
     }
 }

@@ -125,7 +125,7 @@ fn refusals_write_nothing_and_have_an_order() {
     for (table, choices, length, (number, component)) in all {
         let mut bytes = vec![77; length];
         let found = run(table, choices, &mut bytes);
-        assert_eq!(found, Err(refused(number, component)));
+        assert_eq!(found, Err(refusal(number, component)));
         let numbers = run_numbers(table, choices, &mut bytes);
         assert_eq!((numbers.number, numbers.component), (number, component));
         assert_eq!((numbers.end, numbers.node), (0, 255));

@@ -22,23 +22,17 @@ fn vectors(file: &str) -> Vec<[String; 3]> {
     text.lines().map(line).collect()
 }
 
-fn unhex(text: &str) -> Vec<u8> {
-    let byte = |at: usize| u8::from_str_radix(&text[at..at + 2], 16).unwrap();
-    let places = (0..text.len()).step_by(2).filter(|_| text != "-");
-    places.map(byte).collect()
-}
-
 fn hex(bytes: &[u8]) -> String {
     bytes.iter().map(|byte| format!("{byte:02x}")).collect()
 }
 
 /// The answer of a run as the vectors write it.
-fn told(run: Result<Run, Verdict>, bytes: &[u8]) -> String {
+fn told(run: Result<Run, Refused>, bytes: &[u8]) -> String {
     let run = match run {
         Ok(run) => run,
-        Err(refused) => return refused.to_string(),
+        Err(refused) => return Verdict::from(refused).to_string(),
     };
-    let end = End::ALL.iter().position(|end| *end == run.end).unwrap();
+    let end = run.end.number();
     let first = format!("{end} {} {} {}", run.node, run.tick, run.used);
     let written = bytes.chunks(OBSERVATION).take(run.size).map(hex);
     let parts: Vec<String> = std::iter::once(first).chain(written).collect();
@@ -130,7 +124,7 @@ fn refusals_write_nothing_and_have_an_order() {
     for (table, choices, spread, offsets, length, (number, component)) in all {
         let mut bytes = vec![77; length];
         let found = run_apart(table, choices, spread, offsets, &mut bytes);
-        assert_eq!(found, Err(refused(number, component)));
+        assert_eq!(found, Err(refusal(number, component)));
         let numbers = run_apart_numbers(table, choices, spread, offsets, &mut bytes);
         assert_eq!((numbers.number, numbers.component), (number, component));
         assert_eq!((numbers.end, numbers.node), (0, 255));

@@ -58,5 +58,5 @@ fn a_refused_table_leaves_the_list_as_it_was() {
         assert_eq!(schedule(&hub_low_3, &mut list), call(refused(16, 0), 0));
         assert_eq!(list, vec![5; length]);
     }
-    assert_eq!(passages(&hub_low_3), Err(refused(16, 0)));
+    assert_eq!(passages(&hub_low_3), Err(refusal(16, 0)));
 }

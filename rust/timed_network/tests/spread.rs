@@ -108,7 +108,7 @@ fn the_largest_spread_is_the_last_that_is_accepted() {
                 assert_ne!(check_spread(&table, spread + 1), Verdict::Accepted);
                 largest.push(spread);
             }
-            Err(refused) => assert_eq!(refused, check(&table)),
+            Err(refused) => assert_eq!(Verdict::from(refused), check(&table)),
         }
     }
     for spread in [0, 1, MAX_SPREAD] {

@@ -11,13 +11,6 @@ use timed_network::{timing_chart, Call, Verdict, CHART_ROW};
 /// Two rows.
 const LENGTH: usize = 2 * CHART_ROW;
 
-/// Bytes from hexadecimal; `-` is the empty byte string.
-fn unhex(text: &str) -> Vec<u8> {
-    let digits = text.strip_prefix('-').unwrap_or(text);
-    let pair = |at| u8::from_str_radix(&digits[at..at + 2], 16).unwrap();
-    (0..digits.len()).step_by(2).map(pair).collect()
-}
-
 /// The answer as the vectors write it: the rows without their line feeds, `|`
 /// between them.
 fn answer(table: &[u8], lent: usize) -> String {

@@ -80,8 +80,8 @@ fn a_refused_table_leaves_the_bytes_as_they_were() {
         assert_eq!(translate(&hub_low_3, &mut bytes), Call { verdict, size });
         assert_eq!(bytes, vec![77; length]);
     }
-    assert_eq!(program(&hub_low_3), Err(refused(16, 0)));
-    assert_eq!(program(&[]), Err(refused(1, 255)));
+    assert_eq!(program(&hub_low_3), Err(refusal(16, 0)));
+    assert_eq!(program(&[]), Err(refusal(1, 255)));
 }
 
 #[test]

@@ -5,12 +5,27 @@ use std::ffi::OsStr;
 use std::fs::File;
 use std::io::{self, Read};
 use std::path::Path;
-use table_text::Kind;
+use table_text::{Encoded, Kind, SourceError};
 use timed_network::Verdict;
 
 /// The most bytes of a table and of a text.
 const TABLE: usize = 8192;
 const TEXT: usize = 10_000_000;
+
+/// What was handed in: a table, or a text with the table that it stands for.
+pub enum Input {
+    Bytes(Vec<u8>),
+    Text { text: String, encoded: Encoded },
+}
+
+impl Input {
+    pub fn table(&self) -> &[u8] {
+        match self {
+            Input::Bytes(table) => table,
+            Input::Text { encoded, .. } => &encoded.bytes,
+        }
+    }
+}
 
 /// Why there is no verdict on a file.
 #[derive(Debug, PartialEq, Eq)]
@@ -33,16 +48,16 @@ fn too_long(most: usize, what: &str) -> Problem {
     ))
 }
 
-/// The table of a file, `-` for standard input.
-pub fn table_of(file: &OsStr) -> Result<Vec<u8>, Problem> {
+/// What a file holds, `-` for standard input.
+pub fn input_of(file: &OsStr) -> Result<Input, Problem> {
     let bytes = read(file)?;
-    let table = match table_text::kind(&bytes) {
+    let input = match table_text::kind(&bytes) {
         Kind::Text => encoded(&bytes)?,
         _ if bytes.is_empty() => return Err(wrong("is empty")),
-        _ => bytes,
+        _ => Input::Bytes(bytes),
     };
-    match table.len() {
-        0..=TABLE => Ok(table),
+    match input.table().len() {
+        0..=TABLE => Ok(input),
         _ => Err(too_long(TABLE, "a table")),
     }
 }
@@ -69,14 +84,20 @@ fn taken(source: impl Read) -> io::Result<Vec<u8>> {
     Ok(bytes)
 }
 
-fn encoded(text: &[u8]) -> Result<Vec<u8>, Problem> {
-    if text.len() > TEXT {
+fn encoded(file: &[u8]) -> Result<Input, Problem> {
+    if file.len() > TEXT {
         return Err(too_long(TEXT, "a text"));
     }
-    table_text::encode_file(text).map_err(|fault| Problem {
+    with_lines(file).map_err(|fault| Problem {
         words: fault.to_string(),
         status: REFUSED,
     })
+}
+
+fn with_lines(file: &[u8]) -> Result<Input, SourceError> {
+    let text = table_text::text_of(file)?.to_string();
+    let encoded = table_text::encode_with_lines(&text)?;
+    Ok(Input::Text { text, encoded })
 }
 
 /// What refused bytes are, if they are no table: asked after 1 to 4 alone. A

@@ -1,8 +1,9 @@
 //! The verdicts on tables, one after the other.
 //!
 //! In words they are what the verified program `verdict_printer` writes, byte
-//! for byte: it is called for each table. As JSON, and for the exit status
-//! alone, the library is asked.
+//! for byte: it is called for each table. Where the table comes from a text,
+//! the lines at which the check stopped are told behind that. As JSON, and for
+//! the exit status alone, the library is asked.
 //!
 //! Exit status, the worst of all files: 0 accepted, 1 refused or a fault in a
 //! text, 2 wrong use or a file that cannot be read, is empty, too long or of
@@ -13,8 +14,9 @@
 mod input;
 mod json;
 mod printed;
+mod stop;
 
-use input::Problem;
+use input::{Input, Problem};
 use std::env;
 use std::ffi::{OsStr, OsString};
 use std::fs::File;
@@ -53,7 +55,12 @@ struct Task<'a> {
     several: bool,
 }
 
+/// A fault of this tool itself is none of the answers.
 fn main() -> ExitCode {
+    std::panic::catch_unwind(answer).unwrap_or(ExitCode::from(BROKEN))
+}
+
+fn answer() -> ExitCode {
     let words: Vec<OsString> = env::args_os().skip(1).collect();
     match words.as_slice() {
         [form, printer, spread, files @ ..] if !files.is_empty() => {
@@ -106,14 +113,15 @@ impl Task<'_> {
     }
 
     fn judge(&self, file: &OsStr) -> u8 {
-        match input::table_of(file) {
-            Ok(table) => self.tell(file, &table),
+        match input::input_of(file) {
+            Ok(input) => self.tell(file, &input),
             Err(problem) => self.tell_problem(file, &problem),
         }
     }
 
     /// Tells the verdict on a table.
-    fn tell(&self, file: &OsStr, table: &[u8]) -> u8 {
+    fn tell(&self, file: &OsStr, input: &Input) -> u8 {
+        let table = input.table();
         let verdict = timed_network::check_spread(table, self.spread);
         if let Some(problem) = input::another_kind(table, verdict) {
             return self.tell_problem(file, &problem);
@@ -121,9 +129,12 @@ impl Task<'_> {
         let status = u8::from(verdict != Verdict::Accepted);
         match self.form {
             Form::Quiet => status,
-            Form::Json => write_out(&json::verdict(file, table, self.spread)).unwrap_or(status),
+            Form::Json => write_out(&json::verdict(file, input, self.spread)).unwrap_or(status),
             Form::Words => match printed::words(self.printer, table, self.spread, verdict) {
-                Ok(words) => write_out(&self.named(file, words)).unwrap_or(status),
+                Ok(words) => {
+                    let lines = stop::line_words(file, input, verdict);
+                    write_out(&self.named(file, [words, lines].concat())).unwrap_or(status)
+                }
                 Err(problem) => say(
                     format!("verdict_printer failed: {problem}").as_bytes(),
                     BROKEN,

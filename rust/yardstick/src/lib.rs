@@ -11,7 +11,8 @@
 //! in one sweep, `meetings` notes on the way which windows meet, `spread` looks at
 //! all of them again where nodes wake apart. `translate` writes programs, `part`
 //! finds one node's part, `run` carries out choices, `chart` draws the schedule,
-//! `plan` writes the table of a plan.
+//! `plan` writes the table of a plan. `place` and `refused` tell where a table is
+//! refused.
 #![forbid(unsafe_code)]
 #![warn(missing_docs)]
 
@@ -19,8 +20,10 @@ mod chart;
 mod meetings;
 mod opening;
 mod part;
+mod place;
 mod plan;
 mod read;
+mod refused;
 mod run;
 mod schedule;
 mod spread;
@@ -28,7 +31,9 @@ mod table;
 mod translate;
 
 pub use part::part;
+pub use place::Place;
 pub use plan::plan;
+pub use refused::RefusedOpening;
 
 use run::Machine;
 use schedule::Schedule;
@@ -140,7 +145,24 @@ impl Yardstick {
         self.schedule.fill(&mut self.table, bytes)
     }
 
-    /// The same with a bound on the spread of the nodes' wakings.
+    /// Where checks 4 to 6 stop, if one of them refuses the table.
+    pub fn refusal_place(&mut self, bytes: &[u8]) -> Option<Place> {
+        let (channels, rest) = read::header(bytes, &mut self.table).ok()?;
+        let first = bytes.len() - rest.len();
+        place::locate(bytes, self.table.count, channels, first)
+    }
+
+    /// Where checks 7 to 9 stop, if one of them refuses the table.
+    pub fn refused_opening(&mut self, bytes: &[u8]) -> Option<RefusedOpening> {
+        read::read(bytes, &mut self.table).ok()?;
+        let refusal = self.schedule.fill(&mut self.table, bytes).err()?;
+        let passages = self.schedule.passages().len();
+        let stop = &self.schedule.stop;
+        let opened = matches!(refusal.number, 7..=9);
+        opened.then(|| refused::opening(&self.table, bytes, stop, refusal, passages))
+    }
+
+    /// Checks 1 to 12 with a bound on the spread of the nodes' wakings.
     pub fn check_spread(&mut self, bytes: &[u8], spread: u32) -> Result<(), Refusal> {
         if spread == 0 {
             return self.check(bytes);

@@ -88,13 +88,19 @@ fn taken_first(
                 end = end.min(left(clock, two(c, d)));
             }
         }
-        let holds = |&[variable, a, b, c, d]: &[u8; BOUND]| {
-            let value = variables[usize::from(variable) % VARIABLES];
-            two(a, b) as i16 <= value && value <= two(c, d) as i16
-        };
-        let candidate = ready < end && edge.data_bounds(bytes).iter().all(holds);
+        let candidate = ready < end && !data_bounds_fail(edge, bytes, variables);
         candidate.then_some((ready, end))
     })
+}
+
+/// Whether one of an edge's data bounds fails, as they stand in the table's bytes.
+#[inline]
+pub(crate) fn data_bounds_fail(edge: &Edge, bytes: &[u8], variables: &Variables) -> bool {
+    let fails = |&[variable, a, b, c, d]: &[u8; BOUND]| {
+        let value = variables[usize::from(variable) % VARIABLES];
+        !(two(a, b) as i16..=two(c, d) as i16).contains(&value)
+    };
+    edge.data_bounds(bytes).iter().any(fails)
 }
 
 /// The first and the last tick at which invariant and clock bounds hold,
@@ -171,13 +177,30 @@ fn bound_clock(bounds: &mut Bounds, clock: u8, low: u16, high: u16) {
 #[inline]
 pub(crate) fn updated(edge: &Edge, bytes: &[u8], variables: &Variables) -> Option<Variables> {
     let mut variables = *variables;
-    for &[variable, operation, high, low] in edge.updates(bytes) {
-        let place = &mut variables[usize::from(variable) % VARIABLES];
-        let number = two(high, low) as i16;
-        *place = match operation {
-            0 => number,
-            _ => place.checked_add(number)?,
-        };
+    for bytes in edge.updates(bytes) {
+        update(bytes, &mut variables)?;
     }
     Some(variables)
+}
+
+/// The number of the first update that leaves the range, where one does.
+pub(crate) fn first_out_of_range(edge: &Edge, bytes: &[u8], variables: &Variables) -> u8 {
+    let mut variables = *variables;
+    let stays = |bytes: &&[u8; UPDATE]| update(bytes, &mut variables).is_some();
+    edge.updates(bytes).iter().take_while(stays).count() as u8
+}
+
+/// One update; nothing if it leaves the range.
+#[inline]
+fn update(
+    &[variable, operation, high, low]: &[u8; UPDATE],
+    variables: &mut Variables,
+) -> Option<()> {
+    let place = &mut variables[usize::from(variable) % VARIABLES];
+    let number = two(high, low) as i16;
+    *place = match operation {
+        0 => number,
+        _ => place.checked_add(number)?,
+    };
+    Some(())
 }

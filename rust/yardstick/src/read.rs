@@ -34,7 +34,7 @@ pub(crate) fn read(bytes: &[u8], table: &mut Table) -> Result<(), Refusal> {
 }
 
 /// Checks 1 to 3: the channels, and the bytes behind the header and the bands.
-fn header<'a>(bytes: &'a [u8], table: &mut Table) -> Result<(u8, &'a [u8]), Refusal> {
+pub(crate) fn header<'a>(bytes: &'a [u8], table: &mut Table) -> Result<(u8, &'a [u8]), Refusal> {
     let Some(version @ 1..=2) = bytes.first().copied() else {
         return Err(Refusal::whole(1));
     };

@@ -53,10 +53,23 @@ struct Lane {
     row: usize,
 }
 
+/// An opening that is refused by one of checks 7 to 9.
+#[derive(Clone, Copy, Default)]
+pub(crate) struct Stop {
+    pub(crate) location: u8,
+    pub(crate) tick: u32,
+    pub(crate) clocks: Clocks,
+    pub(crate) variables: Variables,
+    /// The edge taken, with 9.
+    pub(crate) edge: u8,
+}
+
 /// The passages of a table.
 pub(crate) struct Schedule {
     list: Box<[Passage; PASSAGES]>,
     count: usize,
+    /// Where the sweep stopped last, if it did.
+    pub(crate) stop: Stop,
 }
 
 impl Default for Schedule {
@@ -64,6 +77,7 @@ impl Default for Schedule {
         Schedule {
             list: Box::new([Passage::default(); PASSAGES]),
             count: 0,
+            stop: Stop::default(),
         }
     }
 }
@@ -81,6 +95,7 @@ impl Schedule {
             table,
             bytes,
             list: &mut self.list,
+            stop: &mut self.stop,
             count: 0,
             ends: [u64::MAX; COMPONENTS],
             lanes: [Lane::default(); COMPONENTS],
@@ -97,6 +112,7 @@ struct Sweep<'a> {
     table: &'a mut Table,
     bytes: &'a [u8],
     list: &'a mut [Passage; PASSAGES],
+    stop: &'a mut Stop,
     count: usize,
     /// For each component the end of its open passage, times 8, with its
     /// number: the least one closes next. They are wider than they need to
@@ -139,23 +155,40 @@ impl Sweep<'_> {
     #[inline]
     fn open(&mut self, number: usize, location: u8, entry: u32) -> Result<(), Refusal> {
         if self.count >= PASSAGES {
-            return Err(Refusal::of(7, number));
+            return Err(self.refused(7, number, location, entry, 0));
         }
         let component = &mut self.table.components[number % COMPONENTS];
         let lane = &mut self.lanes[number % COMPONENTS];
         let values = (&lane.clocks, &lane.variables);
-        let taken = taken(component, location, self.bytes, values);
-        let taken = taken.ok_or(Refusal::of(8, number))?;
+        let Some(taken) = taken(component, location, self.bytes, values) else {
+            return Err(self.refused(8, number, location, entry, 0));
+        };
         let edge = component.edge(taken.edge);
         if edge.kind == Kind::Internal && edge.items > 0 {
-            let updated = updated(edge, self.bytes, &lane.variables);
-            lane.variables = updated.ok_or(Refusal::of(9, number))?;
+            let Some(variables) = updated(edge, self.bytes, &lane.variables) else {
+                return Err(self.refused(9, number, location, entry, taken.edge));
+            };
+            lane.variables = variables;
         }
         lane.clocks = grown(&lane.clocks, taken.end, edge.mask);
         lane.location = edge.destination;
         lane.edge = taken.edge;
         self.write(number, location, entry, taken);
         Ok(())
+    }
+
+    /// Notes where the sweep stops. The lane has what the component enters with.
+    #[cold]
+    fn refused(&mut self, check: u8, number: usize, location: u8, tick: u32, edge: u8) -> Refusal {
+        let lane = &self.lanes[number % COMPONENTS];
+        *self.stop = Stop {
+            location,
+            tick,
+            clocks: lane.clocks,
+            variables: lane.variables,
+            edge,
+        };
+        Refusal::of(check, number)
     }
 
     /// Writes the passage that opens behind the list.

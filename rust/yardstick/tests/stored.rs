@@ -5,7 +5,7 @@
 mod common;
 
 use common::*;
-use yardstick::{part, plan, Refusal, Yardstick, OBSERVATION};
+use yardstick::{part, plan, Refusal, Yardstick, NONE, OBSERVATION};
 
 fn program(yardstick: &mut Yardstick, table: &[u8]) -> Result<String, Refusal> {
     let mut program = vec![0; 65_535];
@@ -73,6 +73,72 @@ fn all_vectors() {
         }
     }
     assert_eq!(counts.len(), 7, "{counts:?}");
+}
+
+/// A number, `-` for the one that stands for none.
+fn or_none(number: u8) -> String {
+    match number {
+        NONE => "-".to_string(),
+        number => number.to_string(),
+    }
+}
+
+/// Where checks 4 to 6 stop.
+fn place(yardstick: &mut Yardstick, table: &[u8]) -> String {
+    let Some(place) = yardstick.refusal_place(table) else {
+        return "none".to_string();
+    };
+    let (edge, index) = (or_none(place.edge), or_none(place.index));
+    let numbers = [place.start, place.offset, place.width, place.value];
+    let numbers: Vec<String> = numbers.iter().map(u32::to_string).collect();
+    let (component, part, unbounded) = (place.component, place.part, u8::from(place.unbounded));
+    let first = format!("{} {component} {part} {edge} {index}", place.number);
+    let range = format!("{} {} {unbounded}", place.least, place.limit);
+    format!("{first} {} {range}", numbers.join(" "))
+}
+
+/// Where checks 7 to 9 stop.
+fn opening(yardstick: &mut Yardstick, table: &[u8]) -> String {
+    let Some(opening) = yardstick.refused_opening(table) else {
+        return "none".to_string();
+    };
+    let [a, b, c, d] = opening.clocks;
+    let [e, f, g, h] = opening.variables;
+    let (component, location) = (opening.component, opening.location);
+    let (passage, tick) = (opening.passage, opening.tick);
+    let (edge, update) = (or_none(opening.edge), or_none(opening.update));
+    let edges = [opening.leaving, opening.blocked, opening.windowless];
+    let [leaving, blocked, windowless] = edges;
+    let entry = format!("{location} {a},{b},{c},{d} {e},{f},{g},{h}");
+    let first = format!("{} {component} {passage} {tick}", opening.number);
+    format!("{first} {entry} {leaving} {blocked} {windowless} {edge} {update}")
+}
+
+#[test]
+fn the_vectors_and_the_corpus_of_places() {
+    let mut yardstick = Yardstick::new();
+    let mut counts = [0; 3];
+    for line in text("vectors/places.tsv").lines() {
+        let fields: Vec<&str> = line.split('\t').collect();
+        let (request, table) = fields[1].split_once(' ').unwrap();
+        let (at, given) = match request {
+            "place" => (0, place(&mut yardstick, &unhex(table))),
+            _ => (1, opening(&mut yardstick, &unhex(table))),
+        };
+        assert_eq!(given, fields[2], "{}", fields[0]);
+        counts[at] += 1;
+    }
+    for line in text("corpus/places.tsv").lines() {
+        let (name, answer) = line.split_once('\t').unwrap();
+        let table = bytes(&format!("corpus/{name}.bin"));
+        let given = [
+            place(&mut yardstick, &table),
+            opening(&mut yardstick, &table),
+        ];
+        assert!(given.contains(&answer.to_string()), "{name}: {given:?}");
+        counts[2] += 1;
+    }
+    assert_eq!(counts, [69, 36, 138]);
 }
 
 /// The bytes lent, the table, the choices, the spread and, unless they are

@@ -14,7 +14,7 @@ use std::error::Error;
 use std::fs;
 use std::io::{self, BufWriter, Write};
 
-use timed_network::{check_spread, largest_spread, run_apart, End, Run, Verdict};
+use timed_network::{check_spread, largest_spread, run_apart, Run, Verdict};
 use timed_network::{MAX_PASSAGES, OBSERVATION};
 
 fn main() -> Result<(), Box<dyn Error>> {
@@ -32,12 +32,12 @@ fn main() -> Result<(), Box<dyn Error>> {
     if verdict == Verdict::Accepted {
         match largest_spread(&table) {
             Ok(largest) => writeln!(out, "largest spread {largest}")?,
-            Err(refused) => writeln!(out, "{refused}")?,
+            Err(refused) => writeln!(out, "{}", Verdict::from(refused))?,
         }
         let mut bytes = vec![0; OBSERVATION * MAX_PASSAGES];
         match run_apart(&table, &choices, spread, &offsets, &mut bytes) {
             Ok(run) => print_run(&mut out, &run, &bytes)?,
-            Err(refused) => writeln!(out, "{refused}")?,
+            Err(refused) => writeln!(out, "{}", Verdict::from(refused))?,
         }
     }
     Ok(out.flush()?)
@@ -57,12 +57,7 @@ fn numbers(words: &str) -> Result<Vec<u32>, String> {
 }
 
 fn print_run(out: &mut impl Write, run: &Run, bytes: &[u8]) -> io::Result<()> {
-    let end = match run.end {
-        End::Horizon => 0,
-        End::UsedUp => 1,
-        End::Late => 2,
-        End::NotAllowed => 3,
-    };
+    let end = run.end.number();
     writeln!(out, "run {end} {} {} {}", run.node, run.tick, run.used)?;
     for observation in bytes.chunks_exact(OBSERVATION).take(run.size) {
         for byte in observation {

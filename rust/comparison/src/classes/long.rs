@@ -6,8 +6,8 @@ use super::Extent;
 use crate::difference::Outcome;
 use crate::random::Random;
 use crate::readers::refused;
-use crate::tables::bands;
 use crate::tables::planned::{greatest_horizon, passages, Size, Style};
+use crate::tables::{bands, waiting};
 use crate::trial::Trial;
 use reference::table::*;
 use timed_network::{Verdict, MAX_PASSAGES};
@@ -89,20 +89,6 @@ fn end_after(trial: &mut Trial, random: &mut Random, last: usize, number: u8) ->
         _ => answer,
     };
     trial.expect(&write_table(&table), answer)
-}
-
-/// A component that waits.
-fn waiting() -> Component {
-    Component {
-        initial: 0,
-        clocks: 1,
-        variables: 0,
-        locations: vec![Location {
-            clock: 0,
-            bound: MAX_TICKS,
-        }],
-        edges: vec![Edge::default()],
-    }
 }
 
 /// A component that opens a passage each tick, so many times, until no edge is

@@ -11,6 +11,8 @@ mod limits;
 mod long;
 mod near_misses;
 mod one_byte;
+mod openings;
+mod places;
 mod planned;
 mod programs;
 mod random_bytes;
@@ -68,7 +70,7 @@ const fn class(name: &'static str, run: fn(&mut Trial, &mut Random, &Extent) -> 
 }
 
 /// All classes, in the order in which they are tried.
-pub const CLASSES: [Class; 67] = [
+pub const CLASSES: [Class; 76] = [
     class("vectors", stored::vectors),
     class("corpus", stored::corpus),
     class("random bytes", random_bytes::anything),
@@ -139,4 +141,22 @@ pub const CLASSES: [Class; 67] = [
     class("apart: runs of plans", apart::run_plans),
     class("apart: runs of stored tables", apart::run_stored),
     class("apart: refused runs", apart::refused),
+    class("components of each stated length", places::lengths),
+    class("tables of each length", places::ends),
+    class(
+        "numbers of generated tables at their limits",
+        places::limits,
+    ),
+    class("channels listed again", places::listed_again),
+    class(
+        "stored tables, a byte or two changed",
+        places::stored_damaged,
+    ),
+    class(
+        "generated tables, a byte or two changed",
+        places::generated_damaged,
+    ),
+    class("openings: one passage too many", openings::passages),
+    class("openings: no candidate", openings::candidates),
+    class("openings: an update out of range", openings::updates),
 ];

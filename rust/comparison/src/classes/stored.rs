@@ -4,6 +4,7 @@
 use super::Extent;
 use crate::bytes::hex;
 use crate::difference::{Outcome, Stop};
+use crate::places::{refused_by, READ};
 use crate::random::Random;
 use crate::requests::{self, Apart, Request};
 use crate::runs;
@@ -21,6 +22,12 @@ pub(super) fn corpus(trial: &mut Trial, _: &mut Random, _: &Extent) -> Outcome {
     for (table, spread, answer) in stored::corpus_spreads().map_err(Stop::Unreadable)? {
         trial.expect_spread(&table, spread, answer)?;
     }
+    for (table, answer, words) in stored::corpus_places().map_err(Stop::Unreadable)? {
+        match refused_by(answer, &READ) {
+            Some(_) => trial.expect_place(&table, &words)?,
+            None => trial.expect_opening(&table, &words)?,
+        }
+    }
     Ok(())
 }
 
@@ -34,8 +41,8 @@ fn expect_all(trial: &mut Trial, tables: Result<Vec<Stored>, String>) -> Outcome
     Ok(())
 }
 
-/// The programs, parts, charts, plans, edge choices, verdicts at a spread and runs
-/// of the vectors.
+/// The programs, parts, charts, plans, edge choices, verdicts at a spread, runs and
+/// places of refusals of the vectors.
 pub(super) fn requests(trial: &mut Trial, _: &mut Random, _: &Extent) -> Outcome {
     for request in requests::requests().map_err(Stop::Unreadable)? {
         match &request {
@@ -77,6 +84,8 @@ pub(super) fn requests(trial: &mut Trial, _: &mut Random, _: &Extent) -> Outcome
                 answer,
             } => trial.expect_spread(table, *spread, *answer)?,
             Request::Apart(request) => expect_apart(trial, request)?,
+            Request::Place { table, answer } => trial.expect_place(table, answer)?,
+            Request::Opening { table, answer } => trial.expect_opening(table, answer)?,
             Request::Refused {
                 table,
                 choices,

@@ -10,6 +10,7 @@ pub mod chains;
 mod edges;
 mod exact;
 pub mod planned;
+pub mod refused_opening;
 mod values;
 
 pub use exact::{of_length, SHORTEST_EXACT};
@@ -148,6 +149,18 @@ fn with_edges(random: &mut Random, own: &Own, edges: Vec<Edge>) -> Component {
         variables: own.variables,
         locations,
         edges,
+    }
+}
+
+/// A component that waits: its first passage ends behind every horizon.
+pub fn waiting() -> Component {
+    let bound = MAX_TICKS;
+    Component {
+        initial: 0,
+        clocks: 1,
+        variables: 0,
+        locations: vec![Location { clock: 0, bound }],
+        edges: vec![Edge::default()],
     }
 }
 

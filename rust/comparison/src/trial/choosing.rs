@@ -45,7 +45,7 @@ impl Trial<'_> {
     }
 
     /// Asks both for the edge at an entry.
-    fn choose(&mut self, input: &[u8], entry: &Entry) -> Result<Chosen, Stop> {
+    pub(super) fn choose(&mut self, input: &[u8], entry: &Entry) -> Result<Chosen, Stop> {
         match edge_choices::compare(self.readers, input, entry) {
             Ok(chosen) => {
                 self.tally.edge_choices.count(&chosen);

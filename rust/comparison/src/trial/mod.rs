@@ -2,6 +2,7 @@
 //! answers are compared and counted.
 
 mod choosing;
+mod locating;
 mod running;
 mod spreading;
 
@@ -83,6 +84,7 @@ impl<'a> Trial<'a> {
             return Err(self.differs(input, "check".to_string(), unlike, expected));
         }
         self.tally.count(library);
+        self.locate(input, library)?;
         self.spread_some(input, library)?;
         match library {
             Verdict::Accepted => self.lend_for_accepted(input),

@@ -237,16 +237,25 @@ impl Edge {
     }
 
     /// The variables after the edge's updates, or nothing where one of them
-    /// leaves its range. "Updates act in order."
+    /// leaves its range.
     pub fn updated(&self, variables: &[i16; MAX_VARIABLES]) -> Option<[i16; MAX_VARIABLES]> {
+        self.updated_in_order(variables).ok()
+    }
+
+    /// The same, or the number of the first update that leaves its range. "Updates
+    /// act in order."
+    pub fn updated_in_order(
+        &self,
+        variables: &[i16; MAX_VARIABLES],
+    ) -> Result<[i16; MAX_VARIABLES], usize> {
         let mut result = *variables;
         if let Action::Internal(updates) = &self.action {
-            for update in updates.iter() {
+            for (number, update) in updates.iter().enumerate() {
                 let value = &mut result[update.variable as usize];
-                *value = update.apply(*value)?;
+                *value = update.apply(*value).ok_or(number)?;
             }
         }
-        Some(result)
+        Ok(result)
     }
 
     /// The location entered: "A receive edge leads to the location paired

@@ -143,6 +143,12 @@ pub fn vectors_apart() -> Vec<Vector> {
     read_vectors(&["apart.tsv"])
 }
 
+/// The cases of where a table is refused: `place` by checks 4 to 6, `opening` by
+/// checks 7 to 9.
+pub fn vectors_of_places() -> Vec<Vector> {
+    read_vectors(&["places.tsv"])
+}
+
 fn read_vectors(files: &[&str]) -> Vec<Vector> {
     let mut all = Vec::new();
     for file in files {

@@ -12,10 +12,7 @@ pub fn parse_component(head: &Line, inside: &[Line]) -> Result<ComponentSource, 
     if head.words.len() > 1 {
         return Err(misfit(head, Level::Table));
     }
-    let mut component = ComponentSource {
-        line: head.number,
-        ..ComponentSource::default()
-    };
+    let mut component = ComponentSource::default();
     let mut rest = inside;
     while let Some((line, after)) = rest.split_first() {
         expect_depth(line, Level::Component)?;
@@ -33,7 +30,7 @@ fn component_line(
 ) -> Result<(), SourceError> {
     if let Some(kind) = edge_kind(line.words[0]) {
         let edge = parse_edge(kind, line, inside)?;
-        component.parts.push(ComponentPart::Edge(edge));
+        component.parts.push(line.said(ComponentPart::Edge(edge)));
         return Ok(());
     }
     expect_nothing_inside(line, inside)?;
@@ -46,9 +43,8 @@ fn component_line(
         ["edges", number] => line.set(&mut component.edges, number),
         ["location", clock, "<=", bound] => add_location(component, line, clock, bound),
         ["bytes", ..] => {
-            component
-                .parts
-                .push(ComponentPart::Bytes(line.raw_bytes()?));
+            let raw = ComponentPart::Bytes(line.raw_bytes()?);
+            component.parts.push(line.said(raw));
             Ok(())
         }
         _ => Err(misfit(line, Level::Component)),
@@ -71,12 +67,13 @@ fn add_location(
     bound: &str,
 ) -> Result<(), SourceError> {
     let is_edge = |part: &ComponentPart| matches!(part, ComponentPart::Edge(_));
-    if component.parts.iter().any(is_edge) {
+    if component.parts.iter().any(|part| is_edge(&part.what)) {
         return Err(line.error("a location after an edge; the table has all locations first"));
     }
-    component.parts.push(ComponentPart::Location {
+    let location = ComponentPart::Location {
         invariant_clock: line.named('x', clock)?,
         invariant_bound: line.number(bound)?,
-    });
+    };
+    component.parts.push(line.said(location));
     Ok(())
 }

@@ -3,7 +3,7 @@
 use super::expect_depth;
 use super::forms::{misfit, Level};
 use crate::line::Line;
-use crate::source::{EdgeKind, EdgePart, EdgeSource, NO_HIGH, OP_ADD, OP_SET};
+use crate::source::{EdgeKind, EdgePart, EdgeSource, Said, NO_HIGH, OP_ADD, OP_SET};
 use crate::SourceError;
 
 /// Reads an edge line and the lines inside it.
@@ -14,7 +14,7 @@ pub fn parse_edge(kind: EdgeKind, head: &Line, inside: &[Line]) -> Result<EdgeSo
         edge_line(&mut edge, line)?;
     }
     if let Some(channel) = channel {
-        insert_channel(&mut edge, channel);
+        insert_channel(&mut edge, head.said(channel));
     }
     Ok(edge)
 }
@@ -29,11 +29,10 @@ fn edge_head(kind: EdgeKind, head: &Line) -> Result<(EdgeSource, Option<u8>), So
         _ => return Err(misfit(head, Level::Component)),
     };
     let edge = EdgeSource {
-        line: head.number,
         kind,
         source: head.number(source)?,
         destination: head.number(destination)?,
-        resets: 0,
+        resets: Vec::new(),
         stated_kind: None,
         reset_mask: None,
         clock_guards: None,
@@ -56,7 +55,7 @@ fn edge_line(edge: &mut EdgeSource, line: &Line) -> Result<(), SourceError> {
             let part = edge_part(line)?;
             check_kind(edge.kind, &part, line)?;
             check_order(&edge.parts, &part, line)?;
-            edge.parts.push(part);
+            edge.parts.push(line.said(part));
             Ok(())
         }
     }
@@ -107,13 +106,13 @@ fn update(line: &Line, op: u8, variable: &str, number: &str) -> Result<EdgePart,
 fn add_resets(edge: &mut EdgeSource, line: &Line, clocks: &[&str]) -> Result<(), SourceError> {
     for word in clocks {
         let clock = line.named('x', word)?;
-        let bit = 1u8
-            .checked_shl(u32::from(clock))
-            .ok_or_else(|| line.error(format!("{word} has no bit in the mask (x0 to x7)")))?;
-        if edge.resets & bit != 0 {
+        if clock > 7 {
+            return Err(line.error(format!("{word} has no bit in the mask (x0 to x7)")));
+        }
+        if edge.resets.iter().any(|reset| reset.what == clock) {
             return Err(line.error(format!("{word} is reset a second time")));
         }
-        edge.resets |= bit;
+        edge.resets.push(line.said(clock));
     }
     Ok(())
 }
@@ -132,9 +131,9 @@ fn check_kind(kind: EdgeKind, part: &EdgePart, line: &Line) -> Result<(), Source
 }
 
 /// Clock bounds come before data bounds, and both before items.
-fn check_order(before: &[EdgePart], part: &EdgePart, line: &Line) -> Result<(), SourceError> {
+fn check_order(before: &[Said<EdgePart>], part: &EdgePart, line: &Line) -> Result<(), SourceError> {
     let stage = stage_of(part);
-    if stage > 0 && before.iter().any(|earlier| stage_of(earlier) > stage) {
+    if stage > 0 && before.iter().any(|earlier| stage_of(&earlier.what) > stage) {
         return Err(line.error("out of order: first 'when', then 'data', then the items"));
     }
     Ok(())
@@ -151,12 +150,16 @@ fn stage_of(part: &EdgePart) -> u8 {
 }
 
 /// The channel of a send stands directly after its last bound.
-fn insert_channel(edge: &mut EdgeSource, channel: u8) {
-    let is_guard = |part: &EdgePart| matches!(stage_of(part), 1 | 2);
+fn insert_channel(edge: &mut EdgeSource, channel: Said<u8>) {
+    let is_guard = |part: &Said<EdgePart>| matches!(stage_of(&part.what), 1 | 2);
     let place = edge
         .parts
         .iter()
         .rposition(is_guard)
         .map_or(0, |last| last + 1);
-    edge.parts.insert(place, EdgePart::SendChannel(channel));
+    let item = Said {
+        line: channel.line,
+        what: EdgePart::SendChannel(channel.what),
+    };
+    edge.parts.insert(place, item);
 }

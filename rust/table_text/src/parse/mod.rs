@@ -5,7 +5,7 @@ mod edge;
 mod forms;
 
 use crate::line::{split_lines, Line};
-use crate::source::{Cut, TablePart, TableSource};
+use crate::source::{TablePart, TableSource};
 use crate::SourceError;
 use forms::{misfit, Level};
 
@@ -32,7 +32,7 @@ fn table_line(table: &mut TableSource, line: &Line, inside: &[Line]) -> Result<(
     expect_depth(line, Level::Table)?;
     if line.words[0] == "component" {
         let component = component::parse_component(line, inside)?;
-        table.parts.push(TablePart::Component(component));
+        table.parts.push(line.said(TablePart::Component(component)));
         return Ok(());
     }
     expect_nothing_inside(line, inside)?;
@@ -43,9 +43,10 @@ fn table_line(table: &mut TableSource, line: &Line, inside: &[Line]) -> Result<(
         ["channels", number] => line.set(&mut table.channels, number),
         ["horizon", number] => line.set(&mut table.horizon, number),
         ["bands", bands @ ..] => set_bands(table, line, bands),
-        ["cut", number] => set_cut(table, line, number),
+        ["cut", number] => line.set(&mut table.cut, number),
         ["bytes", ..] => {
-            table.parts.push(TablePart::Bytes(line.raw_bytes()?));
+            let raw = TablePart::Bytes(line.raw_bytes()?);
+            table.parts.push(line.said(raw));
             Ok(())
         }
         _ => Err(misfit(line, Level::Table)),
@@ -57,17 +58,7 @@ fn set_bands(table: &mut TableSource, line: &Line, words: &[&str]) -> Result<(),
         return Err(line.error("the bands are stated a second time"));
     }
     let bands: Result<Vec<u8>, SourceError> = words.iter().map(|word| line.number(word)).collect();
-    table.bands = Some(bands?);
-    Ok(())
-}
-
-fn set_cut(table: &mut TableSource, line: &Line, word: &str) -> Result<(), SourceError> {
-    let mut count = table.cut.take().map(|cut| cut.count);
-    line.set(&mut count, word)?;
-    table.cut = count.map(|count| Cut {
-        line: line.number,
-        count,
-    });
+    table.bands = Some(line.said(bands?));
     Ok(())
 }
 

@@ -10,7 +10,7 @@ use std::env;
 use std::io::{self, Read, Write};
 use std::process::ExitCode;
 use std::str::FromStr;
-use timed_network::{edge_choice, EdgeChoice, Entry, TakenEdge};
+use timed_network::{edge_choice, EdgeChoice, Entry, TakenEdge, Verdict};
 
 const USAGE: &str = "usage: edge_choice COMPONENT LOCATION CLOCKS VARIABLES < table.bin
   COMPONENT, LOCATION   their numbers, 0 to 255, counted from 0
@@ -74,7 +74,7 @@ fn answer(entry: &Entry) -> io::Result<bool> {
             Ok(choice.taken.is_some())
         }
         Err(refused) => {
-            eprintln!("{refused}");
+            eprintln!("{}", Verdict::from(refused));
             Ok(false)
         }
     }

@@ -1,7 +1,8 @@
 //! What several tests use.
 #![allow(dead_code)]
 
-use timed_network::Verdict;
+use std::fs;
+use timed_network::{Refused, Verdict};
 
 /// "Probe and hub": 103 bytes.
 pub const PROBE_AND_HUB: [u8; 103] = [
@@ -32,9 +33,32 @@ pub fn refused(number: u8, component: u8) -> Verdict {
     Verdict::Refused { number, component }
 }
 
+/// The same as the error of a result.
+pub fn refusal(number: u8, component: u8) -> Refused {
+    refused(number, component).into_result().unwrap_err()
+}
+
 /// The worked example with one byte changed.
 pub fn with(at: usize, byte: u8) -> Vec<u8> {
     let mut table = PROBE_AND_HUB.to_vec();
     table[at] = byte;
     table
+}
+
+/// A file of the repository.
+pub fn file(name: &str) -> Vec<u8> {
+    let root = concat!(env!("CARGO_MANIFEST_DIR"), "/../../");
+    fs::read(root.to_owned() + name).unwrap()
+}
+
+/// A text of the repository.
+pub fn text(name: &str) -> String {
+    String::from_utf8(file(name)).unwrap()
+}
+
+/// The bytes of a hexadecimal text, `-` for none.
+pub fn unhex(text: &str) -> Vec<u8> {
+    let byte = |at: usize| u8::from_str_radix(&text[at..at + 2], 16).unwrap();
+    let places = (0..text.len()).step_by(2).filter(|_| text != "-");
+    places.map(byte).collect()
 }
