@@ -57,9 +57,11 @@ command_help() {
 usage: vanillatarn verdict [--spread G] [--json|--quiet] TABLE...
 
 Says whether the table is accepted. If it is not: `refused`, the number of the
-check, the component; the question in words; after 10 to 12 and 15 to 17 also
-which windows met, and where a send is not heard well the remedy.
-docs/REFUSALS.md lists the numbers. Of several tables each answer stands behind
+check, the component; the question in words; after 4 to 6 the byte at which the
+check stopped, after 7 to 9 the passage that could not be opened, and why, both
+with the line where the table is a text; after 10 to 12 and 15 to 17 which
+windows met, and where a send is not heard well the remedy. docs/REFUSALS.md
+lists the numbers. Of several tables each answer stands behind
 the file's name; a file that cannot be judged is told on standard error, and the
 others are judged all the same.
 
@@ -214,11 +216,11 @@ TEXT
 usage: vanillatarn install PREFIX
 
 Builds everything and copies it to the folder PREFIX, which is made if it is not
-there: bin/vanillatarn, lib/libtimed_network.a, include/timed_network.h,
-lib/pkgconfig/timed_network.pc, the documents for users in share/doc/vanillatarn,
-the tables of the tutorial in share/vanillatarn, and what the command needs in
-libexec/vanillatarn. What is there of an earlier installation is replaced. The
-folder can be moved.
+there: bin/vanillatarn, lib/libtimed_network.a, include/timed_network.h and
+timed_network_text.h, lib/pkgconfig/timed_network.pc, the documents for users in
+share/doc/vanillatarn, the tables of the tutorial in share/vanillatarn, and what
+the command needs in libexec/vanillatarn. What is there of an earlier
+installation is replaced. The folder can be moved.
 
 The installed command needs neither rt nor cargo, and never builds.
 

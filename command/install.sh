@@ -70,7 +70,7 @@ do_install() {
     need_all
     put_command
     put lib "$library"
-    put include "$root/include/timed_network.h"
+    put include "$root"/include/*.h
     package_text >"$scratch/timed_network.pc" || no_scratch
     put lib/pkgconfig "$scratch/timed_network.pc"
     put share/vanillatarn "$root"/examples/tables/*.txt

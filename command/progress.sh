@@ -1,25 +1,6 @@
 # What is told while something is built: which crate was proved, of how many, and at least every ten seconds a sign of life.
 # shellcheck shell=bash
-# shellcheck disable=SC2154 # root and say are those of vanillatarn, or of tools/archive
-
-# How many crates of crates.txt a crate is made of, itself included.
-count_crates() {
-    local -A needs=() seen=()
-    local name rest more=() queue=("$1")
-    [[ -r $root/crates.txt ]] || return 0
-    while IFS=: read -r name rest; do
-        needs[${name:-#}]=$rest
-    done <"$root/crates.txt"
-    while ((${#queue[@]} > 0)); do
-        name=${queue[0]}
-        queue=("${queue[@]:1}")
-        [[ -v needs[$name] && -z ${seen[$name]-} ]] || continue
-        seen[$name]=yes
-        read -r -a more <<<"${needs[$name]}"
-        queue+=("${more[@]}")
-    done
-    echo "${#seen[@]}"
-}
+# shellcheck disable=SC2154 # say is that of vanillatarn, or of tools/archive
 
 # Says once that a build has begun. Where all is found unchanged it is never said.
 announce() {

@@ -1,9 +1,9 @@
 # `vanillatarn run`, `choices` and `spread`; and nodes that wake apart, the options --spread and --offsets.
 # shellcheck shell=bash
-# shellcheck disable=SC2034,SC2154 # vanillatarn sets table, files, scratch, manner and refused and reads spread; number is set by read_decimal
+# shellcheck disable=SC2034,SC2154 # vanillatarn sets table, files, scratch, manner, refused and spread; number is set by read_decimal
 
-# The spread, and the offsets with commas between them, as the programs take them: none are given. The largest of the offsets.
-spread=0 offsets=- largest=0
+# The offsets with commas between them, as the programs take them: none are given. The largest of them.
+offsets=- largest=0
 
 # What was given already.
 given_spread='' given_offsets=''

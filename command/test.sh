@@ -407,7 +407,7 @@ chart cellar.bin -o file|'chart' has no option -o
 translate --late cellar.bin|'translate' has no option --late
 TEXT
 
-for part in build kinds numbers spread verdict svg install words; do
+for part in build kinds numbers spread verdict places svg install words; do
     # shellcheck source=/dev/null # build first: others use its root
     source "$root/command/test_$part.sh"
 done

@@ -2,10 +2,14 @@
 # shellcheck shell=bash
 # shellcheck disable=SC2034,SC2154 # test.sh sets root and work, and looks at what and status
 
-mkdir -p "$work/tree/crates" "$work/tools"
+mkdir -p "$work/tools" "$work/tree/crates"/{parts,schedule_printer,other}/{src,proofs,must-fail} "$work/tree/crates/parts/specs/deep"
+for name in parts schedule_printer other; do
+    touch "$work/tree/crates/$name"/{src/lib.rt,proofs/Lib.antt,must-fail/fault.edit}
+done
+touch "$work/tree/crates/parts/specs/deep/Words.antt"
 cp -r "$root/vanillatarn" "$root/command" "$work/tree"
 printf '# A comment.\nparts:\nschedule_printer: parts io\nother: parts\n' >"$work/tree/crates.txt"
-for name in bash cat head wc find basename dirname readlink mktemp rm mkdir touch tee grep env chmod sleep; do
+for name in bash cat head wc find basename dirname readlink mktemp rm mkdir touch tee grep env chmod sleep sort cp mv; do
     ln -s "$(command -v "$name")" "$work/tools/$name"
 done
 
@@ -59,6 +63,7 @@ rm -r "$work/tree/target"
 cat >"$work/tools/rt" <<'TEXT'
 #!/usr/bin/env bash
 mkdir -p target/bin
+echo asked >>asked
 echo "rt: parts proved (unchanged since it was last proved)"
 echo "rt: $2 proved (2 s)"
 echo 'a detail'
@@ -73,25 +78,119 @@ says 0
 starts 'c e l entry'
 check 'nothing is built twice' test ! -s err
 
-# A source that is newer than the program: rt is asked once more, and then no longer, though the program stays as old as it is.
-touch -d '2 hours ago' "$work/tree/target/bin/schedule_printer" "$work/tree/target/command/schedule_printer"
-touch -d '1 hour ago' "$work/tree/crates/source"
-for folder in crates crates.txt; do
-    touch -d '1 hour ago' "$work/tree/$folder"
+## When rt is asked
+
+# Makes the sources three hours old, and what was built two.
+age() {
+    find "$work/tree/crates" "$work/tree/crates.txt" -exec touch -d '3 hours ago' {} +
+    find "$work/tree/target" -exec touch -d '2 hours ago' {} +
+}
+
+# How often rt was asked.
+asked() {
+    wc -l <"$work/tree/asked"
+}
+
+# What has happened since the build, in words, and the command that makes it so: rt is asked by the next call, and by none after it, though
+# the program stays as old as it is.
+asks_after() {
+    age
+    "${@:2}"
+    : >"$work/tree/asked"
+    call_there schedule cellar.bin
+    says 0
+    starts 'c e l entry'
+    check "rt is asked after: $1" test "$(asked)" -eq 1
+    cp err "$work/told"
+    call_there schedule cellar.bin
+    check "rt is asked once after: $1" test "$(asked)" -eq 1
+    check 'and nothing is said' test ! -s err
+}
+
+# The same where rt has nothing to do with it.
+asks_not_after() {
+    age
+    "${@:2}"
+    : >"$work/tree/asked"
+    call_there schedule cellar.bin
+    says 0
+    starts 'c e l entry'
+    check "rt is not asked after: $1" test "$(asked)" -eq 0
+}
+
+crates="$work/tree/crates" target="$work/tree/target"
+asks_after 'code was changed' touch "$crates/parts/src/lib.rt"
+printf 'vanillatarn: %s\n' 'building schedule_printer, once; it can be stopped, and goes on where it was' '[2 of 2] schedule_printer' >"$work/expected"
+check 'its progress is shown, and nothing else' cmp -s "$work/expected" "$work/told"
+asks_after "the program's own code was changed" touch "$crates/schedule_printer/src/lib.rt"
+asks_after 'a definition was changed' touch "$crates/parts/specs/deep/Words.antt"
+asks_after 'a definition was added' touch "$crates/parts/specs/Numbers.antt"
+asks_after 'a definition was taken away' rm "$crates/parts/specs/Numbers.antt"
+asks_after 'the list of crates was changed' touch "$work/tree/crates.txt"
+mkdir "$work/earlier"
+touch -d '4 hours ago' "$work/earlier/lib.rt" "$work/earlier"
+put_earlier() {
+    rm -r "$crates/parts/src"
+    mv "$work/earlier" "$crates/parts/src"
+}
+asks_after 'an older folder was put in the place of one' put_earlier
+lose_note() {
+    : >"$target/command/schedule_printer"
+}
+asks_after 'the note of its sources was lost' lose_note
+asks_not_after 'nothing' true
+asks_not_after 'a proof was changed' touch "$crates/parts/proofs/Lib.antt"
+asks_not_after 'a proof was added' touch "$crates/parts/proofs/New.antt"
+asks_not_after 'an edit that must fail was changed' touch "$crates/parts/must-fail/fault.edit"
+asks_not_after 'a crate that it is not made of was changed' touch "$crates/other/src/lib.rt"
+
+# Code that was changed an hour ago, and a program that was built by hand so many minutes ago.
+build_by_hand() {
+    touch -d '60 minutes ago' "$crates/parts/src/lib.rt"
+    touch -d "$1 minutes ago" "$target/bin/schedule_printer"
+}
+asks_not_after 'code was changed, and the program was built by hand' build_by_hand 50
+asks_after 'the program was built by hand, and code was changed' build_by_hand 70
+
+# What is changed while rt is at work is newer than what it has built.
+cp "$work/tools/rt" "$work/kept"
+# shellcheck disable=SC2016 # meant for the file
+printf '%s\n' 'sleep 0.1; touch crates/parts/src/lib.rt; sleep 0.1; touch "target/bin/$2"' >>"$work/tools/rt"
+age
+touch "$crates/parts/src/lib.rt"
+: >"$work/tree/asked"
+for _ in 1 2; do
+    call_there schedule cellar.bin
 done
-call_there schedule cellar.bin
-says 0
-starts 'c e l entry'
-printf 'vanillatarn: %s\n' 'building schedule_printer, once; it can be stopped, and goes on where it was' '[2 of 2] schedule_printer' >expected
-check 'its progress is shown, and nothing else' cmp -s expected err
-call_there schedule cellar.bin
-check 'nothing is built twice' test ! -s err
+check 'rt is asked again after a change during its work' test "$(asked)" -eq 2
+cp "$work/kept" "$work/tools/rt"
 
 # A program that writes something else.
 printf '#!/usr/bin/env bash\necho perhaps\n' >"$work/tree/target/bin/schedule_printer"
 call_there schedule cellar.bin
 says 3
 check 'an answer that is none is told' grep -q 'schedule_printer failed' err
+
+# The two programs of `verdict` have one note. The command becomes the tool; where it cannot, that is told.
+mkdir -p "$work/tree/rust/target/release"
+cp "$target/bin/schedule_printer" "$target/bin/verdict_printer"
+# shellcheck disable=SC2016 # meant for the file
+printf '#!/usr/bin/env bash\necho "$@"\nexit 1\n' >"$work/tree/rust/target/release/table_verdicts"
+chmod +x "$work/tree/rust/target/release/table_verdicts"
+age
+printf 'crates\ncrates.txt\n' >"$target/command/verdict"
+call_there verdict cellar.bin
+says 1
+starts "words $target/bin/verdict_printer 0 cellar.bin"
+check 'nothing is built' test ! -s err
+chmod -x "$work/tree/rust/target/release/table_verdicts"
+call_there verdict cellar.bin
+says 3
+complains 'table_verdicts failed'
+rm "$target/bin/verdict_printer"
+call_there verdict cellar.bin
+says 3
+complains 'the sources of verdict cannot be listed'
 
 # An rt that finds nothing to do says nothing, one that is slow gives signs of life.
 rm -r "$work/tree/target"

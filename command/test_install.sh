@@ -7,8 +7,8 @@ call install 'a new/pre fix'
 says 0
 printf 'installed in %s\n' "$prefix" >expected
 gives expected
-for file in bin/vanillatarn lib/libtimed_network.a include/timed_network.h lib/pkgconfig/timed_network.pc share/vanillatarn/cellar.txt \
-    share/vanillatarn/accident.txt share/doc/vanillatarn/TUTORIAL.md share/doc/vanillatarn/LICENSE; do
+for file in bin/vanillatarn lib/libtimed_network.a include/timed_network.h include/timed_network_text.h lib/pkgconfig/timed_network.pc \
+    share/vanillatarn/cellar.txt share/vanillatarn/accident.txt share/doc/vanillatarn/TUTORIAL.md share/doc/vanillatarn/LICENSE; do
     check "there is $file" test -s "$prefix/$file"
 done
 check 'the archive is the one that was built' cmp -s "$prefix/lib/libtimed_network.a" "$root/target/staticlib/libtimed_network.a"
@@ -109,6 +109,13 @@ if command -v pkg-config >/dev/null && command -v cc >/dev/null; then
     ./network cellar.bin early.bin >out 2>err || status=$?
     says 0
     starts accepted
+    what='the words of the installed header'
+    eval "cc -o words '$root/examples/c/words.c' $(PKG_CONFIG_PATH="$prefix/lib/pkgconfig" pkg-config --cflags timed_network)" \
+        >out 2>err || status=$?
+    says 0
+    ./words 1 >out 2>err || status=$?
+    says 0
+    starts 'Is the first byte 1 or 2?'
     PKG_CONFIG_PATH="$prefix/lib/pkgconfig" pkg-config --modversion timed_network >out
     check 'the version is that of the file' cmp -s out "$root/VERSION"
 fi

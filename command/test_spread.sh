@@ -148,17 +148,17 @@ call verdict --spread 0002 wide.bin
 says 0
 call verdict --json --spread 1001 wide.bin
 says 1
-printf '{"file":"wide.bin","spread":1001,"accepted":false,"number":19,"component":null,"windows":[]}\n' >expected
+printf '{"file":"wide.bin","spread":1001,"accepted":false,"number":19,"component":null,"place":null,"windows":[]}\n' >expected
 gives expected
 call verdict --json --spread 1 cellar.bin
 says 1
-printf '{"file":"cellar.bin","spread":1,"accepted":false,"number":16,"component":0,"windows":[%s,%s]}\n' \
+printf '{"file":"cellar.bin","spread":1,"accepted":false,"number":16,"component":0,"place":null,"windows":[%s,%s]}\n' \
     '{"component":0,"edge":0,"location":0,"entry":0,"ready":3,"end":5,"message":0}' \
     '{"component":1,"edge":0,"location":0,"entry":0,"ready":2,"end":6,"message":0}' >expected
 gives expected
 call verdict --spread 2 --json wide.txt
 says 0
-printf '{"file":"wide.txt","spread":2,"accepted":true,"number":0,"component":null,"windows":[]}\n' >expected
+printf '{"file":"wide.txt","spread":2,"accepted":true,"number":0,"component":null,"place":null,"windows":[]}\n' >expected
 gives expected
 
 ## Runs

@@ -50,8 +50,21 @@ for file in "${tables[@]}"; do
         printf '{"file":"%s","accepted":false,"number":%s,"component":%s,\n' "$file" "$number" "$component"
     fi
 done >expected
-sed 's/"windows":.*//' objects >found
+sed 's/"place":.*//' objects >found
 check 'each has the stored answer' cmp -s expected found
+
+# After 4 to 9 there is a place, else none.
+grep -E '"number":[4-9],' objects >stopped
+check 'there are such tables' test "$(wc -l <stopped)" -gt 100
+check 'each has a place' test "$(grep -c '"place":{.*,"line":null[,}]' stopped)" -eq "$(wc -l <stopped)"
+check 'no other has one' test "$(grep -c '"place":null,' objects)" -eq "$((${#tables[@]} - $(wc -l <stopped)))"
+
+# The byte at fault is that of which the verified program tells.
+sed -n -E 's/.*"byte":([0-9]+),.*"value":([0-9]+),.*/\1 \2/p' objects >found
+for file in "${tables[@]}"; do
+    "$printer" <"$file"
+done | sed -n -E 's/.*\(byte ([0-9]+)\): .*(is|there:|over:|channel) ([0-9]+).*/\1 \3/p' >expected
+check 'bytes and values are those of the words' cmp -s expected found
 
 # The windows are those of which the verified program tells: component, edge, first and last tick, in its order.
 grep -o '{"component":[0-9]*,"edge":[0-9]*,"location":[0-9]*,"entry":[0-9]*,"ready":[0-9]*,"end":[0-9]*' objects |
@@ -66,11 +79,11 @@ if command -v python3 >/dev/null && python3 -c '' 2>/dev/null; then
 fi
 call verdict --json cellar.bin
 says 0
-printf '{"file":"cellar.bin","accepted":true,"number":0,"component":null,"windows":[]}\n' >expected
+printf '{"file":"cellar.bin","accepted":true,"number":0,"component":null,"place":null,"windows":[]}\n' >expected
 gives expected
 call verdict incident.txt --json
 says 1
-printf '{"file":"incident.txt","accepted":false,"number":16,"component":0,"windows":[%s,%s]}\n' \
+printf '{"file":"incident.txt","accepted":false,"number":16,"component":0,"place":null,"windows":[%s,%s]}\n' \
     '{"component":0,"edge":0,"location":0,"entry":0,"ready":3,"end":5,"message":0}' \
     '{"component":1,"edge":0,"location":0,"entry":0,"ready":3,"end":6,"message":null}' >expected
 gives expected
@@ -111,7 +124,7 @@ mkdir -p 'a "folder"'
 cp cellar.bin 'a "folder"/a cellar.bin'
 call verdict --json 'a "folder"/a cellar.bin'
 says 0
-printf '{"file":"a \\"folder\\"/a cellar.bin","accepted":true,"number":0,"component":null,"windows":[]}\n' >expected
+printf '{"file":"a \\"folder\\"/a cellar.bin","accepted":true,"number":0,"component":null,"place":null,"windows":[]}\n' >expected
 gives expected
 cp cellar.bin ./--json
 call verdict --quiet -- --json
