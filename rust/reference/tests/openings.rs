@@ -10,33 +10,6 @@ use reference::opening::{NoCandidate, OpeningFault, RefusedOpening};
 use reference::schedule::{schedule, MAX_PASSAGES};
 use reference::table::*;
 
-/// A table of components without channels.
-fn table(horizon: u16, components: Vec<Component>) -> Table {
-    Table {
-        version: 1,
-        bands: Vec::new(),
-        channels: 0,
-        horizon,
-        components,
-    }
-}
-
-/// A component with one clock and one variable.
-fn component(bounds: &[u16], edges: Vec<Edge>) -> Component {
-    Component {
-        initial: 0,
-        clocks: 1,
-        variables: 1,
-        locations: bounds.iter().map(|b| location(*b)).collect(),
-        edges,
-    }
-}
-
-/// A component that passes every `period` ticks.
-fn steady(period: u16) -> Component {
-    component(&[period], vec![edge(0, 0, 1, 0, internal(&[]))])
-}
-
 fn opening(table: &Table) -> Option<RefusedOpening> {
     refused_opening(&write_table(table))
 }

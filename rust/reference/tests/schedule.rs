@@ -7,33 +7,6 @@ use common::*;
 use reference::schedule::*;
 use reference::table::*;
 
-/// A table of components without channels.
-fn table(horizon: u16, components: Vec<Component>) -> Table {
-    Table {
-        version: 1,
-        bands: Vec::new(),
-        channels: 0,
-        horizon,
-        components,
-    }
-}
-
-/// A component with one clock and one variable.
-fn component(bounds: &[u16], edges: Vec<Edge>) -> Component {
-    Component {
-        initial: 0,
-        clocks: 1,
-        variables: 1,
-        locations: bounds.iter().map(|b| location(*b)).collect(),
-        edges,
-    }
-}
-
-/// A component that passes every `period` ticks.
-fn steady(period: u16) -> Component {
-    component(&[period], vec![edge(0, 0, 1, 0, internal(&[]))])
-}
-
 fn refusal(table: &Table) -> Option<Refusal> {
     assert_eq!(read_table(&write_table(table)).as_ref(), Ok(table));
     schedule(table).err()

@@ -231,3 +231,30 @@ pub fn change(bytes: &mut [u8], numbers: &mut Numbers) {
         }
     }
 }
+
+/// A table of components without channels.
+pub fn table(horizon: u16, components: Vec<Component>) -> Table {
+    Table {
+        version: 1,
+        bands: Vec::new(),
+        channels: 0,
+        horizon,
+        components,
+    }
+}
+
+/// A component with one clock and one variable.
+pub fn component(bounds: &[u16], edges: Vec<Edge>) -> Component {
+    Component {
+        initial: 0,
+        clocks: 1,
+        variables: 1,
+        locations: bounds.iter().map(|b| location(*b)).collect(),
+        edges,
+    }
+}
+
+/// A component that passes every `period` ticks.
+pub fn steady(period: u16) -> Component {
+    component(&[period], vec![edge(0, 0, 1, 0, internal(&[]))])
+}
