@@ -39,6 +39,10 @@ make_anew() {
     "$@"
 }
 
+# All that the command will need, so that what is built is counted as one. Each word is one of: program:NAME, a verified program; library:,
+# the verified library; tool:NAME:PACKAGE, a tool in Rust; linked:NAME:PACKAGE, one that has the library in it.
+will_need=()
+
 # A verified program.
 need_program() {
     tool="$programs/$1"
