@@ -31,11 +31,15 @@ is_current() {
     done
 }
 
-# Makes what is not current: the function of command/make.sh that does, its words.
+# Makes what is not current: the function of command/make.sh that does, its words. That file is read once, since it counts what is made.
+makes=''
 make_anew() {
     [[ -z $installed ]] || stop "$broken" "${tool##*/} is missing in $root: install vanillatarn once more"
-    # shellcheck source=command/make.sh
-    source "$root/command/make.sh"
+    if [[ -z $makes ]]; then
+        makes=yes
+        # shellcheck source=command/make.sh
+        source "$root/command/make.sh"
+    fi
     "$@"
 }
 

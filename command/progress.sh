@@ -11,7 +11,7 @@ declare -A units=() finished=()
 began='' told=0 announced=''
 
 # How many seconds of proofs a second by the clock is, in hundredths, as measured on two cores.
-readonly measured_pace=165
+measured_pace=165
 
 # The seconds that it takes to prove each crate (command/seconds.txt), read once; 10 for one that is not listed there.
 declare -A seconds=()
