@@ -5,7 +5,7 @@
 
 # Each crate, package and archive that has to be there, and those that are: crate:NAME, package:NAME, archive:. Behind each the seconds that it
 # takes.
-declare -A units=() finished=()
+declare -gA units=() finished=()
 
 # When the first tool began, what was said last, and whether it was said that something is built.
 began='' told=0 announced=''
@@ -14,7 +14,7 @@ began='' told=0 announced=''
 measured_pace=165
 
 # The seconds that it takes to prove each crate (command/seconds.txt), read once; 10 for one that is not listed there.
-declare -A seconds=()
+declare -gA seconds=()
 read_seconds() {
     local name number
     ((${#seconds[@]} == 0)) || return 0
@@ -76,7 +76,7 @@ time_left() {
     for unit in "${!units[@]}"; do
         if [[ -v finished[$unit] ]]; then made=$((made + finished[$unit])); else left=$((left + units[$unit])); fi
     done
-    ((made < 60 || took < 30)) || pace=$((100 * made / took))
+    ((made < 60 || took < 30)) || pace=$(((100 * made / took + measured_pace) / 2))
     left=$((100 * left / (pace > 0 ? pace : 1)))
     if ((left >= 90)); then
         printf 'about %s min left' $(((left + 30) / 60))
