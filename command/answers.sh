@@ -111,13 +111,13 @@ print_answer() {
 ## The commands
 
 do_schedule() {
-    take_table
+    take_table program:schedule_printer
     need_program schedule_printer
     print_answer 'c e l '
 }
 
 do_translate() {
-    take_table
+    take_table program:translate_table
     need_program translate_table
     ask <"$scratch/table"
     case $(first_line err) in
@@ -152,6 +152,7 @@ do_list() {
 
 do_part() {
     local node=${files[1]}
+    will_need=(tool:table_text:table_text linked:program_part:timed_network)
     if ! [[ $node =~ ^[0-9]{1,3}$ ]] || ((10#$node > 255)); then
         misused "'$node' is not the number of a node"
     fi

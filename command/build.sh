@@ -31,13 +31,21 @@ is_current() {
     done
 }
 
-# Makes what is not current: the function of command/make.sh that does, its words.
+# Makes what is not current: the function of command/make.sh that does, its words. That file is read once, since it counts what is made.
+makes=''
 make_anew() {
     [[ -z $installed ]] || stop "$broken" "${tool##*/} is missing in $root: install vanillatarn once more"
-    # shellcheck source=command/make.sh
-    source "$root/command/make.sh"
+    if [[ -z $makes ]]; then
+        makes=yes
+        # shellcheck source=command/make.sh
+        source "$root/command/make.sh"
+    fi
     "$@"
 }
+
+# All that the command will need, so that what is built is counted as one. Each word is one of: program:NAME, a verified program; library:,
+# the verified library; tool:NAME:PACKAGE, a tool in Rust; linked:NAME:PACKAGE, one that has the library in it.
+will_need=()
 
 # A verified program.
 need_program() {

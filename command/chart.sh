@@ -18,8 +18,13 @@ chart_option() {
 
 do_chart() {
     [[ -n $svg || ${#ticks[@]} -eq 0 ]] || misused "${ticks[0]} is for --svg alone"
-    take_table
-    if [[ -n $svg ]]; then draw_chart; else print_chart; fi
+    if [[ -n $svg ]]; then
+        take_table linked:schedule_svg:schedule_svg
+        draw_chart
+    else
+        take_table program:chart_printer
+        print_chart
+    fi
 }
 
 print_chart() {

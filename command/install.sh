@@ -4,13 +4,20 @@
 
 # All programs and tools that a command needs. Of a tool the package stands behind the colon.
 all_programs=(schedule_printer chart_printer verdict_printer spread_printer plan_table translate_table program_listing trial_run)
-all_tools=(table_text:table_text make_choices:choices)
-all_linked=(program_part:timed_network edge_choice:timed_network table_verdicts:verdicts schedule_svg:schedule_svg)
+all_tools=(table_text:table_text make_choices:choices table_verdicts:verdicts)
+all_linked=(program_part:timed_network edge_choice:timed_network json_verdicts:json_verdicts schedule_svg:schedule_svg)
 user_docs=("$root"/docs/{TUTORIAL,FORMATS,REFUSALS,TABLE-TEXT,LINKING}.md "$root"/{CHANGELOG.md,LICENSE})
 
-# Builds all of them.
+# Builds all of them. What is missing is proved in one go, two crates at a time.
 need_all() {
-    local name
+    local name wanted=()
+    for name in "${all_programs[@]}"; do
+        is_current "$name" "$programs/$name" || wanted+=("program:$name")
+    done
+    library="$root/target/staticlib/libtimed_network.a"
+    is_current "${library##*/}" "$library" || wanted+=(library:)
+    will_need=("${all_tools[@]/#/tool:}" "${all_linked[@]/#/linked:}")
+    ((${#wanted[@]} == 0)) || make_anew prove_together "${wanted[@]}"
     for name in "${all_programs[@]}"; do
         need_program "$name"
     done

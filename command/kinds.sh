@@ -9,9 +9,11 @@ may_be_text() {
     [[ -n $first && ($first != [[:cntrl:]] || $first == [[:space:]]) ]]
 }
 
-# Copies a table. Of a text that stands in its place the table is made.
+# Copies a table: the words of `will_need` for what is asked of it. Of a text that stands in its place the table is made.
 take_table() {
+    will_need=("$@")
     take_some "$table" table 10000000 ''
+    ! may_be_text table || will_need+=(tool:table_text:table_text)
     ! may_be_text table || encode_table
     at_most "$table" table 8192 'a table has'
 }

@@ -7,22 +7,25 @@ source "$root/command/progress.sh"
 
 ## The sources
 
-# A crate of crates.txt and those that it is made of, a line each.
+# Crates of crates.txt and those that they are made of, a line each, in the order of that file, which is the one in which they are proved fastest.
 crates_of() {
     local -A needs=() seen=()
-    local name rest more=() queue=("$1")
+    local name rest more=() queue=("$@") listed=()
     [[ -r $root/crates.txt ]] || return 0
     while IFS=: read -r name rest; do
         needs[${name:-#}]=$rest
+        listed+=("${name:-#}")
     done <"$root/crates.txt"
     while ((${#queue[@]} > 0)); do
         name=${queue[0]}
         queue=("${queue[@]:1}")
         [[ -v needs[$name] && -z ${seen[$name]-} ]] || continue
         seen[$name]=yes
-        echo "$name"
         read -r -a more <<<"${needs[$name]}"
         queue+=("${more[@]}")
+    done
+    for name in "${listed[@]}"; do
+        [[ -z ${seen[$name]-} ]] || echo "$name"
     done
 }
 
@@ -115,40 +118,50 @@ is_made_by_hand() {
 
 ## The tools
 
-# Runs a tool in a process group of its own, so that Ctrl-C ends all of it: what rt has in the background would go on. Standard input is
-# not the tool's.
-stoppable() {
-    local group
-    set -m
-    "$@" </dev/null &
-    group=$!
-    trap 'kill -TERM -- "-$group"; exit 130' INT TERM
-    wait "$group"
+# The process group of the tool that is at work.
+group=''
+
+# Ends the tool with all that it has in the background, and the command with it.
+end_build() {
+    trap '' INT TERM HUP
+    [[ -z $group ]] || kill -TERM -- "-$group" 2>/dev/null || true
+    exit "$1"
 }
 
-# Runs a tool in the root: what is built, of how many crates, the tool with its words. Its progress is told; after a failure all that it
-# said.
+# Runs a tool in the root, in a process group of its own: what is built, the tool with its words. Its progress is told; after a failure all
+# that it said. A signal to this process alone ends it too. Standard input is not the tool's.
 build() {
-    local name=$1 total=$2 log
-    shift 2
-    log="$scratch/log"
-    trap 'exit 130' INT
-    if ! (cd "$root" && stoppable "$@" 2>&1) | tee "$log" | show_progress "$name" "$total"; then
-        cat "$log" >&2 || true
+    local name=$1 status=0
+    shift
+    rm -f -- "$scratch/said"
+    { : >"$scratch/log" && mkfifo "$scratch/said"; } 2>/dev/null || stop "$broken" "the scratch folder $scratch cannot be written"
+    trap 'end_build 130' INT
+    trap 'end_build 143' TERM
+    trap 'end_build 129' HUP
+    set -m
+    (cd "$root" && exec "$@") </dev/null >"$scratch/said" 2>&1 &
+    group=$!
+    set +m
+    show_progress <"$scratch/said"
+    wait "$group" || status=$?
+    group=''
+    trap - INT TERM HUP
+    if ((status != 0)); then
+        cat "$scratch/log" >&2 || true
         stop "$broken" "$name could not be built: $*"
     fi
-    trap - INT
 }
 
-# Makes a file with a tool: the file, of how many crates it is made, the function that lists its sources with its word, the tool with its
-# words.
+# Makes a file with a tool: the file, the function that lists its sources with its word, the tool with its words. What has to be there before
+# is made by the function in `before`, if there is one.
 make_current() {
-    local built=$1 crates=$2 sources=("$3" "$4") name=${1##*/}
-    shift 4
+    local built=$1 sources=("$2" "$3") name=${1##*/}
+    shift 3
     command -v "$1" >/dev/null || stop "$broken" "$name has to be built, and '$1' is not installed"
     note_sources "$name" "${sources[@]}"
     if ! is_made_by_hand "$built" "$name"; then
-        build "$name" "$crates" "$@"
+        [[ -z ${before-} ]] || "$before"
+        build "$name" "$@"
         [[ -e $built ]] || stop "$broken" "$name was not built by: $* (remove target/ to build all from nothing)"
     fi
     put_stamp "$name"
@@ -156,35 +169,71 @@ make_current() {
 }
 
 make_program() {
-    make_current "$tool" "$(crates_of "$1" | wc -l)" crate_sources "$1" rt check "$1"
+    local names
+    names="$(crates_of "$1")" || exit
+    count_units "program:$1"
+    # shellcheck disable=SC2086 # a list of names
+    make_current "$tool" crate_sources "$1" rt check $names
+}
+
+# The crates below the library, a line each.
+below_library() {
+    crates_of timed_network | grep -v -x timed_network
+}
+
+# They are proved first, by `rt check`: two at a time, where `rt staticlib` proves one after the other.
+prove_below_library() {
+    local names
+    names="$(below_library)" || exit
+    # shellcheck disable=SC2086 # a list of names
+    build libtimed_network.a rt check $names
 }
 
 make_library() {
-    make_current "$library" "$(crates_of timed_network | wc -l)" crate_sources timed_network rt staticlib timed_network
+    local before=prove_below_library
+    count_units library:
+    make_current "$library" crate_sources timed_network rt staticlib timed_network
 }
 
 # A Rust tool: its package, the function that lists its sources.
 make_rust() {
-    make_current "$tool" '' "${2-package_sources}" "$1" \
+    count_units "tool:${tool##*/}:$1"
+    make_current "$tool" "${2-package_sources}" "$1" \
         cargo build --manifest-path rust/Cargo.toml --target-dir rust/target --release --offline --package "$1"
+    tell_packages "$1"
 }
 
 make_linked() {
     local library
+    count_units "linked:${tool##*/}:$1"
     need_library
     make_rust "$1" linked_sources
+}
+
+# Proves several programs and the library's crates at once, two at a time, so that each is found proved when it is its turn.
+prove_together() {
+    local names=() item
+    for item in "$@"; do
+        case $item in
+            program:*) names+=("${item#program:}") ;;
+            library:) mapfile -t -O "${#names[@]}" names < <(below_library) ;;
+        esac
+    done
+    mapfile -t names < <(crates_of "${names[@]}")
+    count_units "$@"
+    build 'what is needed' rt check "${names[@]}"
 }
 
 # The two that `verdict` needs, and their common stamp.
 verdict_sources() {
     crate_sources verdict_printer
-    crate_sources timed_network
     package_sources verdicts
 }
 
 make_verdicts() {
+    will_need=(program:verdict_printer tool:table_verdicts:verdicts)
     note_sources verdict verdict_sources
+    need_rust table_verdicts verdicts
     need_program verdict_printer
-    need_linked table_verdicts verdicts
     put_stamp verdict
 }

@@ -38,7 +38,7 @@ do_edge() {
     done
     read_numbers --clocks '^(0|[1-9][0-9]{0,9})$' 0 4294967295 "${entry[--clocks]}"
     read_numbers --variables '^(0|-?[1-9][0-9]{0,4})$' -32768 32767 "${entry[--variables]}"
-    take_table
+    take_table linked:edge_choice:timed_network
     need_linked edge_choice timed_network
     if ask "${entry[--component]}" "${entry[--location]}" "${entry[--clocks]}" "${entry[--variables]}" <"$scratch/table"; then
         show out

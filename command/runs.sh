@@ -46,14 +46,14 @@ offset_words() {
 }
 
 do_spread() {
-    take_table
+    take_table program:spread_printer
     need_program spread_printer
     print_answer 'accepted up to a spread of '
 }
 
 do_run() {
     [[ $table != - || ${files[1]} != - ]] || misused 'only one of the files can be standard input'
-    take_table
+    take_table program:trial_run
     # The program itself refuses more choices, with 14.
     take "${files[1]}" choices 1000000 ''
     need_program trial_run
@@ -75,7 +75,7 @@ do_choices() {
     local words=("$manner")
     spread=$largest
     [[ $offsets == - ]] || words+=(--offsets "$offsets")
-    take_table
+    take_table tool:make_choices:choices
     need_rust make_choices choices
     ask "${words[@]}" <"$scratch/table" || refuse err
     deliver

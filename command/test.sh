@@ -62,6 +62,7 @@ head -c 65536 /dev/zero >longer
 
 "$root/vanillatarn" table cellar.txt -o cellar.bin
 "$root/vanillatarn" verdict cellar.bin >out
+"$root/vanillatarn" verdict --json cellar.bin >out
 "$root/vanillatarn" spread cellar.bin >out
 "$root/vanillatarn" schedule cellar.bin >out
 "$root/vanillatarn" chart cellar.bin >out

@@ -9,7 +9,7 @@ done
 touch "$work/tree/crates/parts/specs/deep/Words.antt"
 cp -r "$root/vanillatarn" "$root/command" "$work/tree"
 printf '# A comment.\nparts:\nschedule_printer: parts io\nother: parts\n' >"$work/tree/crates.txt"
-for name in bash cat head wc find basename dirname readlink mktemp rm mkdir touch tee grep env chmod sleep sort cp mv; do
+for name in bash cat head wc find basename dirname readlink mktemp mkfifo rm mkdir touch grep env chmod sleep sort cp mv; do
     ln -s "$(command -v "$name")" "$work/tools/$name"
 done
 
@@ -21,6 +21,7 @@ call_there() {
 }
 
 cp "$root/corpus/probe_and_hub.bin" cellar.bin
+cp "$root/corpus/probe_and_hub.txt" cellar.txt
 call_there schedule cellar.bin
 says 3
 complains "schedule_printer has to be built, and 'rt' is not installed"
@@ -35,23 +36,23 @@ chmod +x "$work/tools/rt"
 call_there schedule cellar.bin
 says 3
 complains 'a reason'
-complains 'schedule_printer could not be built: rt check schedule_printer'
+complains 'schedule_printer could not be built: rt check parts schedule_printer'
 
 # An rt that builds nothing.
 printf '#!/usr/bin/env bash\n' >"$work/tools/rt"
 call_there schedule cellar.bin
 says 3
-complains 'schedule_printer was not built by: rt check schedule_printer'
+complains 'schedule_printer was not built by: rt check parts schedule_printer'
 
 # A folder that cannot be written, whoever asks: a file stands in its place.
 printf '#!/usr/bin/env bash\nmkdir -p target/bin\n' >"$work/tools/rt"
 : >"$work/tree/target"
 call_there schedule cellar.bin
 says 3
-complains 'schedule_printer could not be built: rt check schedule_printer'
+complains 'schedule_printer could not be built: rt check parts schedule_printer'
 rm "$work/tree/target"
 # shellcheck disable=SC2016 # meant for the file
-printf '#!/usr/bin/env bash\nmkdir -p target/bin\n: >"target/bin/$2"\n' >"$work/tools/rt"
+printf '#!/usr/bin/env bash\nmkdir -p target/bin\n: >"target/bin/${*: -1}"\n' >"$work/tools/rt"
 mkdir "$work/tree/target"
 : >"$work/tree/target/command"
 call_there schedule cellar.bin
@@ -65,9 +66,9 @@ cat >"$work/tools/rt" <<'TEXT'
 mkdir -p target/bin
 echo asked >>asked
 echo "rt: parts proved (unchanged since it was last proved)"
-echo "rt: $2 proved (2 s)"
+echo "rt: ${*: -1} proved (2 s)"
 echo 'a detail'
-[[ -e target/bin/$2 ]] || printf '#!/usr/bin/env bash\necho "c e l entry"\n' >"target/bin/$2"
+[[ -e target/bin/${*: -1} ]] || printf '#!/usr/bin/env bash\necho "c e l entry"\n' >"target/bin/${*: -1}"
 TEXT
 call_there schedule cellar.bin
 says 3
@@ -101,7 +102,7 @@ asks_after() {
     says 0
     starts 'c e l entry'
     check "rt is asked after: $1" test "$(asked)" -eq 1
-    cp err "$work/told"
+    sed -E 's/about [0-9]+ s/about N s/' err >"$work/told"
     call_there schedule cellar.bin
     check "rt is asked once after: $1" test "$(asked)" -eq 1
     check 'and nothing is said' test ! -s err
@@ -120,7 +121,7 @@ asks_not_after() {
 
 crates="$work/tree/crates" target="$work/tree/target"
 asks_after 'code was changed' touch "$crates/parts/src/lib.rt"
-printf 'vanillatarn: %s\n' 'building schedule_printer, once; it can be stopped, and goes on where it was' '[2 of 2] schedule_printer' >"$work/expected"
+printf 'vanillatarn: %s\n' 'building what is needed, once (about N s left); it can be stopped, and goes on where it was' '[2 of 2] schedule_printer' >"$work/expected"
 check 'its progress is shown, and nothing else' cmp -s "$work/expected" "$work/told"
 asks_after "the program's own code was changed" touch "$crates/schedule_printer/src/lib.rt"
 asks_after 'a definition was changed' touch "$crates/parts/specs/deep/Words.antt"
@@ -155,7 +156,7 @@ asks_after 'the program was built by hand, and code was changed' build_by_hand 7
 # What is changed while rt is at work is newer than what it has built.
 cp "$work/tools/rt" "$work/kept"
 # shellcheck disable=SC2016 # meant for the file
-printf '%s\n' 'sleep 0.1; touch crates/parts/src/lib.rt; sleep 0.1; touch "target/bin/$2"' >>"$work/tools/rt"
+printf '%s\n' 'sleep 0.1; touch crates/parts/src/lib.rt; sleep 0.1; touch "target/bin/${*: -1}"' >>"$work/tools/rt"
 age
 touch "$crates/parts/src/lib.rt"
 : >"$work/tree/asked"
@@ -164,6 +165,29 @@ for _ in 1 2; do
 done
 check 'rt is asked again after a change during its work' test "$(asked)" -eq 2
 cp "$work/kept" "$work/tools/rt"
+
+# Of a text the converter is made first, and both are counted as one.
+rm -r "$work/tree/target"
+mkdir -p "$work/tree/rust/table_text/src"
+touch "$work/tree/rust/Cargo.toml" "$work/tree/rust/Cargo.lock" "$work/tree/rust/table_text/Cargo.toml"
+cat >"$work/tools/cargo" <<'TEXT'
+#!/usr/bin/env bash
+mkdir -p rust/target/release
+echo '   Compiling table_text v0.1.0 (somewhere)'
+printf '#!/usr/bin/env bash\necho text\n' >rust/target/release/table_text
+chmod +x rust/target/release/table_text
+TEXT
+cp "$work/kept" "$work/tools/rt"
+printf 'chmod +x "target/bin/${*: -1}"\n' >>"$work/tools/rt"
+chmod +x "$work/tools/cargo"
+call_there schedule cellar.txt
+says 0
+starts 'c e l entry'
+printf 'vanillatarn: %s\n' 'building what is needed, once (about N s left); it can be stopped, and goes on where it was' \
+    '[1 of 3] compiling table_text' '[3 of 3] schedule_printer' >"$work/expected"
+sed -E 's/about [0-9]+ s/about N s/' err >"$work/told"
+check 'one count for both' cmp -s "$work/expected" "$work/told"
+rm "$work/tools/cargo"
 
 # A program that writes something else.
 printf '#!/usr/bin/env bash\necho perhaps\n' >"$work/tree/target/bin/schedule_printer"
@@ -181,7 +205,7 @@ age
 printf 'crates\ncrates.txt\n' >"$target/command/verdict"
 call_there verdict cellar.bin
 says 1
-starts "words $target/bin/verdict_printer 0 cellar.bin"
+starts "$target/bin/verdict_printer 0 cellar.bin"
 check 'nothing is built' test ! -s err
 chmod -x "$work/tree/rust/target/release/table_verdicts"
 call_there verdict cellar.bin
@@ -198,9 +222,9 @@ cat >"$work/tools/rt" <<'TEXT'
 #!/usr/bin/env bash
 mkdir -p target/bin
 echo "rt: parts proved (unchanged since it was last proved)"
-echo "rt: $2 proved (unchanged since it was last proved)"
-printf '#!/usr/bin/env bash\necho "c e l entry"\n' >"target/bin/$2"
-chmod +x "target/bin/$2"
+echo "rt: ${*: -1} proved (unchanged since it was last proved)"
+printf '#!/usr/bin/env bash\necho "c e l entry"\n' >"target/bin/${*: -1}"
+chmod +x "target/bin/${*: -1}"
 TEXT
 call_there schedule cellar.bin
 says 0
@@ -210,7 +234,7 @@ rm -r "$work/tree/target"
 cp slow "$work/tools/rt"
 call_there schedule cellar.bin
 says 0
-check 'a sign of life' grep -q -E '^vanillatarn: \[2 of 2\] at work for ([89]|10) s$' err
+check 'a sign of life' grep -q -E '^vanillatarn: \[2 of 2\] at work for ([89]|10) s, about 0 s left$' err
 check 'nothing else' test "$(wc -l <err)" -eq 2
 
 # Whether a process ends within ten seconds.
@@ -223,24 +247,34 @@ has_ended() {
     return 1
 }
 
-# Ctrl-C ends the tool with what it has in the background, which by itself ignores that signal; nothing else is said.
-rm -r "$work/tree/target"
+# A signal ends the tool with what it has in the background: Ctrl-C, which goes to the whole group and which what is in the background ignores by
+# itself, and each signal to the command's process alone. Nothing else is said.
 cat >"$work/tools/rt" <<'TEXT'
 #!/usr/bin/env bash
 (echo "$BASHPID" >worker; echo 'rt: parts proved (2 s)'; sleep 60) &
 wait
 TEXT
-what='Ctrl-C while something is built' status=0
-set -m
-PATH="$work/tools" TMPDIR="$work/folder" "$work/tree/vanillatarn" schedule cellar.bin >out 2>err &
-set +m
-for ((tries = 0; tries < 100; tries++)); do
-    ! grep -q parts err || break
-    sleep 0.1
-done
-kill -INT -- "-$!"
-wait "$!" || status=$?
-says 130
-check 'the worker has ended' has_ended "$(cat "$work/tree/worker")"
-check 'nothing is said of a failure' test "$(grep -c -v -e ' building ' -e ' parts$' err)" -eq 0
-check 'no scratch folder is left' test -z "$(ls "$work/folder")"
+# The signal, whether the whole group gets it, and the status.
+is_ended_by() {
+    local signal=$1 group=$2
+    what="$signal while something is built${group:+, to the whole group}" status=0
+    rm -rf "$work/tree/target" "$work/tree/worker"
+    : >err
+    set -m
+    PATH="$work/tools" TMPDIR="$work/folder" "$work/tree/vanillatarn" schedule cellar.bin >out 2>err &
+    set +m
+    for ((tries = 0; tries < 100; tries++)); do
+        ! grep -q parts err || break
+        sleep 0.1
+    done
+    kill -"$signal" -- "${group:+-}$!"
+    wait "$!" || status=$?
+    says "$3"
+    check 'the worker has ended' has_ended "$(cat "$work/tree/worker")"
+    check 'nothing is said of a failure' test "$(grep -c -v -e ' building ' -e ' parts$' err)" -eq 0
+    check 'no scratch folder is left' test -z "$(ls "$work/folder")"
+}
+is_ended_by INT group 130
+is_ended_by INT '' 130
+is_ended_by TERM '' 143
+is_ended_by HUP '' 129

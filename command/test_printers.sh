@@ -1,5 +1,5 @@
 #!/usr/bin/env bash
-# Runs the printers over the whole corpus, as programs: what they print of each table is compared with the stored answer, and of
+# Runs the programs over the whole corpus: what they print of each table is compared with the stored answer, and of
 # an accepted one with the stored schedule; the largest spread of it is tried against the verdicts at that spread and at the next. The listing
 # of each program, and of damaged ones, is compared with that of `listing.awk`. Then an output that cannot be written. Any failing check fails
 # the whole.
@@ -56,6 +56,19 @@ while IFS=$'\t' read -r name answer; do
     cp out expected
     "$programs/verdict_printer" 0 <"$corpus/$name.bin" >out 2>err
     check "$name: the verdict at spread 0" cmp -s expected out
+    "$programs/translate_table" <"$corpus/$name.bin" >out 2>err
+    if [[ $answer == accepted ]]; then
+        check "$name: a program and nothing else" test -s out -a ! -s err
+    else
+        check "$name: its program refused, and none written" test "$(head -n 1 err)-$(wc -c <out)" = "$answer-0"
+    fi
+    "$programs/trial_run" "$corpus/$name.bin" /dev/null >out 2>err
+    if [[ $answer == accepted ]]; then
+        check "$name: no choice, and the run is used up" test "$(head -n 1 out)" = 'choices used up'
+    else
+        check "$name: its run refused" test "$(head -n 1 out)" = "$answer"
+    fi
+    check "$name: nothing on standard error" test ! -s err
     "$programs/spread_printer" <"$corpus/$name.bin" >out 2>err
     check "$name: nothing on standard error" test ! -s err
     if [[ $answer == accepted ]]; then

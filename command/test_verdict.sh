@@ -173,7 +173,7 @@ for said in 'echo refused 9 9' 'echo perhaps' 'echo accepted; echo more >&2' 'ex
     printf '#!/usr/bin/env bash\n%s\n' "$said" >liar
     chmod +x liar
     what="a printer that does: $said" status=0
-    "$root/rust/target/release/table_verdicts" words "$work/liar" 0 cellar.bin >out 2>err || status=$?
+    "$root/rust/target/release/table_verdicts" "$work/liar" 0 cellar.bin >out 2>err || status=$?
     says 3
     complains 'vanillatarn: verdict_printer failed: '
 done

@@ -8,15 +8,21 @@ open_outputs() {
     : 3>&2 || exec 2>/dev/full
 }
 
-# Builds the verified program that has the words, and the tool that calls it. Both have one stamp, so that the sources that they have in common
-# are looked at once.
+# Builds what tells the verdicts, and sets `teller`, the tool with its first words. In words they are those of the verified program, which the
+# tool calls; the two have one stamp, so that what they have in common is looked at once. The other forms ask the library.
 need_verdicts() {
-    printer="$programs/verdict_printer" tool="$tools/table_verdicts"
-    is_current verdict "$printer" "$tool" || make_anew make_verdicts
+    local printer="$programs/verdict_printer"
+    if [[ $form == words ]]; then
+        tool="$tools/table_verdicts" teller=("$tools/table_verdicts" "$printer")
+        is_current verdict "$printer" "$tool" || make_anew make_verdicts
+    else
+        need_linked json_verdicts json_verdicts
+        teller=("$tool" "$form")
+    fi
 }
 
 do_verdict() {
-    local file inputs=0 printer status=0 become=()
+    local file inputs=0 status=0 become=() teller=()
     for file in "${files[@]}"; do
         [[ $file != - ]] || inputs=$((inputs + 1))
     done
@@ -25,7 +31,7 @@ do_verdict() {
     open_outputs
     # This process becomes the tool, unless something was built and is to be tidied up: to start another one takes half a millisecond.
     [[ -n $scratch || ! -x $tool ]] || become=(exec)
-    "${become[@]}" "$tool" "$form" "$printer" "$spread" "${files[@]}" || status=$?
-    ((status <= broken)) || stop "$broken" 'table_verdicts failed'
+    "${become[@]}" "${teller[@]}" "$spread" "${files[@]}" || status=$?
+    ((status <= broken)) || stop "$broken" "${tool##*/} failed"
     exit "$status"
 }

@@ -14,7 +14,7 @@ use Rattle.schedule.proofs.Fields.{laid-fits}
 use Rattle.meetings.proofs.Bounds.{meetings-few, spread-few}
 use Rattle.text.specs.Words.{told}
 use Rattle.refusal_text.specs.RefusalText.{refusalText}
-use Rattle.verdict_text.specs.SpreadWords.{spreadLine}
+use Rattle.spread_text.specs.SpreadWords.{spreadLine}
 use Rattle.verdict_text.specs.VerdictText.{Met, metOf, metsOf, stopText, bandText, meetingsText, verdictWith, verdictTextAt, verdictText}
 use Rattle.verdict_text.proofs.Together.{text-together}
 

@@ -14,7 +14,7 @@ ghost use Rattle.model.specs.Calls.{checkCallAt};
 ghost use Rattle.refusal_place.specs.Walk.{placeOf};
 ghost use Rattle.text.specs.Words.{Added};
 ghost use Rattle.refusal_text.specs.RefusalText.{refusalText};
-ghost use Rattle.verdict_text.specs.SpreadWords.{spreadLine};
+ghost use Rattle.spread_text.specs.SpreadWords.{spreadLine};
 ghost use Rattle.verdict_text.specs.VerdictText.{metsOf, stopText, bandText, meetingsText, verdictTextAt, verdictText};
 use libc::STDERR_FILENO;
 use libc::STDOUT_FILENO;
@@ -56,7 +56,7 @@ fn put_refused(
     ensures { λ r. ⌜ take r (now (out .exit)) ≡ refusalText number component ++ spreadLine spread ++ stopText (now (table .entry)) number ++ bandText (now (table .entry)) number (metsOf (now (list .entry)) n) ++ meetingsText spread number (metsOf (now (list .entry)) n) ⌝ }
 {
     let nodes = refusal_text::put_refusal_text(out, 0, number, component);
-    let stop = verdict_text::spread::put_spread(out, nodes, spread);
+    let stop = spread_text::put_spread(out, nodes, spread);
     let band = put_stop(out, stop, table, number);
     let lines = verdict_text::put_band(out, band, table, number, list, n);
     verdict_text::put_meetings(out, lines, number, list, n, spread)
@@ -75,7 +75,7 @@ fn put_printed(table: &[u8], spread: u32, out: &mut [u8]) -> usize
     match v {
         Verdict::Accepted => {
             let nodes = text::put(out, 0, b"accepted\n");
-            verdict_text::spread::put_spread(out, nodes, spread)
+            spread_text::put_spread(out, nodes, spread)
         }
         Verdict::Refused(number, component) => put_refused(
             table,

@@ -7,7 +7,7 @@ use borrow.Author.Tests.{ltb-true, ltb-false, leb-true, leb-false, lt-ltb, le-lt
 use lib.Dec.{eqb, leb, ltb}
 use Rattle.model.specs.Schedule.{Passage}
 use Rattle.model.specs.Checks.{near, startsEarlier, endsLater}
-use Rattle.verdict_text.specs.SpreadWords.{lacking}
+use Rattle.spread_text.specs.SpreadWords.{lacking}
 use Rattle.verdict_text.specs.VerdictText.{metOf, tooClose}
 
 and-true : (t : Bool) → (t && true) ≡ t

@@ -1,3 +1,2 @@
-pub mod SpreadWords
 pub mod VerdictText
 pub mod Cases

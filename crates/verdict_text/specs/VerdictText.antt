@@ -19,7 +19,7 @@ use Rattle.text.specs.Words.{ascii, decimal, field, told}
 use Rattle.refusal_text.specs.RefusalText.{refusalText}
 use Rattle.place_text.specs.PlaceText.{placeText}
 use Rattle.opening_text.specs.OpeningText.{openingText}
-use Rattle.verdict_text.specs.SpreadWords.{ticks, lacking, spreadLine, meetingWords, nearWords, startMargin, endMargin, untilWords, listenWords, aroundWords}
+use Rattle.spread_text.specs.SpreadWords.{ticks, lacking, spreadLine, meetingWords, nearWords, startMargin, endMargin, untilWords, listenWords, aroundWords}
 
 -- ## The windows that met
 

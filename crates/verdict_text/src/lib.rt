@@ -1,6 +1,5 @@
 // Which windows met, in words; where a send is not heard well, also the remedy. The spread is 0 where there is none.
 pub mod remedy;
-pub mod spread;
 
 ghost use mathlib.Core.Path.{_≡_};
 ghost use mathlib.Core.List.{List, _++_};
@@ -47,7 +46,7 @@ fn put_receive_fault(out: &mut [u8], at: usize, w: &[u32], spread: u32) -> usize
 {
     let ticks = put_place(out, at, b"The receive window of ", w);
     let meeting = put_window(out, ticks, w);
-    let last = spread::put_meeting(out, meeting, spread);
+    let last = spread_text::put_meeting(out, meeting, spread);
     put(out, last, b" these send windows on its channels:\n")
 }
 
@@ -57,7 +56,7 @@ fn put_fault_end(out: &mut [u8], at: usize, number: u8, spread: u32) -> usize
     ensures { λ r. ⌜ Added (now (out .entry)) at (faultEnd spread number) (now (out .exit)) r × (r ≤ at + 90) ⌝ }
 {
     if number == 10 {
-        let last = spread::put_meeting(out, at, spread);
+        let last = spread_text::put_meeting(out, at, spread);
         return put(out, last, b" these send windows:\n");
     }
     let near = put(
@@ -65,7 +64,7 @@ fn put_fault_end(out: &mut [u8], at: usize, number: u8, spread: u32) -> usize
         at,
         b".\nReceive windows of other components on its channel ",
     );
-    spread::put_near(out, near, spread)
+    spread_text::put_near(out, near, spread)
 }
 
 // 10, 11 and 15 to 17: the send window at fault.
@@ -98,9 +97,9 @@ fn too_close(v: &[u32], w: &[u32], spread: u32) -> u64
     let one = v[4];
     let other = w[4];
     if one <= other {
-        spread::lacking(v[5], other, spread)
+        spread_text::lacking(v[5], other, spread)
     } else {
-        spread::lacking(w[5], one, spread)
+        spread_text::lacking(w[5], one, spread)
     }
 }
 
@@ -113,7 +112,7 @@ fn put_close(out: &mut [u8], at: usize, fault: &[u32], w: &[u32], spread: u32) -
         return at;
     }
     let moved = too_close(fault, w, spread);
-    spread::put_distance(out, at, b": ", moved, b" too close")
+    spread_text::put_distance(out, at, b": ", moved, b" too close")
 }
 
 // A send window that was met.
@@ -146,8 +145,8 @@ fn put_start(out: &mut [u8], at: usize, sent: &[u32], w: &[u32], spread: u32) ->
     let start = w[4];
     let send = sent[4];
     if spread != 0 {
-        let lack = spread::lacking(start, send, spread);
-        return spread::put_start_margin(out, at, lack);
+        let lack = spread_text::lacking(start, send, spread);
+        return spread_text::put_start_margin(out, at, lack);
     }
     if start < send {
         put(out, at, b": starts earlier,")
@@ -164,8 +163,8 @@ fn put_end(out: &mut [u8], at: usize, sent: &[u32], w: &[u32], spread: u32) -> u
     let send = sent[5];
     let end = w[5];
     if spread != 0 {
-        let lack = spread::lacking(send, end, spread);
-        return spread::put_end_margin(out, at, lack);
+        let lack = spread_text::lacking(send, end, spread);
+        return spread_text::put_end_margin(out, at, lack);
     }
     if send < end {
         put(out, at, b" ends later\n")

@@ -6,9 +6,9 @@ ghost use lib.ListN.{length, drop};
 ghost use Rattle.text.specs.Words.{Added};
 ghost use Rattle.verdict_text.specs.VerdictText.{metAt, metsOf, nobodyRemedy, severalRemedy, lateRemedy, earlyRemedy, listenerRemedy, remedyText};
 use crate::put_place;
-use crate::spread::put_around;
-use crate::spread::put_listen;
-use crate::spread::put_until;
+use spread_text::put_around;
+use spread_text::put_listen;
+use spread_text::put_until;
 use text::put;
 use text::put_field;
 

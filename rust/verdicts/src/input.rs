@@ -1,12 +1,11 @@
 //! A table from a file: its bytes, or those of its text.
 
-use crate::{REFUSED, WRONG};
+use crate::output::{REFUSED, WRONG};
 use std::ffi::OsStr;
 use std::fs::File;
 use std::io::{self, Read};
 use std::path::Path;
 use table_text::{Encoded, Kind, SourceError};
-use timed_network::Verdict;
 
 /// The most bytes of a table and of a text.
 const TABLE: usize = 8192;
@@ -100,19 +99,41 @@ fn with_lines(file: &[u8]) -> Result<Input, SourceError> {
     Ok(Input::Text { text, encoded })
 }
 
-/// What refused bytes are, if they are no table: asked after 1 to 4 alone. A
-/// spread that is refused, with 19, hides 4.
-pub fn another_kind(table: &[u8], verdict: Verdict) -> Option<Problem> {
-    let without = match verdict {
-        Verdict::Refused { number: 19, .. } => timed_network::check(table),
-        verdict => verdict,
-    };
-    let Verdict::Refused { number: 1..=4, .. } = without else {
+/// Digits alone, as the program reads them, of a number of 32 bits.
+pub fn spread_of(word: &OsStr) -> Option<u32> {
+    let digits = word.to_str()?;
+    if digits.bytes().all(|byte| byte.is_ascii_digit()) {
+        digits.parse().ok()
+    } else {
+        None
+    }
+}
+
+/// What bytes that are refused with this number without a spread are, if they
+/// are no table: asked after 1 to 4 alone.
+pub fn another_kind(table: &[u8], number: u8) -> Option<Problem> {
+    let (1..=4) = number else {
         return None;
     };
     match table_text::kind(table) {
         Kind::Program => Some(wrong("this is a program, not a table")),
         Kind::Part => Some(wrong("this is a node's part, not a table")),
         _ => None,
+    }
+}
+
+#[cfg(test)]
+mod tests {
+    use super::*;
+
+    #[test]
+    fn spreads_are_digits() {
+        let spread = |word: &str| spread_of(OsStr::new(word));
+        assert_eq!(spread("0"), Some(0));
+        assert_eq!(spread("007"), Some(7));
+        assert_eq!(spread("4294967295"), Some(u32::MAX));
+        for word in ["", "4294967296", "+1", "-1", "1 ", "1x"] {
+            assert_eq!(spread(word), None, "{word}");
+        }
     }
 }

@@ -6,7 +6,7 @@ use native.Mathlib.Omega.{arith}
 use borrow.Author.Tests.{eq-eqb, ne-eqb}
 use Rattle.text.specs.Words.{ascii}
 use Rattle.text.proofs.Appended.{nothing, same-words}
-use Rattle.verdict_text.specs.SpreadWords.{ticks}
+use Rattle.spread_text.specs.SpreadWords.{ticks}
 use borrow.Author.Needs.{needs}
 use Rattle.verdict_text.proofs.put_close.Statement.{statement}
 use Rattle.verdict_text.proofs.put_close.Tie as tie
