@@ -12,9 +12,10 @@
  * each statement of its part. With little stack: in a thread of its own for
  * each call, in front of a page without access.
  *
- * A check that refuses a table with 1 to 3 has looked at its first bytes alone
- * and may not have taken the stack of the rows: status 1 if it took more than
- * EARLY bytes, or if no stored table is refused so.
+ * A check, with or without a spread, that refuses a table with 1 to 3 has
+ * looked at its first bytes alone and may not have taken the stack of the
+ * rows: status 1 if it took more than EARLY bytes, or if no stored table is
+ * refused so.
  */
 #define _DEFAULT_SOURCE
 #include <pthread.h>
@@ -36,7 +37,7 @@ enum { EARLY = 512, EARLY_NUMBERS = 3 };
 
 static uint8_t *wide;
 static size_t deepest[CALLS];
-static size_t early[EARLY_NUMBERS + 1];
+static size_t early[CALLS][EARLY_NUMBERS + 1];
 static size_t named[CALLS];
 static int chosen;
 static timed_network_node_registers node;
@@ -178,17 +179,19 @@ static void note(int request, size_t found) {
 /* Notes what a check took that refused a table with one of the first numbers. */
 static void note_early(int request, size_t found) {
     uint8_t number = verdict.number;
-    if (request == CHECK && number >= 1 && number <= EARLY_NUMBERS && found > early[number])
-        early[number] = found;
+    if ((request == CHECK || request == CHECK_SPREAD) && number <= EARLY_NUMBERS &&
+        found > early[request][number])
+        early[request][number] = found;
 }
 
-/* Whether each of them took a stack, and a small one. */
-static bool early_is_small(void) {
+/* Whether a check took a stack for each of these numbers, and a small one. */
+static bool early_is_small(int request) {
     bool small = true;
     for (int number = 1; number <= EARLY_NUMBERS; number++) {
-        if (early[number] == 0 || early[number] > EARLY) {
-            fprintf(stderr, "check, refused with %d: %zu bytes of stack, not 1 to %d\n", number,
-                    early[number], EARLY);
+        size_t found = early[request][number];
+        if (found == 0 || found > EARLY) {
+            fprintf(stderr, "%s, refused with %d: %zu bytes of stack, not 1 to %d\n",
+                    call_names[request], number, found, EARLY);
             small = false;
         }
     }
@@ -278,7 +281,7 @@ int main(int count, char **words) {
         fail("no memory");
     trying("stack", "measured");
     in_thread(measured, wide, WIDE);
-    int status = early_is_small() ? 0 : 1;
+    int status = early_is_small(CHECK) & early_is_small(CHECK_SPREAD) ? 0 : 1;
     for (int i = 0; i < CALLS; i++) {
         printf("%s %zu\n", call_names[i], deepest[i]);
         named[i] = count == 2 ? WIDE : strtoul(words[2 + i], NULL, 10);

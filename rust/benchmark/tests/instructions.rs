@@ -89,3 +89,22 @@ fn a_count_that_is_no_number_is_an_error() {
         assert_eq!(status, Some(2), "{new}: {said}");
     }
 }
+
+/// The rows that are kept are those of the calls that `benchmark --once` makes, each
+/// once.
+#[test]
+fn the_rows_kept_are_those_that_are_counted() {
+    let made = Command::new(env!("CARGO_BIN_EXE_benchmark"))
+        .arg("--once")
+        .output();
+    let made = String::from_utf8(made.expect("the benchmark is built").stdout);
+    let made = made.expect("the rows are text");
+    let mut made: Vec<&str> = made.lines().collect();
+    made.sort_unstable();
+    let kept = Path::new(env!("CARGO_MANIFEST_DIR")).join("instructions.tsv");
+    let kept = fs::read_to_string(kept).expect("the counts are kept");
+    let row = |line| str::rsplit_once(line, '\t').map_or(line, |(row, _)| row);
+    let kept: Vec<&str> = kept.lines().map(row).collect();
+    assert!(made.len() > 200 && made.windows(2).all(|two| two[0] < two[1]));
+    assert_eq!(made, kept);
+}
