@@ -11,6 +11,11 @@
  * call to the lowest byte that lost the pattern. A node's calls are made at
  * each statement of its part. With little stack: in a thread of its own for
  * each call, in front of a page without access.
+ *
+ * A check, with or without a spread, that refuses a table with 1 to 3 has
+ * looked at its first bytes alone and may not have taken the stack of the
+ * rows: status 1 if it took more than EARLY bytes, or if no stored table is
+ * refused so.
  */
 #define _DEFAULT_SOURCE
 #include <pthread.h>
@@ -27,8 +32,12 @@
  */
 enum { WIDE = 200 * 1024, PATTERN = 0xA5, BESIDE = 16 * 1024 };
 
+/* The most bytes for a refusal with one of the first numbers, and how many there are. */
+enum { EARLY = 512, EARLY_NUMBERS = 3 };
+
 static uint8_t *wide;
 static size_t deepest[CALLS];
+static size_t early[CALLS][EARLY_NUMBERS + 1];
 static size_t named[CALLS];
 static int chosen;
 static timed_network_node_registers node;
@@ -167,6 +176,28 @@ static void note(int request, size_t found) {
         deepest[request] = found;
 }
 
+/* Notes what a check took that refused a table with one of the first numbers. */
+static void note_early(int request, size_t found) {
+    uint8_t number = verdict.number;
+    if ((request == CHECK || request == CHECK_SPREAD) && number <= EARLY_NUMBERS &&
+        found > early[request][number])
+        early[request][number] = found;
+}
+
+/* Whether a check took a stack for each of these numbers, and a small one. */
+static bool early_is_small(int request) {
+    bool small = true;
+    for (int number = 1; number <= EARLY_NUMBERS; number++) {
+        size_t found = early[request][number];
+        if (found == 0 || found > EARLY) {
+            fprintf(stderr, "%s, refused with %d: %zu bytes of stack, not 1 to %d\n",
+                    call_names[request], number, found, EARLY);
+            small = false;
+        }
+    }
+    return small;
+}
+
 /* A node's call at the start, and then at each statement of its part. */
 static void each_statement(int request, measure *measure, struct lent *lent) {
     uint8_t *part = lent->bytes.at;
@@ -204,9 +235,11 @@ static void each_case(int request, measure *measure) {
         const struct stored *stored = &cases[i];
         struct lent lent = {stored->table, stored->choices, stored->node, stored->slots,
                             stored->waking};
-        if (request < START)
-            note(request, measure(request, &lent));
-        else if (stored->request == TRANSLATE)
+        if (request < START) {
+            size_t found = measure(request, &lent);
+            note(request, found);
+            note_early(request, found);
+        } else if (stored->request == TRANSLATE)
             each_part(request, measure, stored);
     }
 }
@@ -248,7 +281,7 @@ int main(int count, char **words) {
         fail("no memory");
     trying("stack", "measured");
     in_thread(measured, wide, WIDE);
-    int status = 0;
+    int status = early_is_small(CHECK) & early_is_small(CHECK_SPREAD) ? 0 : 1;
     for (int i = 0; i < CALLS; i++) {
         printf("%s %zu\n", call_names[i], deepest[i]);
         named[i] = count == 2 ? WIDE : strtoul(words[2 + i], NULL, 10);

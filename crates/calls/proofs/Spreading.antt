@@ -1,17 +1,17 @@
 -- The check at a spread, from what the reader and the schedule answer; the largest spread. Assumes nothing.
 use mathlib.Core.Path.{_≡_, refl, sym, ap, subst, _∙_}
 use mathlib.Core.Logic.{_↔_}
-use mathlib.Core.Bool.{Bool, true, false, cond}
+use mathlib.Core.Bool.{Bool, true, false, cond, _&&_}
 use mathlib.Core.List.{List}
 use Prim.Native.Nat.{ℕ, suc, _+_, _≤_, _<_}
 use native.Mathlib.Omega.{arith}
-use borrow.Author.Tests.{lt-ltb, le-ltb}
+use borrow.Author.Tests.{lt-ltb, le-ltb, ltb-true, ltb-false}
 use lib.Dec.{ltb}
 use Rattle.model.specs.declared.Verdict.{Verdict}
 use Rattle.model.specs.declared.Verdict.the-variants.{Accepted, Refused}
 use Rattle.model.specs.Lists.{Answer, accepted, refused, _after_}
 use Rattle.model.specs.Table.{Table, Read}
-use Rattle.model.specs.Reader.{readTable}
+use Rattle.model.specs.Reader.{readTable, versionFine, lengthFine, countFine, bandsFine}
 use Rattle.model.specs.Places.{Valid, readOf}
 use Rattle.model.specs.Schedule.{Passage}
 use Rattle.model.specs.Checks.{checked, acceptedSchedule, acceptedScheduleAt}
@@ -19,7 +19,9 @@ use Rattle.model.specs.Calls.{verdictOf, spreadFine, readAt, acceptedScheduleIn
 use Rattle.model.proofs.Reader.Located.{valid-read}
 use Rattle.model.proofs.Checks.Heard.{checked-is}
 use Rattle.model.proofs.Checks.Lower.{largest-is}
-use Rattle.table.proofs.Answered.{verdict-accepted}
+use Rattle.table.specs.Directory.{headerOf, readingOf, readingAt, refusal}
+use Rattle.table.proofs.Whole.{header-refused}
+use Rattle.table.proofs.Answered.{verdict-accepted, at-narrow, at-header, refused-at}
 use Rattle.rows.specs.Rows.{rowsOf, RowsPlaced}
 use Rattle.schedule.specs.declared.Scheduled.{Scheduled}
 use Rattle.schedule.specs.Filled as filled
@@ -39,6 +41,26 @@ module _ (G : ℕ) (bs : List ℕ) where
   pub check-refused-at : {n c : ℕ} → readAt G bs ≡ refused n c → Refused n c ≡ checkCallAt G bs
   unfolding checkCallAt acceptedScheduleInAt
   check-refused-at e = sym (ap (λ (a : Answer Read). verdictOf (a after acceptedScheduleAt G)) e)
+
+  -- one whose header was refused, whatever the spread: it is asked about after 3
+  pub header-refused-at : (k : ℕ) → k ≡ headerOf bs → (k ≡ 0 → ⊥) → Refused k 255 ≡ checkCallAt G bs
+  header-refused-at k e n = check-refused-at (refused-at G bs (refusal k 255) (by-width (ltb 1000 G) refl) refl)
+    where
+      of-read : refusal k 255 ≡ readingOf bs
+      of-read = header-refused bs k e n
+
+      among : (a b c : Bool) → cond a (cond b (cond c 0 3) 2) 1 ≤ 3
+      among true true true = omega arith
+      among true true false = omega arith
+      among true false c = omega arith
+      among false b c = omega arith
+
+      few : k ≤ 3
+      few = let m = among (versionFine bs) (lengthFine bs) (countFine bs && bandsFine bs) in omega (arith, e, m)
+
+      by-width : (wide : Bool) → ltb 1000 G ≡ wide → refusal k 255 ≡ readingAt G bs
+      by-width false w = at-narrow G bs (ltb-false 1000 G w) (refusal k 255) of-read
+      by-width true w = at-header G bs (ltb-true 1000 G w) (refusal k 255) of-read refl few
 
 -- ## The rows of a schedule
 

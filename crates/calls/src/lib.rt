@@ -59,19 +59,13 @@ pub fn check_header(table: &[u8]) -> u8
     table::header(table)
 }
 
-// Whether the table is accepted; and what that means: it is, exactly if demand 2's statement holds of its bytes.
+// Whether the table is accepted; and what that means: it is, exactly if demand 2's statement holds of its bytes. It is the check at the spread 0,
+// of which the library for other languages has one more caller: so large a function with two callers is not inlined, and its frame, with the
+// rows of a schedule, is not the caller's.
 pub fn check(table: &[u8]) -> Verdict
     ensures { λ r. ⌜ (r ≡ checkCall (now (table .entry))) × ((checkCall (now (table .entry)) ≡ Accepted) ↔ Accepts (now (table .entry))) ⌝ }
 {
-    let r = table::read(table);
-    let v = r.verdict;
-    match v {
-        Verdict::Refused(number, component) => Verdict::Refused(number, component),
-        Verdict::Accepted => {
-            let starts = r.starts;
-            plan_verdict(table, starts)
-        }
-    }
+    spread::check_spread(table, 0)
 }
 
 // The schedule of a table that was read.

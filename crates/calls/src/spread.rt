@@ -3,7 +3,7 @@ ghost use mathlib.Core.Path.{_≡_};
 ghost use mathlib.Core.Logic.{_↔_};
 ghost use mathlib.Core.Bool.{true};
 ghost use Prim.Native.Nat.{_+_, _≤_, _<_};
-ghost use Rattle.model.specs.declared.Verdict.the-variants.{Accepted};
+ghost use Rattle.model.specs.declared.Verdict.the-variants.{Accepted, Refused};
 ghost use Rattle.model.specs.Reader.{byte};
 ghost use Rattle.model.specs.Places.{Valid, readOf};
 ghost use Rattle.model.specs.Calls.{checkCallAt, checkCall, LargestSpread};
@@ -27,6 +27,14 @@ pub fn plan_verdict(table: &[u8], starts: [u16; 8], spread: u32) -> Verdict
     let mut rows = [0u32; 9216];
     let r = schedule::plan_rows(table, starts, &mut rows, spread);
     r.verdict
+}
+
+// Checks 1 to 3 alone, which come before the question of the spread: the number of the one that refuses the table, 0 if they are passed. No more is
+// read than the header.
+pub fn check_header_spread(table: &[u8], spread: u32) -> u8
+    ensures { λ r. ⌜ ((r ≡ 0 → ⊥) → checkCallAt spread (now (table .entry)) ≡ Refused r 255) × ((checkCallAt spread (now (table .entry)) ≡ Accepted) ↔ (spread ≤ 1000) × AcceptsAt spread (now (table .entry))) ⌝ }
+{
+    table::header(table)
 }
 
 // Whether the table is accepted at a spread; and what that means: the spread is not too wide, and demand 2's statement holds of its bytes

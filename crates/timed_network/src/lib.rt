@@ -179,8 +179,9 @@ fn numbers_of(called: Called) -> CallNumbers
     }
 }
 
-// Whether the table is accepted. The header is tried first, in registers: the rows of a schedule, nine pages of the stack, are taken after
-// it. That holds only if the table's place and length are not stored before, which `&table[0..]` sees to: it makes them anew.
+// Whether the table is accepted. The header is tried first, in registers: the rows of a schedule, nine pages of the stack, are in the frame of
+// `calls::spread::check_spread`, which is a function of its own in the archive (`boundary/stack.c` measures what a refusal with 1 to 3 takes).
+// `&table[0..]` makes the table's place and length anew, so that they are not stored before the header is tried.
 #[no_mangle]
 pub extern "C" fn timed_network_check(table: &[u8]) -> VerdictNumbers
     ensures { λ r. ⌜ (r .number ≡ numberOf (checkCall (now (table .entry)))) × (r .component ≡ concernedOf (checkCall (now (table .entry)))) × ((checkCall (now (table .entry)) ≡ Accepted) ↔ Accepts (now (table .entry))) ⌝ }

@@ -23,12 +23,20 @@ pub struct SpreadNumbers {
     pub spread: u32,
 }
 
-// Whether the table is accepted at a spread: whatever offsets up to the spread its nodes have.
+// Whether the table is accepted at a spread: whatever offsets up to the spread its nodes have. The header is tried first, as `timed_network_check`
+// does it.
 #[no_mangle]
 pub extern "C" fn timed_network_check_spread(table: &[u8], spread: u32) -> VerdictNumbers
     ensures { λ r. ⌜ (r .number ≡ numberOf (checkCallAt spread (now (table .entry)))) × (r .component ≡ concernedOf (checkCallAt spread (now (table .entry)))) × ((checkCallAt spread (now (table .entry)) ≡ Accepted) ↔ (spread ≤ 1000) × AcceptsAt spread (now (table .entry))) ⌝ }
 {
-    let verdict = calls::spread::check_spread(table, spread);
+    let header = calls::spread::check_header_spread(table, spread);
+    if header != 0 {
+        return VerdictNumbers {
+            number: header,
+            component: 255,
+        };
+    }
+    let verdict = calls::spread::check_spread(&table[0..], spread);
     verdict_numbers(verdict)
 }
 

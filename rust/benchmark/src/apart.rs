@@ -12,11 +12,11 @@ use std::hint::black_box;
 /// The spread at which the tables of these rows are accepted, and no greater one.
 pub const SPREAD: u32 = 3;
 /// The tick at which each node wakes.
-const OFFSETS: [u32; 8] = [3, 0, 2, 1, 3, 0, 1, 2];
+pub const OFFSETS: [u32; 8] = [3, 0, 2, 1, 3, 0, 1, 2];
 
 /// Choices to the horizon with these offsets, everything finished as early as it
 /// can be.
-fn choices_to_the_horizon(row: &Row) -> Result<Vec<u8>, String> {
+pub fn choices_to_the_horizon(row: &Row) -> Result<Vec<u8>, String> {
     let subject = Subject::within(&row.table, SPREAD);
     let subject = subject.ok_or(format!("{}: refused at {SPREAD}", row.name))?;
     Ok(choices::early(&subject.demand(), &OFFSETS))

@@ -1,10 +1,12 @@
 //! Times the exported library beside the second implementation and the
 //! yardstick, all in this one run and with the release profile:
-//! `benchmark [--quick]`.
+//! `benchmark [--quick]`. With `--once` it times nothing: each call is made once, for
+//! `tools/instructions`.
 #![deny(unsafe_code)]
 
 mod apart;
 mod clock;
+mod once;
 mod processor;
 mod refused;
 mod report;
@@ -23,19 +25,20 @@ use timed_network::{Slots, CHART_ROW, FIELDS, MAX_PASSAGES, MAX_PLAN, MAX_PROGRA
 fn main() -> ExitCode {
     let words: Vec<String> = env::args().skip(1).collect();
     let words: Vec<&str> = words.iter().map(String::as_str).collect();
-    let effort = match words[..] {
-        [] => Effort::FULL,
-        ["--quick"] => Effort::QUICK,
-        _ => {
-            eprintln!("usage: benchmark [--quick]");
-            return ExitCode::from(2);
-        }
-    };
     if cfg!(debug_assertions) {
         eprintln!("benchmark: build it with --release");
         return ExitCode::from(2);
     }
-    match measure(effort) {
+    let done = match words[..] {
+        [] => measure(Effort::FULL),
+        ["--quick"] => measure(Effort::QUICK),
+        ["--once"] => once::make(),
+        _ => {
+            eprintln!("usage: benchmark [--quick | --once]");
+            return ExitCode::from(2);
+        }
+    };
+    match done {
         Ok(()) => ExitCode::SUCCESS,
         Err(problem) => {
             eprintln!("benchmark: {problem}");

@@ -1,18 +1,11 @@
 -- `timed_network::timed_network_check` meets its contract. Assumes nothing.
-use mathlib.Core.Path.{_≡_, sym, ap, _∙_}
-use mathlib.Core.List.{List}
-use Prim.Native.Nat.{ℕ, _-_}
+use mathlib.Core.Path.{sym, ap, _∙_}
 use native.Mathlib.Omega.{arith}
 use borrow.Author.Needs.{needs}
-use lib.ListN.{length, take}
-use lib.Seq.{take-all}
 use Rattle.model.specs.Calls.{checkCall, numberOf, concernedOf}
+use Rattle.timed_network.proofs.Whole.{whole}
 use Rattle.timed_network.proofs.timed_network_check.Statement.{statement}
 use Rattle.timed_network.proofs.timed_network_check.Tie as tie
-
--- all of a list
-whole : (bs : List ℕ) → take (length bs - 0) bs ≡ bs
-whole bs = take-all (length bs - 0) bs (omega arith)
 
 check-header-requires : tie.Need-check-header-requires
 check-header-requires c κs = search needs
