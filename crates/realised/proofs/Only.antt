@@ -25,7 +25,7 @@ use Rattle.model.proofs.Network.Rules.{step-is}
 use Rattle.model.proofs.Network.Says.{same-rest}
 use Rattle.model.proofs.Network.Ways.{leftOn, follow-append}
 use Rattle.model.proofs.Reader.Limits.{read-limits}
-use Rattle.model.proofs.Run.Tied.{Given, given, shownBy, offset-is}
+use Rattle.model.proofs.Run.Tied.{Given, given, Tied, shownBy, offset-is}
 use Rattle.model.proofs.Run.Tick.{Live}
 use Rattle.model.proofs.Progress.Count.{start-live}
 use Rattle.model.proofs.Meaning.Path.{sound-start, start-free, Along, over, then, along}
@@ -34,7 +34,7 @@ use Rattle.realised.specs.Realised.{shownOn, RealisesBy, Only, Exactly}
 use Rattle.realised.proofs.Count.{worksOf, works-own, comes-counted, stepped, waitsIn, along-counted}
 use Rattle.realised.proofs.Chosen.{chosen-runs}
 use Rattle.realised.proofs.Places.{comes-last}
-use Rattle.realised.proofs.Exactly.{passes-on}
+use Rattle.realised.proofs.Passes.{passes-on}
 use Rattle.realised.proofs.Law.{carried, realised}
 
 -- one step more
@@ -80,49 +80,28 @@ stepped-all t [] q (w ∷ past) v vs n f k r = absurd (omega arith)
 stepped-all t (x ∷ left) q [] v vs n f k r = absurd (omega arith)
 stepped-all t (x ∷ left) q (w ∷ past) v vs n f k r = (λ i. f x (here refl), stepped-all t left q past v vs (omega arith) (λ y m. f y (there m)) k r)
 
-module _ {t : Read} {H : ℕ} {S : List Passage} (G : Given t H S []) {R : Run} (live : Live G R) (path : List Label) (s : State) (valid : follow (t .table) (start (t .table)) path ≡ some s)
-    (tick-is : R .tick ≡ s .tick) (works-are : R .works ≡ worksOn (t .table) (start (t .table)) path)
-    (shown-are : (c : ℕ) → c < size (t .table) → shownBy c (R .observations) ≡ shownOn t S path (s .tick) c) where
+module _ {t : Read} {H : ℕ} {S : List Passage} (G : Given t H S []) where
   abbrev T : Table
   T = t .table
 
   abbrev g : Setting
   g = settingAt t H S []
 
+  -- this path passes as the schedule says
   abbrev Passed : List Label → Type 0
   Passed ls = (c : ℕ) → c < size T → PassAs (passagesOn T c (start T) ls) (own c S)
 
-  below : s .tick < H
-  below = omega (arith, live .below, tick-is)
-
-  -- the start does
-  start-passed : Passed []
-  unfolding passagesOn
-  start-passed c h =
-      let L : Linked T H S c = schedule-linked (G .most) T H S (G .sched) c h in
-      let e : passageIn (start T) c ≡ startPassage (componentOf T c) = List·getD-map startPassage (T .components) c noComponent in
-      subst (PassAs (passageIn (start T) c ∷ [])) (sym (L .is))
-      (subst (λ (x : PathPassage). PassAs (x ∷ []) (L .head ∷ L .tail)) (sym e) (sym (L .starts), tt, tt))
-
-  -- step by step
-  walk : {p : State} {ls : List Label} → Along T p ls s → (done : List Label) → follow T (start T) done ≡ some p → Passed done → path ≡ done ++ ls → Passed path
-  walk over done led passed whole = subst Passed (sym (whole ∙ append-nil done)) passed
-  walk {p} (then {t = u} {l = l} {ls = ls} q a) done led passed whole =
-      walk a (done ++ (l ∷ [])) (led-on T (start T) done l led q) (passes-on G live path s valid tick-is works-are shown-are done p led passed l u q ls whole below) (whole ∙ sym (append-assoc done (l ∷ []) ls))
-
-  -- the whole path does
-  all-passed : Passed path
-  unfolding follow
-  all-passed = walk (along T (start T) path s valid) [] refl start-passed refl
-
   -- ## No window is missed
 
-  module _ (c : ℕ) (h : c < size T) where
+  -- in a state of a run with the path's tick and works, where the path passes as the schedule says
+  module _ {R : Run} (tied : Tied G R) (path : List Label) (s : State) (valid : follow T (start T) path ≡ some s)
+      (tick-is : R .tick ≡ s .tick) (works-are : R .works ≡ worksOn T (start T) path)
+      (all-passed : Passed path) (c : ℕ) (h : c < size T) where
     abbrev left : List PathPassage
     left = leftOn T c (start T) path
 
     abbrev ahead : List Passage
-    ahead = live .tied .ahead c
+    ahead = tied .ahead c
 
     are : passagesOn T c (start T) path ≡ left ++ (passageIn s c ∷ [])
     are = passages-are T c (start T) path valid
@@ -133,14 +112,14 @@ module _ {t : Read} {H : ℕ} {S : List Passage} (G : Given t H S []) {R : Run} 
     -- so many works of it are finished
     finished : (xs : List Passage) × (own c S ≡ xs ++ ahead) × (length xs ≡ length left + waitsIn s c)
     finished =
-        let r = comes-last (live .tied .came) c h in (
+        let r = comes-last (tied .came) c h in (
           r .0,
           r .1,
           omega (
             arith,
             ap length (r .1),
             length-append (r .0) ahead,
-            comes-counted (live .tied .came) c h,
+            comes-counted (tied .came) c h,
             works-own g c (R .works),
             ap (worksOf c) works-are,
             along-counted (sound-start T) (along T (start T) path s valid) c h,
@@ -150,7 +129,7 @@ module _ {t : Read} {H : ℕ} {S : List Passage} (G : Given t H S []) {R : Run} 
 
     -- what is ahead ends now or later
     ahead-later : (x : Passage) → x ∈ ahead → s .tick ≤ x .end
-    ahead-later x m = omega (arith, live .tied .along .before c h x m, offset-is t H S [] c h, tick-is)
+    ahead-later x m = omega (arith, tied .along .before c h x m, offset-is t H S [] c h, tick-is)
 
     -- where it is free
     free-ahead : waitsIn s c ≡ 0 → ahead ≡ at .now ∷ at .next
@@ -163,7 +142,7 @@ module _ {t : Read} {H : ℕ} {S : List Passage} (G : Given t H S []) {R : Run} 
         same-rest (f .0) ahead (at .past ++ (at .now ∷ [])) (at .next) (sym (f .1) ∙ (at .is ∙ sym (append-snoc (at .past) (at .now) (at .next))))
         (omega (arith, f .2, at .count, length-append (at .past) (at .now ∷ [])))
 
-    kept-one : SteppedBefore (s .tick) (passagesOn T c (start T) path) (own c S)
+    pub kept-one : SteppedBefore (s .tick) (passagesOn T c (start T) path) (own c S)
     kept-one =
         subst (λ (ps : List PathPassage). SteppedBefore (s .tick) ps (own c S)) (sym are)
         (subst (SteppedBefore (s .tick) (left ++ (passageIn s c ∷ []))) (sym (at .is)) (go (passageIn s c .waiting) refl))
@@ -186,9 +165,37 @@ module _ {t : Read} {H : ℕ} {S : List Passage} (G : Given t H S []) {R : Run} 
             (λ i. subst IsStepped (sym e) tt)
             (not-before (s .tick) (at .next) (λ x m. ahead-later x (subst (λ (l : List Passage). x ∈ l) (sym a) m)))
 
-  -- so the path keeps to the schedule
-  keeps : OnSchedule T S path s × (s .tick < H)
-  keeps = (record { valid = valid; scheduled = all-passed; kept = kept-one }, below)
+  -- ## A path that a run has below the horizon
+
+  module _ {R : Run} (live : Live G R) (path : List Label) (s : State) (valid : follow T (start T) path ≡ some s)
+      (tick-is : R .tick ≡ s .tick) (works-are : R .works ≡ worksOn T (start T) path)
+      (shown-are : (c : ℕ) → c < size T → shownBy c (R .observations) ≡ shownOn t S path (s .tick) c) where
+    below : s .tick < H
+    below = omega (arith, live .below, tick-is)
+
+    -- the start does
+    start-passed : Passed []
+    unfolding passagesOn
+    start-passed c h =
+        let L : Linked T H S c = schedule-linked (G .most) T H S (G .sched) c h in
+        let e : passageIn (start T) c ≡ startPassage (componentOf T c) = List·getD-map startPassage (T .components) c noComponent in
+        subst (PassAs (passageIn (start T) c ∷ [])) (sym (L .is))
+        (subst (λ (x : PathPassage). PassAs (x ∷ []) (L .head ∷ L .tail)) (sym e) (sym (L .starts), tt, tt))
+
+    -- step by step
+    walk : {p : State} {ls : List Label} → Along T p ls s → (done : List Label) → follow T (start T) done ≡ some p → Passed done → path ≡ done ++ ls → Passed path
+    walk over done led passed whole = subst Passed (sym (whole ∙ append-nil done)) passed
+    walk {p} (then {t = u} {l = l} {ls = ls} q a) done led passed whole =
+        walk a (done ++ (l ∷ [])) (led-on T (start T) done l led q) (passes-on G live path s valid tick-is works-are shown-are done p led passed l u q ls whole below) (whole ∙ sym (append-assoc done (l ∷ []) ls))
+
+    -- the whole path does
+    all-passed : Passed path
+    unfolding follow
+    all-passed = walk (along T (start T) path s valid) [] refl start-passed refl
+
+    -- so the path keeps to the schedule
+    pub keeps : OnSchedule T S path s × (s .tick < H)
+    keeps = (record { valid = valid; scheduled = all-passed; kept = kept-one (live .tied) path s valid tick-is works-are all-passed }, below)
 
 -- ## The law
 

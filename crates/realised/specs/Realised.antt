@@ -114,3 +114,12 @@ RealisedTo =
     (bytes : List ℕ) (t : Read) (S : List Passage) → readTable bytes ≡ accepted t → acceptedScheduleOf t ≡ accepted S
     → (path : List Label) (last : State) → OnSchedule (t .table) S (path ++ (tick ∷ [])) last → last .tick ≡ t .horizon
     → (choices : List ℕ) × RealisesTo t (t .horizon) S (path ++ (tick ∷ [])) last choices
+
+-- And no other is: a path of the network that ends with a tick, and that some run has which ends with the horizon, keeps to the schedule, and the
+-- tick is the one to the horizon.
+abbrev pub OnlyTo : Type 0
+OnlyTo =
+    (bytes : List ℕ) (t : Read) (S : List Passage) → readTable bytes ≡ accepted t → acceptedScheduleOf t ≡ accepted S
+    → (path : List Label) (last : State) → follow (t .table) (start (t .table)) (path ++ (tick ∷ [])) ≡ some last
+    → (choices : List ℕ) → RealisesTo t (t .horizon) S (path ++ (tick ∷ [])) last choices
+    → OnSchedule (t .table) S (path ++ (tick ∷ [])) last × (last .tick ≡ t .horizon)
