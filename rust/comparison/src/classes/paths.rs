@@ -2,6 +2,7 @@
 
 use super::close::{close_windows, moved_plan};
 use super::planned::{drawn, hub_and_probes, side_by_side, with_workers, workers_alone};
+use super::running::short_ticks;
 use super::Extent;
 use crate::difference::{Outcome, Stop};
 use crate::random::Random;
@@ -9,7 +10,7 @@ use crate::runs::paths::draw::draw;
 use crate::runs::paths::follow::choices;
 use crate::runs::Subject;
 use crate::stored;
-use crate::tables::planned::{near_passages, shortened, Size, Style};
+use crate::tables::planned::{near_passages, shortened, Style};
 use crate::trial::Trial;
 use reference::table::*;
 
@@ -36,12 +37,6 @@ fn follow_table(trial: &mut Trial, random: &mut Random, mut table: Table) -> Out
         table.horizon = near_passages(random, &table);
     }
     follow(trial, random, &write_table(&table), 3)
-}
-
-/// Any plan with short ticks.
-fn short_ticks(random: &mut Random) -> Size {
-    let unit = random.pick(&[1, 2, 3, 5, 9]);
-    Size::any(random).with_unit(unit)
 }
 
 /// All accepted tables of the vectors and the corpus.
