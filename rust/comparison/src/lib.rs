@@ -6,8 +6,9 @@
 //! the entries of schedules and at others both are asked for the edge that is
 //! taken. Of each table both are asked where it is refused by checks 4 to 9. At
 //! spreads both are asked for verdicts and for the windows that met, and run nodes
-//! that wake apart. The first difference ends the comparison. Each
-//! run is also held to demand 3.
+//! that wake apart. Of accepted tables random paths of the network within the
+//! schedule are drawn, and found again in runs. The first difference ends the
+//! comparison. Each run is also held to demand 3.
 //! [`tables`] makes well-formed tables, [`layout`] and [`bytes`] serve to
 //! damage them, [`runs`] draws choices, [`classes`] lists what is tried,
 //! [`trial`] tries it.
@@ -104,6 +105,8 @@ pub struct Least {
     pub of_each_apart: u64,
     /// Of each way in which checks 4 to 9 stop.
     pub of_each_place: u64,
+    /// Paths of each kind.
+    pub of_each_path: u64,
 }
 
 /// What the comparison should have tried and did not: a class without cases,
@@ -111,8 +114,8 @@ pub struct Least {
 /// too rarely, lists or bytes that never came back in one of the ways, a kind of
 /// edge choice that never came, parts never found or never missed, a kind of run
 /// that is too rare, an answer at a spread or a kind of run of nodes that wake
-/// apart that is, a way in which checks 4 to 9 stop that is, fewer cases or runs in
-/// all than demanded.
+/// apart that is, a way in which checks 4 to 9 stop that is, a kind of path that is,
+/// fewer cases or runs in all than demanded.
 pub fn gaps(tallies: &[Tally], least: &Least) -> Vec<String> {
     let empty = tallies.iter().filter(|tally| tally.is_empty());
     let mut gaps: Vec<String> = empty
@@ -135,6 +138,7 @@ pub fn gaps(tallies: &[Tally], least: &Least) -> Vec<String> {
     gaps.extend(sum.spreads.gaps(least.of_each_apart));
     gaps.extend(sum.apart.gaps(least.of_each_apart));
     gaps.extend(sum.places.gaps(least.of_each_place));
+    gaps.extend(sum.paths.gaps(least.of_each_path));
     let (cases, runs) = (sum.cases(), sum.runs.ran());
     for (count, least, what) in [(cases, least.cases, "cases"), (runs, least.runs, "runs")] {
         if count < least {
@@ -183,10 +187,10 @@ fn list_gaps(sum: &Tally) -> impl Iterator<Item = String> {
     never.map(|(_, gap)| gap.to_string())
 }
 
-/// The cases of all classes, the verdicts at spreads, and the runs, those of nodes
-/// that wake apart among them.
-pub fn cases(tallies: &[Tally]) -> [u64; 3] {
+/// The cases of all classes, the verdicts at spreads, the runs, those of nodes that
+/// wake apart among them, and the paths.
+pub fn cases(tallies: &[Tally]) -> [u64; 4] {
     let sum = Tally::sum(tallies);
     let runs = sum.runs.all() + sum.apart.all();
-    [sum.cases(), sum.spreads.verdicts(), runs]
+    [sum.cases(), sum.spreads.verdicts(), runs, sum.paths.all()]
 }

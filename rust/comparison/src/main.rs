@@ -25,6 +25,7 @@ const LEAST: Least = Least {
     of_each_hearing: 1_000,
     of_each_apart: 400,
     of_each_place: 400,
+    of_each_path: 400,
 };
 /// The comparison with the yardstick has to try at least so much.
 const LEAST_SHARE: Least = Least {
@@ -34,6 +35,7 @@ const LEAST_SHARE: Least = Least {
     of_each_hearing: 100,
     of_each_apart: 50,
     of_each_place: 60,
+    of_each_path: 60,
 };
 
 fn main() -> ExitCode {
@@ -93,9 +95,10 @@ fn conclude(tallies: &[Tally], least: &Least, name: &str) -> ExitCode {
         println!("comparison: {gap}");
     }
     if gaps.is_empty() {
-        let [cases, verdicts, runs] = cases(tallies);
+        let [cases, verdicts, runs, paths] = cases(tallies);
         println!(
-            "comparison: {cases} cases, {verdicts} verdicts at spreads, {runs} runs, 0 differences"
+            "comparison: {cases} cases, {verdicts} verdicts at spreads, {runs} runs, \
+             {paths} paths, 0 differences"
         );
         ExitCode::SUCCESS
     } else {

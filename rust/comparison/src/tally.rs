@@ -4,6 +4,7 @@ use crate::edge_choices::Chosen;
 use crate::places::Places;
 use crate::readers::{NUMBERS, TOO_SHORT};
 use crate::runs::apart::RunsApart;
+use crate::runs::paths::Paths;
 use crate::runs::Runs;
 use crate::spreads::Spreads;
 use std::fmt;
@@ -39,6 +40,8 @@ pub struct Tally {
     pub apart: RunsApart,
     /// Where the tables were refused.
     pub places: Places,
+    /// The paths within accepted schedules that were found again in runs.
+    pub paths: Paths,
 }
 
 /// How lent lists came back, or lent bytes.
@@ -159,6 +162,7 @@ impl Tally {
             spreads: Spreads::default(),
             apart: RunsApart::default(),
             places: Places::default(),
+            paths: Paths::default(),
         }
     }
 
@@ -171,7 +175,7 @@ impl Tally {
     pub fn is_empty(&self) -> bool {
         let lent = self.charts.all() + self.plans.all();
         let runs = self.runs.all() + self.apart.all();
-        let others = self.parts.iter().sum::<u64>() + self.spreads.all();
+        let others = self.parts.iter().sum::<u64>() + self.spreads.all() + self.paths.all();
         self.cases() + lent + runs + others == 0
     }
 
@@ -211,6 +215,7 @@ impl Tally {
             sum.spreads.add(&tally.spreads);
             sum.apart.add(&tally.apart);
             sum.places.add(&tally.places);
+            sum.paths.add(&tally.paths);
         }
         sum
     }
@@ -218,7 +223,7 @@ impl Tally {
 
 /// What was tried: the answers that were given, each with how often, then
 /// lists, programs, charts, plans, edge choices, parts, runs, what there is of nodes
-/// that wake apart, and where the tables were refused.
+/// that wake apart, where the tables were refused, and paths.
 impl fmt::Display for Tally {
     fn fmt(&self, out: &mut fmt::Formatter<'_>) -> fmt::Result {
         let [accepted, refusals @ ..] = &self.answers;
@@ -261,6 +266,9 @@ impl fmt::Display for Tally {
         }
         if self.places.all() > 0 {
             write!(out, "; {}", self.places)?;
+        }
+        if self.paths.all() > 0 {
+            write!(out, "; {}", self.paths)?;
         }
         Ok(())
     }

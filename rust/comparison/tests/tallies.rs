@@ -2,6 +2,7 @@
 
 use comparison::places::Places;
 use comparison::runs::apart::RunsApart;
+use comparison::runs::paths::Paths;
 use comparison::runs::Runs;
 use comparison::spreads::Spreads;
 use comparison::tally::{EdgeChoices, Lists, Tally};
@@ -34,6 +35,23 @@ fn tally(class: &'static str, answers: [u64; 16]) -> Tally {
         spreads: all_spreads(),
         apart: all_apart(),
         places: all_places(),
+        paths: all_paths(),
+    }
+}
+
+/// A path of each kind.
+fn all_paths() -> Paths {
+    Paths {
+        below: 3,
+        to_horizon: 2,
+        within_a_tick: 2,
+        ready_while_waiting: 1,
+        again: 1,
+        against_numbers: 1,
+        works: 9,
+        messages: 4,
+        observations: 11,
+        choices: 90,
     }
 }
 
@@ -100,6 +118,7 @@ fn least(cases: u64, runs: u64) -> Least {
         of_each_hearing: 12,
         of_each_apart: 1,
         of_each_place: 1,
+        of_each_path: 1,
     }
 }
 
@@ -108,7 +127,7 @@ fn what_was_not_tried_is_told() {
     let full = tally("full", FULL);
     let empty = Tally::new("empty");
     let some = tally("some", [0, 1, 1, 0, 1, 1, 1, 1, 1, 1, 1, 12, 0, 12, 0, 11]);
-    assert_eq!(cases(&[full.clone(), some.clone()]), [180, 38, 76 + 80]);
+    assert_eq!(cases(&[full.clone(), some.clone()]), [180, 38, 76 + 80, 10]);
     let one = std::slice::from_ref(&full);
     assert_eq!(gaps(one, &least(136, 28)), Vec::<String>::new());
     assert_eq!(gaps(one, &least(137, 28)), ["136 cases are fewer than 137"]);
@@ -129,6 +148,7 @@ fn what_was_not_tried_is_told() {
         spreads: all_spreads(),
         apart: all_apart(),
         places: all_places(),
+        paths: all_paths(),
         ..Tally::new("bare")
     };
     let told = [
@@ -165,9 +185,14 @@ fn what_was_not_tried_is_told() {
     assert_eq!(gaps(&[not_apart], &least(0, 0)).len(), 16 + 16);
     let nowhere = Tally {
         places: Places::default(),
-        ..full
+        ..full.clone()
     };
     assert_eq!(gaps(&[nowhere], &least(0, 0)).len(), 23 + 50 + 2 + 12 + 2);
+    let no_paths = Tally {
+        paths: Paths::default(),
+        ..full
+    };
+    assert_eq!(gaps(&[no_paths], &least(0, 0)).len(), 7);
 }
 
 #[test]
@@ -198,7 +223,11 @@ fn a_line_tells_all_answers_that_were_given() {
                 2 with an offset above the spread, 1 together, 3 with something filled in, \
                 8 messages of a sender ahead, 9 behind; \
                 108 places: 4: 36, 5: 69, 6: 3; 12 refused openings: 7: 1, 8: 4 at the start, \
-                4 later, 9: 1 at the start, 2 later; 1 with neither";
+                4 later, 9: 1 at the start, 2 later; 1 with neither; \
+                5 paths: 3 below the horizon, 2 to the horizon, 2 to the middle of a tick, \
+                1 with a window ready while waiting, 1 out and in again in one tick, \
+                1 against the order of the numbers; \
+                9 works, 4 messages, 11 observations, 90 choices";
     assert_eq!(some.to_string(), line);
     let sum = Tally::sum(&[some.clone(), some]);
     assert!(sum

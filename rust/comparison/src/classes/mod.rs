@@ -12,6 +12,7 @@ mod long;
 mod near_misses;
 mod one_byte;
 mod openings;
+mod paths;
 mod places;
 mod planned;
 mod programs;
@@ -70,7 +71,7 @@ const fn class(name: &'static str, run: fn(&mut Trial, &mut Random, &Extent) -> 
 }
 
 /// All classes, in the order in which they are tried.
-pub const CLASSES: [Class; 76] = [
+pub const CLASSES: [Class; 81] = [
     class("vectors", stored::vectors),
     class("corpus", stored::corpus),
     class("random bytes", random_bytes::anything),
@@ -159,4 +160,9 @@ pub const CLASSES: [Class; 76] = [
     class("openings: one passage too many", openings::passages),
     class("openings: no candidate", openings::candidates),
     class("openings: an update out of range", openings::updates),
+    class("paths of stored tables", paths::stored),
+    class("paths of a hub and its probes", paths::regular),
+    class("paths of planned tables", paths::planned),
+    class("paths of internal loops", paths::workers),
+    class("paths of windows close together", paths::close),
 ];

@@ -98,7 +98,7 @@ pub(super) fn regular(trial: &mut Trial, random: &mut Random, extent: &Extent) -
 }
 
 /// Any plan with short ticks.
-fn short_ticks(random: &mut Random) -> Size {
+pub(super) fn short_ticks(random: &mut Random) -> Size {
     let unit = random.pick(&[1, 2, 3, 5, 9, 20]);
     Size::any(random).with_unit(unit)
 }

@@ -4,6 +4,7 @@
 pub mod apart;
 pub mod choices;
 pub mod offsets;
+pub mod paths;
 mod tally;
 
 pub use tally::Runs;

@@ -2,6 +2,7 @@
 //! answers are compared and counted.
 
 mod choosing;
+mod following;
 mod locating;
 mod running;
 mod spreading;
