@@ -29,4 +29,6 @@ pub mod Cases
 pub mod RefusalCases
 pub mod DemandCases
 pub mod DemandWrongs
+pub mod ApartCases
+pub mod ApartWrongs
 pub mod Progress
