@@ -116,11 +116,15 @@ Wrongs =
     -- a path that stops at the slowest node's tick; one that goes to the common tick
     Not reach (ofTwins toBehind firstWorks [])
     × Not reach (ofWide (toTheProbesSleep ++ (0 ∷ [])) (replicate 4 tick ++ (together 0 0 1 0 ∷ tick ∷ [])))
-    -- a message at its receiver's tick, at the common tick; a lost one; one between the nodes exchanged; a work at the common tick
+    -- a message at its receiver's tick, at the common tick; a lost one; one between the nodes exchanged, to another node, on another channel; a work of
+    -- one node in its place; a work at the common tick
     × Not worked (working sent (two 0 1 0 6 ∷ []))
     × Not worked (working sent (two 0 1 0 4 ∷ []))
     × Not worked (working sent [])
     × Not worked (working sent (two 1 0 0 6 ∷ []))
+    × Not worked (working sent (two 0 2 0 5 ∷ []))
+    × Not worked (working sent (two 0 1 1 5 ∷ []))
+    × Not worked (working sent (one 0 5 ∷ []))
     × Not worked (filling (working behind (one 0 3 ∷ one 1 5 ∷ [])) [])
     -- filled in: the message that was lost; a work of the node that is ahead; one before the node's own clock; one at the path's last tick; one of an
     -- absent node
@@ -193,6 +197,9 @@ wrongs-refuted = (
   λ h. eqb-false 4 3 refl (ap (firstWork 3) h),
   λ h. eqb-false 0 256 refl (ap (firstWork 0) h),
   λ h. eqb-false 0 1 refl (ap (firstWork 0) h),
+  λ h. eqb-false 1 2 refl (ap (firstWork 1) h),
+  λ h. eqb-false 0 1 refl (ap (firstWork 2) h),
+  λ h. eqb-false 1 255 refl (ap (firstWork 1) h),
   λ h. eqb-false 5 3 refl (ap secondTick h),
   λ h. not-less 4 4 refl (firstFill h .2),
   λ h. not-most 6 5 refl (firstFill h .1),
