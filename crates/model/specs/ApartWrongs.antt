@@ -141,7 +141,7 @@ Wrongs =
     -- nothing shown by a node that woke later: of a run that is not late; of one that is, by another node
     × Not complete (telling behind (λ y. showing y (ofProbe 0 0 3 3 ∷ [])))
     × Not complete (telling firstLate (λ y. showing y (ofProbe 0 0 3 3 ∷ [])))
-    -- nobody listens to a node that woke later; two do; one that began with the sender, two ticks earlier by its own clock
+    -- nobody listens to a node that woke later; two do; one that began with the sender, a tick earlier by the clocks
     × Not listener (telling yetToSend (λ y. hubAt y noNode))
     × Not listener (telling yetToSend twoHubs)
     × Not listener beganWithIt
