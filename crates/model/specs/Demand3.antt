@@ -88,8 +88,16 @@ lateIn vs now r taking = readyBefore vs (r .sleeps) now
 lateIn vs now r elsewhere = readyBefore vs (r .sleeps) now
 lateIn vs now r nowhere = readyBefore vs (r .sleeps) now
 
+-- each node by its own clock, from the common tick
+abbrev pub isLateBy : (ℕ → ℕ → ℕ) → List Passage → Run → ℕ → Bool
+isLateBy clock S s c = lateIn (own c S) (clock c (s .tick)) (nodeOf s c) (standOf (nodeOf s c))
+
+-- nodes that start together go by the common tick
+abbrev pub common : ℕ → ℕ → ℕ
+common c now = now
+
 abbrev pub isLate : List Passage → Run → ℕ → Bool
-isLate S s c = lateIn (own c S) (s .tick) (nodeOf s c) (standOf (nodeOf s c))
+isLate S s c = isLateBy common S s c
 
 -- passage k of the component is there with that ready (end)
 abbrev pub readyIs : List Passage → ℕ → ℕ → Type 0
@@ -170,7 +178,8 @@ states g [] s = s ∷ []
 states g (b ∷ bs) s = s ∷ furtherStates (choose1 g s b) (λ t. states g bs t)
 
 -- ## The sentences of the demand, each of any path, any record of a run and any states that it went through. `Demand3` says them of the run's
--- own; `DemandCases` holds each against right and wrong ones.
+-- own, by the common tick; `Demand3Apart` (`Apart`) says those that have a clock by each node's own. `DemandCases` and `ApartCases` hold each
+-- against right and wrong ones.
 
 -- one path of the network, for all nodes together
 abbrev pub Valid : Table → List Label → State → Type 0
@@ -189,20 +198,27 @@ Kept T S path last = (c : ℕ) → c < size T → SteppedBefore (last .tick) (pa
 abbrev pub Worked : Table → List Label → Result → Type 0
 Worked T path result = worksOn T (start T) path ≡ result .state .works
 
-abbrev pub Observed : Table → List Passage → List Label → State → Result → Type 0
-Observed T S path last result =
+-- each node's observations are the first that the path shows of it, up to a tick of that node
+abbrev pub ObservedTo : (ℕ → ℕ) → Table → List Passage → List Label → Result → Type 0
+ObservedTo clock T S path result =
     (c : ℕ) → c < size T
     → Begins (observationsOf c result)
-    (observationsOn (componentOf T c) c (last .tick) (passagesOn T c (start T) path) (map (λ v. v .edge) (own c S)))
+    (observationsOn (componentOf T c) c (clock c) (passagesOn T c (start T) path) (map (λ v. v .edge) (own c S)))
+
+abbrev pub Observed : Table → List Passage → List Label → State → Result → Type 0
+Observed T S path last result = ObservedTo (λ c. last .tick) T S path result
 
 -- passages of c due before the tick
 abbrev pub dueBefore : List Passage → ℕ → ℕ → ℕ
 dueBefore S c now = length (only (λ v. ltb (v .ready) now) (own c S))
 
-abbrev pub Complete : Table → List Passage → Result → Type 0
-Complete T S result =
+abbrev pub CompleteBy : (ℕ → ℕ → ℕ) → Table → List Passage → Result → Type 0
+CompleteBy clock T S result =
     (c : ℕ) → c < size T
-    → dueBefore S c (result .state .tick) ≤ length (observationsOf c result) + cond (isLateEnd result && isLate S (result .state) c) 1 0
+    → dueBefore S c (clock c (result .state .tick)) ≤ length (observationsOf c result) + cond (isLateEnd result && isLateBy clock S (result .state) c) 1 0
+
+abbrev pub Complete : Table → List Passage → Result → Type 0
+Complete T S result = CompleteBy common T S result
 
 -- by the state after k choices carried out
 module _ (T : Table) (S : List Passage) (cs : List ℕ) (result : Result) (stateAfter : ℕ → Run) where
@@ -210,20 +226,32 @@ module _ (T : Table) (S : List Passage) (cs : List ℕ) (result : Result) (state
   Listened g = (k : ℕ) → k ≤ result .state .used → (c : ℕ) → c < size T → HasListener g (stateAfter k) c (standOf (nodeOf (stateAfter k) c))
 
   -- choice k is a tick that takes node c past its window's end or its next sleep
+  abbrev pub TakesLateBy : (ℕ → ℕ → ℕ) → ℕ → ℕ → Type 0
+  TakesLateBy clock k c = (getD cs k 0 ≡ 255) × (isLateBy clock S (stateAfter (suc k)) c ≡ true)
+
   abbrev pub TakesLate : ℕ → ℕ → Type 0
-  TakesLate k c = (getD cs k 0 ≡ 255) × (isLate S (stateAfter (suc k)) c ≡ true)
+  TakesLate = TakesLateBy common
 
   -- a late node at choice k: the run ends there and then, with the lowest one
+  abbrev pub LateEndsBy : (ℕ → ℕ → ℕ) → Type 0
+  LateEndsBy clock =
+      (k : ℕ) → k < result .state .used → (c : ℕ) → c < size T → TakesLateBy clock k c → (suc k ≡ result .state .used) × (result .end ≡ 2) × (result .node ≤ c)
+
   abbrev pub LateEnds : Type 0
-  LateEnds =
-      (k : ℕ) → k < result .state .used → (c : ℕ) → c < size T → TakesLate k c → (suc k ≡ result .state .used) × (result .end ≡ 2) × (result .node ≤ c)
+  LateEnds = LateEndsBy common
+
+  abbrev pub LateIsBy : (ℕ → ℕ → ℕ) → Type 0
+  LateIsBy clock = result .end ≡ 2 → (0 < result .state .used) × (result .node < size T) × TakesLateBy clock (pred (result .state .used)) (result .node)
 
   abbrev pub LateIs : Type 0
-  LateIs = result .end ≡ 2 → (0 < result .state .used) × (result .node < size T) × TakesLate (pred (result .state .used)) (result .node)
+  LateIs = LateIsBy common
 
   -- the other way: no choice that is barred was ever carried out
+  abbrev pub AllowedBut : (Run → ℕ → Type 0) → Type 0
+  AllowedBut Bars = (k : ℕ) → k < result .state .used → Bars (stateAfter k) (getD cs k 0) → ⊥
+
   abbrev pub Allowed : Type 0
-  Allowed = (k : ℕ) → k < result .state .used → Barred T S (stateAfter k) (getD cs k 0) → ⊥
+  Allowed = AllowedBut (Barred T S)
 
 abbrev pub NodeOf : Result → Type 0
 NodeOf result = (result .end ≡ 2 → ⊥) → result .node ≡ 255
@@ -237,14 +265,17 @@ TicksOf cs result = result .state .tick ≡ ticksIn (take (result .state .used) 
 abbrev pub NotBefore : ℕ → Result → (ℕ → Run) → Type 0
 NotBefore H result stateAfter = (k : ℕ) → k < result .state .used → stateAfter k .tick < H
 
+module _ (clock : ℕ → ℕ → ℕ) (g : Setting) (T : Table) (S : List Passage) (cs : List ℕ) (result : Result) where
+  -- how the run in this setting ended, and that it had not ended before
+  pub data EndsBy : Type 0 where
+    horizon : result .end ≡ 0 → result .state .tick ≡ g .horizon → ((c : ℕ) → c < size T → isLateBy clock S (result .state) c ≡ false) → EndsBy
+    usedUp : result .end ≡ 1 → result .state .used ≡ length cs → result .state .tick < g .horizon → EndsBy
+    late : result .end ≡ 2 → EndsBy
+    notAllowed : result .end ≡ 3 → result .state .used < length cs → choose1 g (result .state) (getD cs (result .state .used) 0) ≡ forbidden → EndsBy
+
 module _ (t : Read) (H : ℕ) (S : List Passage) (cs : List ℕ) (result : Result) where
-  -- how the run ended, and that it had not ended before
-  pub data EndedBy : Type 0 where
-    horizon : result .end ≡ 0 → result .state .tick ≡ H → ((c : ℕ) → c < size (t .table) → isLate S (result .state) c ≡ false) → EndedBy
-    usedUp : result .end ≡ 1 → result .state .used ≡ length cs → result .state .tick < H → EndedBy
-    late : result .end ≡ 2 → EndedBy
-    notAllowed : result .end ≡ 3 → result .state .used < length cs
-        → choose1 (settingTo t H S) (result .state) (getD cs (result .state .used) 0) ≡ forbidden → EndedBy
+  abbrev pub EndedBy : Type 0
+  EndedBy = EndsBy common (settingTo t H S) (t .table) S cs result
 
   -- why a choice was not allowed, in the words of the schedule
   pub data RefusedBy (b : ℕ) : Type 0 where

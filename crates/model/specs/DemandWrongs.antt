@@ -214,28 +214,28 @@ Wrongs =
 -- ## Why not
 
 -- sender (or the only node), receiver, channel, tick; 255 where there is none
-abbrev workParts : Work → List ℕ
+abbrev pub workParts : Work → List ℕ
 workParts (one c t) = c ∷ 255 ∷ 255 ∷ t ∷ []
 workParts (two a b k t) = a ∷ b ∷ k ∷ t ∷ []
 
-abbrev firstWork : ℕ → List Work → ℕ
+abbrev pub firstWork : ℕ → List Work → ℕ
 firstWork i [] = 256
 firstWork i (w ∷ ws) = getD (workParts w) i 256
 
-abbrev firstOf : (Observation → ℕ) → List Observation → ℕ
+abbrev pub firstOf : (Observation → ℕ) → List Observation → ℕ
 firstOf f [] = 256
 firstOf f (o ∷ os) = f o
 
-abbrev isForbidden : Outcome → ℕ
+abbrev pub isForbidden : Outcome → ℕ
 isForbidden forbidden = 1
 isForbidden (on s) = 0
 isForbidden (over s e n) = 0
 
-abbrev headOf : List ℕ → ℕ
+abbrev pub headOf : List ℕ → ℕ
 headOf [] = 256
 headOf (x ∷ xs) = x
 
-abbrev number : Bool → ℕ
+abbrev pub number : Bool → ℕ
 number true = 1
 number false = 0
 

@@ -26,6 +26,9 @@ pub mod Versions
 pub mod Build
 pub mod EdgeChoice
 pub mod Cases
+pub mod RefusalCases
 pub mod DemandCases
 pub mod DemandWrongs
+pub mod ApartCases
+pub mod ApartWrongs
 pub mod Progress

@@ -9,8 +9,9 @@ use Rattle.text.specs.Words.{ascii, decimal, field, refusalLine}
 abbrev pub noQuestion : List ℕ
 noQuestion = ascii "Does a question have this number?\n"
 
--- "Checks, in this order": the questions by their numbers. 11 and 15 to 17 are its question 11 in parts, as document 02's wish 3 tells them apart;
--- 18 is of its wish 4, 19 and 20 of its wish 6: "A G above 1,000 is refused with 19 after 3, an offset above G with 20 after 14."
+-- "Checks, in this order": the questions by their numbers. "Check 10 now concerns sends on one band only" (document 02, wish 2). 11 and 15 to 17 are
+-- its question 11 in parts, as document 02's wish 3 tells them apart; 18 is of its wish 4, 19 and 20 of its wish 6: "A G above 1,000 is refused with 19
+-- after 3, an offset above G with 20 after 14."
 abbrev pub questions : List (List ℕ)
 questions =
     noQuestion ∷ ascii "Is the first byte 1 or 2?\n"
@@ -22,7 +23,7 @@ questions =
     ∷ ascii "Are there at most 1,024 passages up to the horizon?\n"
     ∷ ascii "Has the location entered an edge with a window of one tick's length?\n"
     ∷ ascii "Does each update of the edge taken stay in range?\n"
-    ∷ ascii "Do no two send windows of different components share a tick?\n"
+    ∷ ascii "Do no two send windows of different components on one band share a tick?\n"
     ∷ ascii "Does a receive window on its channel share a tick with the send window?\n"
     ∷ ascii "Does no receive window share a tick with two sends on its channels?\n"
     ∷ ascii "Does the lent buffer hold the result?\n"

@@ -65,7 +65,7 @@ fn put_question_on_time(out: &mut [u8], at: usize, number: u8) -> usize
         10 => put(
             out,
             at,
-            b"Do no two send windows of different components share a tick?\n",
+            b"Do no two send windows of different components on one band share a tick?\n",
         ),
         11 => put(
             out,

@@ -40,3 +40,12 @@ enough = refl
 pub huge : planCall (slotsOf 1 1 2147483648 30000) (replicate 84 7) .verdict ≡ Refused 18 255
 unfolding planCall
 huge = refl
+
+-- 18 for each number outside its range, with the whole answer: nothing is written
+abbrev pub Refuses : ℕ → ℕ → ℕ → ℕ → Type 0
+Refuses probes slot guard period =
+    planCall (slotsOf probes slot guard period) (replicate 300 7) ≡ record { verdict = Refused 18 255; size = 0; lent = replicate 300 7 }
+
+pub outside : Refuses 0 1 1 100 × Refuses 8 1 1 100 × Refuses 1 0 1 100 × Refuses 1 1001 1 30000 × Refuses 1 1 0 100 × Refuses 1 1 1001 30000 × Refuses 1 1 1 30001
+unfolding planCall
+outside = (refl, refl, refl, refl, refl, refl, refl)

@@ -12,8 +12,8 @@ use Rattle.model.specs.Limits.{InLimits}
 use Rattle.model.specs.Schedule.{Passage}
 use Rattle.model.specs.Checks.{acceptedScheduleAt}
 use Rattle.model.specs.Run.{settingAt, offsetOf, awake, Run, Result, runFrom, run, startRun}
-use Rattle.model.specs.Demand3.{reached, states}
-use Rattle.model.specs.Apart.{Permitted, LateThen, EndedApart, horizon, usedUp, late, notAllowed, RefusedApart, noNode, asleep, notDue, due, BarredApart, absent, unwoken, early, pending, stateThen, Demand3Apart, PromiseApart}
+use Rattle.model.specs.Demand3.{reached, states, horizon, usedUp, late, notAllowed}
+use Rattle.model.specs.Apart.{Permitted, LateThen, EndedApart, RefusedApart, noNode, asleep, notDue, due, BarredApart, absent, unwoken, early, pending, stateThen, Demand3Apart, PromiseApart}
 use Rattle.model.proofs.Network.Order.{Sorted}
 use Rattle.model.proofs.Reader.Limits.{read-limits}
 use Rattle.model.proofs.Run.Tied.{Given, given-apart, offset-is}

@@ -17,7 +17,7 @@ use Rattle.model.specs.Run.{Setting, settingTo, offsetIn, ownTick, Run, 
 use Rattle.model.specs.Demand3.{stateAfter, Begins, observationsOf, isLateEnd, reached, lateIn, isLate, DueIn, NotDueIn, EarlyIn, Barred, absent, early, pending, Ended, horizon, usedUp, late, notAllowed, Refused, noNode, notDue, due, Demand3}
 use Rattle.model.specs.Apart.{ownWork, workNode, most, EndedApart, RefusedApart, asleep, BarredApart, Demand3Apart}
 use Rattle.model.specs.Apart.{absent as absent-apart, early as early-apart, pending as pending-apart}
-use Rattle.model.specs.Apart.{horizon as horizon-apart, usedUp as usedUp-apart, late as late-apart, notAllowed as notAllowed-apart, noNode as noNode-apart, notDue as notDue-apart, due as due-apart}
+use Rattle.model.specs.Apart.{noNode as noNode-apart, notDue as notDue-apart, due as due-apart}
 use Rattle.model.proofs.Basics.Words.{all-join}
 use Rattle.model.proofs.Schedule.Own.{all-then}
 use Rattle.model.proofs.Network.Order.{Sorted}
@@ -104,10 +104,10 @@ module _ (t : Read) (H : ℕ) (S : List Passage) (cs : List ℕ) (some-node : 0 
   late-same s c = ap (λ (n : ℕ). lateIn (own c S) n (nodeOf s c) (standOf (nodeOf s c))) (same c (s .tick))
 
   ended′ : EndedApart t H S [] cs → Ended t H S cs
-  ended′ (horizon-apart x y z) = horizon x y (λ c h. sym (late-same (R .state) c) ∙ z c h)
-  ended′ (usedUp-apart x y z) = usedUp x y z
-  ended′ (late-apart x) = late x
-  ended′ (notAllowed-apart x y z) = notAllowed x y z
+  ended′ (horizon x y z) = horizon x y (λ c h. sym (late-same (R .state) c) ∙ z c h)
+  ended′ (usedUp x y z) = usedUp x y z
+  ended′ (late x) = late x
+  ended′ (notAllowed x y z) = notAllowed x y z
 
   refused′ : (b : ℕ) → RefusedApart t H S [] cs b → Refused t H S cs b
   refused′ b (noNode-apart x y) = noNode x y
