@@ -248,7 +248,8 @@ has_ended() {
 }
 
 # A signal ends the tool with what it has in the background: Ctrl-C, which goes to the whole group and which what is in the background ignores by
-# itself, and each signal to the command's process alone. Nothing else is said.
+# itself, and each signal to the command's process alone. Nothing else is said. A signal that is ignored where the tests are started, as in the
+# background, is not ignored here.
 cat >"$work/tools/rt" <<'TEXT'
 #!/usr/bin/env bash
 (echo "$BASHPID" >worker; echo 'rt: parts proved (2 s)'; sleep 60) &
@@ -261,7 +262,7 @@ is_ended_by() {
     rm -rf "$work/tree/target" "$work/tree/worker"
     : >err
     set -m
-    PATH="$work/tools" TMPDIR="$work/folder" "$work/tree/vanillatarn" schedule cellar.bin >out 2>err &
+    env --default-signal=INT,TERM,HUP PATH="$work/tools" TMPDIR="$work/folder" "$work/tree/vanillatarn" schedule cellar.bin >out 2>err &
     set +m
     for ((tries = 0; tries < 100; tries++)); do
         ! grep -q parts err || break
