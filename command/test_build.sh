@@ -187,7 +187,7 @@ printf 'vanillatarn: %s\n' 'building what is needed, once (about N s left); it c
     '[1 of 3] compiling table_text' '[3 of 3] schedule_printer' >"$work/expected"
 sed -E 's/about [0-9]+ s/about N s/' err >"$work/told"
 check 'one count for both' cmp -s "$work/expected" "$work/told"
-rm "$work/tools/cargo"
+rm -r "$work/tools/cargo" "$work/tree/rust"
 
 # A program that writes something else.
 printf '#!/usr/bin/env bash\necho perhaps\n' >"$work/tree/target/bin/schedule_printer"

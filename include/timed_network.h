@@ -30,8 +30,8 @@
  * The version of this header and its archive, as words and as a number that
  * grows: 10,000 x major + 100 x minor + patch.
  */
-#define TIMED_NETWORK_VERSION "0.6.0"
-#define TIMED_NETWORK_VERSION_NUMBER 600
+#define TIMED_NETWORK_VERSION "0.6.1"
+#define TIMED_NETWORK_VERSION_NUMBER 601
 
 /*
  * Limits and sizes. "Enough" is what a buffer needs for any table.
