@@ -196,11 +196,28 @@ static void write_opening(const struct stored *stored, enum where where) {
     write_some(opening.update);
 }
 
+/* The passage, then the edges, each with its reason in a word. */
+static void write_reasons(const struct stored *stored, enum where where) {
+    static const char *const words[] = {" taken", " data", " window", " later", " higher"};
+    timed_network_reason_numbers answer =
+        guarded_reasons(where, stored->table, stored->question, stored->lent);
+    if (write_refusal(answer.number, answer.component))
+        return;
+    write_number("", answer.passage);
+    for (size_t i = 0; i < answer.size; i++) {
+        write_number("|", told[REASON * i]);
+        write_text(words[told[REASON * i + 1]]);
+        if (told[REASON * i + 1] == TIMED_NETWORK_DATA_BOUND)
+            write_number(" ", told[REASON * i + 2]);
+    }
+}
+
 void stored_try(const struct stored *stored, enum where where) {
     static void (*const writers[])(const struct stored *, enum where) = {
         write_check,        write_schedule,  write_chart, write_plan,
         write_looked,       write_program,   write_part,  write_run,
-        write_check_spread, write_run_apart, write_place, write_opening};
+        write_check_spread, write_run_apart, write_place, write_opening,
+        write_reasons};
     trying("a stored case", stored->name);
     used = 0;
     text[0] = 0;

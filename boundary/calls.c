@@ -3,11 +3,11 @@
 #include <string.h>
 
 const char *const call_names[CALLS] = {
-    "check",         "schedule",        "timing_chart",   "plan",
-    "edge_choice",   "translate",       "part",           "run",
-    "check_spread",  "run_apart",       "refusal_place",  "refused_opening",
-    "passages",      "meetings",        "largest_spread", "meetings_spread",
-    "start",         "step",            "take_message"};
+    "check",           "schedule",  "timing_chart",  "plan",
+    "edge_choice",     "translate", "part",          "run",
+    "check_spread",    "run_apart", "refusal_place", "refused_opening",
+    "reasons",         "passages",  "meetings",      "largest_spread",
+    "meetings_spread", "start",     "step",          "take_message"};
 unsigned long made[CALLS];
 uint32_t list[MAX_LIST];
 uint8_t chart[MAX_CHART];
@@ -36,6 +36,7 @@ void calls_start(void) {
     meetings_start();
     apart_start();
     refused_start();
+    reasons_start();
 }
 
 void try_verdict(uint8_t number, uint8_t component, uint8_t most) {

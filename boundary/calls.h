@@ -14,6 +14,8 @@ enum {
     CHART_ROW = 69,
     MAX_CHART = 8 * CHART_ROW,
     MAX_PLAN = 414,
+    REASON = 3,
+    MAX_TOLD = REASON * MAX_EDGES,
     MAX_TABLE = 12288,
     MAX_PROGRAM = 24576,
     MAX_PART = 65535,
@@ -41,7 +43,12 @@ struct slots {
     uint32_t probes, slot, guard, period;
 };
 
-/* The exported calls; vectors ask for those up to REFUSED_OPENING. */
+/* What the reasons are asked about. */
+struct question {
+    uint32_t component, tick;
+};
+
+/* The exported calls; vectors ask for those up to REASONS. */
 enum call {
     CHECK,
     SCHEDULE,
@@ -55,6 +62,7 @@ enum call {
     RUN_APART,
     REFUSAL_PLACE,
     REFUSED_OPENING,
+    REASONS,
     PASSAGES,
     MEETINGS,
     LARGEST_SPREAD,
@@ -73,6 +81,7 @@ extern unsigned long made[CALLS];
 extern uint32_t list[MAX_LIST];
 extern uint8_t chart[MAX_CHART];
 extern uint8_t plan[MAX_PLAN];
+extern uint8_t told[MAX_TOLD];
 extern uint8_t program[MAX_PROGRAM];
 extern uint8_t observations[MAX_OBSERVATIONS];
 extern timed_network_passage passages[MAX_PASSAGES];
@@ -82,6 +91,7 @@ void calls_start(void);
 void meetings_start(void);
 void apart_start(void);
 void refused_start(void);
+void reasons_start(void);
 
 /*
  * What holds for every verdict: 0 to `most`, the last number of the call, or,
@@ -117,10 +127,16 @@ timed_network_run_numbers guarded_run_apart(enum where where, struct bytes table
                                             size_t lent);
 timed_network_place_numbers guarded_refusal_place(enum where where, struct bytes table);
 timed_network_opening_numbers guarded_refused_opening(enum where where, struct bytes table);
+timed_network_reason_numbers guarded_reasons(enum where where, struct bytes table,
+                                             struct question question, size_t lent);
 timed_network_node_registers guarded_start(enum where where, struct bytes part);
 void guarded_step(enum where where, timed_network_node_registers *node, struct bytes part,
                   uint8_t clocks, uint8_t variables);
 void guarded_take_message(enum where where, timed_network_node_registers *node,
                           struct bytes part, uint8_t channel);
+
+/* The reasons with as many bytes lent as they need plus `more`. */
+void lend_for_reasons(enum where where, struct bytes table, struct question question,
+                      long more);
 
 #endif

@@ -32,6 +32,19 @@ static void same(int condition, const char *what) {
 /* All nodes wake at tick 0. */
 static const struct waking together;
 
+/* A component and a tick, most of them in a table, or the first that is not. */
+static struct question any_question(struct bytes table) {
+    size_t components = table.length > 3 ? table.at[3] : 0;
+    size_t horizon = table.length > 6 ? 256u * table.at[5] + table.at[6] : 0;
+    struct question question = {(uint32_t)random_below(components + 1),
+                                (uint32_t)random_below(horizon + 1)};
+    if (random_below(16) == 0)
+        question.component = (uint32_t)random_number();
+    if (random_below(16) == 0)
+        question.tick = (uint32_t)random_number();
+    return question;
+}
+
 /* The calls that write, with as much lent as they need plus `more`. */
 static void lend(enum where where, struct bytes table, struct bytes choices, long more) {
     size_t rows = guarded_schedule(where, table, MAX_LIST).size;
@@ -58,6 +71,7 @@ static void lend(enum where where, struct bytes table, struct bytes choices, lon
     same(guarded_timing_chart(where, table, lent[4]).number ==
              (lent[4] < needed[4] ? 13 : 0),
          "bytes for a chart are refused or taken wrongly");
+    lend_for_reasons(where, table, any_question(table), more);
 }
 
 static void stored_cases(void) {
@@ -214,6 +228,7 @@ static void all_calls(enum where where, struct bytes table, struct bytes choices
     any_entry(where, table, verdict.number);
     guarded_refusal_place(where, table);
     guarded_refused_opening(where, table);
+    guarded_reasons(where, table, any_question(table), lent % (MAX_TOLD + 1));
     if (verdict.number != 0) {
         same(planned.number == verdict.number && translated.number == verdict.number &&
                  ran.number == verdict.number && charted.number == verdict.number,

@@ -50,6 +50,7 @@ static timed_network_spread_numbers largest;
 static timed_network_edge_choice_numbers edge_choice;
 static timed_network_place_numbers refusal_place;
 static timed_network_opening_numbers refused_opening;
+static timed_network_reason_numbers reasons;
 
 /* What is lent to a call. For a node's calls `bytes` is its part. */
 struct lent {
@@ -57,6 +58,7 @@ struct lent {
     uint8_t number;
     struct slots slots;
     struct waking waking;
+    struct question question;
 };
 
 /* Apart from the others, whose frame would else hold what is passed in memory. */
@@ -81,6 +83,12 @@ __attribute__((noinline)) static void call_refusal_place(const uint8_t *bytes, s
 __attribute__((noinline)) static void call_refused_opening(const uint8_t *bytes,
                                                            size_t length) {
     refused_opening = timed_network_refused_opening(bytes, length);
+}
+
+__attribute__((noinline)) static void call_reasons(const struct lent *lent) {
+    reasons = timed_network_reasons(lent->bytes.at, lent->bytes.length,
+                                    lent->question.component, lent->question.tick, told,
+                                    MAX_TOLD);
 }
 
 static void call(int request, const struct lent *lent) {
@@ -124,6 +132,9 @@ static void call(int request, const struct lent *lent) {
         break;
     case REFUSED_OPENING:
         call_refused_opening(bytes, length);
+        break;
+    case REASONS:
+        call_reasons(lent);
         break;
     case PASSAGES:
         called = timed_network_passages(bytes, length, passages, MAX_PASSAGES);
@@ -233,8 +244,8 @@ static void each_part(int request, measure *measure, const struct stored *stored
 static void each_case(int request, measure *measure) {
     for (size_t i = 0; i < case_count; i++) {
         const struct stored *stored = &cases[i];
-        struct lent lent = {stored->table, stored->choices, stored->node, stored->slots,
-                            stored->waking};
+        struct lent lent = {stored->table, stored->choices, stored->node,
+                            stored->slots, stored->waking,  stored->question};
         if (request < START) {
             size_t found = measure(request, &lent);
             note(request, found);

@@ -88,6 +88,15 @@ static void read_waking(struct waking *waking, char *words) {
     }
 }
 
+/* The component and the tick of a question. */
+static struct question read_question(const char *words) {
+    unsigned long component, tick;
+    if (sscanf(words, "%lu %lu", &component, &tick) != 2)
+        fail("a question is not understood");
+    struct question question = {(uint32_t)component, (uint32_t)tick};
+    return question;
+}
+
 /*
  * The request of a word. A check and a run that say a spread, behind the table
  * and behind the choices, are those at a spread.
@@ -99,6 +108,8 @@ static size_t request_of(const char *word, const char *words) {
         return REFUSAL_PLACE;
     if (strcmp(word, "opening") == 0)
         return REFUSED_OPENING;
+    if (strcmp(word, "why") == 0)
+        return REASONS;
     size_t request = 0;
     while (request <= RUN && strcmp(all[request], word) != 0)
         request++;
@@ -127,6 +138,8 @@ static void read_words(struct stored *stored, char *table) {
         stored->choices = from_hex(more);
     else if (request == CHECK_SPREAD)
         read_waking(&stored->waking, more);
+    else if (request == REASONS)
+        stored->question = read_question(more);
     else if (request == PART)
         stored->node = (uint8_t)atoi(more);
     else if (request == TIMING_CHART)
@@ -146,7 +159,7 @@ static void read_vectors(const char *root, const char *path) {
         }
         char *words = cut(request, ' ');
         struct stored *stored = add(line, (enum call)request_of(request, words), answer);
-        stored->lent = lent;
+        stored->lent = stored->request == REASONS && lent > MAX_TOLD ? MAX_TOLD : lent;
         read_words(stored, words);
         line = next;
     }
@@ -166,6 +179,22 @@ static void read_spreads(const char *root, char *name, struct bytes table) {
     }
 }
 
+/* Why edges of a table of the corpus are taken: component, tick and the answer a line. */
+static void read_questions(const char *root, char *name, struct bytes table) {
+    char path[300];
+    snprintf(path, sizeof path, "corpus/%s.why", name);
+    char *line = (char *)read_file(root, path).at;
+    while (*line != 0) {
+        char *next = cut(line, '\n');
+        char *tick = strchr(line, ' ');
+        struct stored *stored = add(name, REASONS, cut(tick + 1, ' '));
+        stored->table = table;
+        stored->lent = MAX_TOLD;
+        stored->question = read_question(line);
+        line = next;
+    }
+}
+
 /* Where tables of the corpus are refused: a name, and a place or an opening, a line. */
 static void read_places(const char *root) {
     char *line = (char *)read_file(root, "corpus/places.tsv").at;
@@ -180,7 +209,7 @@ static void read_places(const char *root) {
     }
 }
 
-/* A table of the corpus: its verdict, and its schedule if accepted. */
+/* A table of the corpus: its verdict, and its schedule and its reasons if accepted. */
 static void read_corpus(const char *root) {
     char *line = (char *)read_file(root, "corpus/answers.tsv").at;
     while (*line != 0) {
@@ -199,6 +228,7 @@ static void read_corpus(const char *root) {
                 if (text.at[i] == '\n')
                     text.at[i] = i + 1 < text.length ? '|' : 0;
             add(line, SCHEDULE, (char *)text.at)->table = table;
+            read_questions(root, line, table);
         }
         line = next;
     }
@@ -213,6 +243,7 @@ void stored_read(const char *root) {
     read_vectors(root, "vectors/plan.tsv");
     read_vectors(root, "vectors/edge_choice.tsv");
     read_vectors(root, "vectors/apart.tsv");
+    read_vectors(root, "vectors/reasons.tsv");
     read_vectors(root, "vectors/places.tsv");
     read_corpus(root);
     read_places(root);

@@ -5,11 +5,7 @@
  */
 #include <stdlib.h>
 
-#include "../include/timed_network.h"
-
-/* A call, as the library has it and as it is put in front of it; both are of the header's type. */
-#define CALL(name)                                                                             \
-    __typeof__(timed_network_##name) __real_timed_network_##name, __wrap_timed_network_##name
+#include "wrong.h"
 
 CALL(check);
 CALL(schedule);
@@ -31,7 +27,7 @@ CALL(run_apart);
 CALL(refusal_place);
 CALL(refused_opening);
 
-static int wrong(int fault) {
+int wrong(int fault) {
     static int chosen = -1;
     if (chosen < 0) {
         const char *word = getenv("WRONG");
@@ -40,7 +36,7 @@ static int wrong(int fault) {
     return chosen == fault;
 }
 
-static void touch(const uint8_t *at) {
+void touch(const uint8_t *at) {
     (void)*(const volatile uint8_t *)at;
 }
 

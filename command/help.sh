@@ -13,6 +13,7 @@ usage: vanillatarn COMMAND ...
   plan --probes N --slot S --guard G --period P [-o FILE]
                                             a table in which each probe has a slot
   edge TABLE --component C --location L ... the edge that is taken at an entry
+  why [--json] TABLE COMPONENT TICK         why a component takes its edge at a tick
   translate TABLE [-o FILE]                 the program of its nodes
   list PROGRAM                              a program, a statement a line
   part PROGRAM NODE [-o FILE]               the part of a program that belongs to one node
@@ -39,7 +40,8 @@ Exit status
   0  fine
   1  the answer is no: a table or a plan is refused, no edge is taken, a run ends
      late or with a choice that is not allowed, a spread or an offset is too large,
-     a program is damaged or has no such part, a text has a fault
+     a component or a tick that is asked about is not there, a program is damaged
+     or has no such part, a text has a fault
   2  wrong use; a file that cannot be read or written, is empty or too long
   3  a tool is missing, could not be built or failed; standard output, standard
      error or the scratch folder cannot be written
@@ -141,6 +143,25 @@ The table has to pass checks 1 to 6 alone: for a table that 8 refuses this shows
 where no edge is a candidate. No edge leaves a location that is not there.
 
 Exit status: 0 an edge is taken; 1 none is, or the table is refused.
+TEXT
+        why) cat <<'TEXT' ;;
+usage: vanillatarn why [--json] TABLE COMPONENT TICK
+
+Tells in which passage the component is at the tick, which has to be below the
+horizon: the one whose entry is at or before it and whose end lies after it. Prints
+the passage's number and its line of vanillatarn schedule, then of each edge from
+its location one reason, the first that holds: it is taken; a data bound fails, with
+the value at the passage's entry and what is allowed; it has no window of at least
+one tick, with the bounds that leave none; it is ready later than the one taken; it
+is ready together with that one, but numbered higher. Of a text the line of each
+edge is told too.
+
+--json: an object (docs/FORMATS.md)
+
+A number above 4,294,967,295 counts as that one.
+
+Exit status: 0 told; 1 the table is refused, or the question, with 21: there is no
+such component, or the tick is not below the horizon.
 TEXT
         translate) cat <<'TEXT' ;;
 usage: vanillatarn translate TABLE [-o FILE]

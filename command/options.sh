@@ -56,7 +56,7 @@ read_option() {
             manner=$1
             ;;
         --json | --quiet)
-            has_option j "$1"
+            [[ $1 == --json && $options == *t* ]] || has_option j "$1"
             [[ $form == words || $form == "${1#--}" ]] || misused '--json and --quiet exclude each other'
             form=${1#--}
             ;;

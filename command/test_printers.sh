@@ -11,7 +11,7 @@ corpus="$root/corpus"
 work="$(mktemp -d)"
 trap 'rm -rf -- "$work"' EXIT
 cd "$root"
-rt check schedule_printer chart_printer verdict_printer spread_printer plan_table translate_table program_listing trial_run >"$work/built" || { cat "$work/built"; exit 1; }
+rt check schedule_printer chart_printer verdict_printer spread_printer reason_printer plan_table translate_table program_listing trial_run >"$work/built" || { cat "$work/built"; exit 1; }
 cd "$work"
 
 passed=0 failed=0
@@ -31,6 +31,13 @@ check() {
 # The first line of a verdict at a spread: the table, the spread.
 verdict_at() {
     "$programs/verdict_printer" "$2" <"$1" | head -n 1
+}
+
+# What the reason printer wrote, as the corpus has it: the passage, then each edge with its reason.
+shortened() {
+    sed -n -e 's/^passage //p' -e 's/^edge \([0-9]*\): taken, ticks .*/|\1 taken/p' -e 's/^edge \([0-9]*\): data bound \([0-9]\) fails: v.*/|\1 data \2/p' \
+        -e 's/^edge \([0-9]*\): no window of at least one tick: .*/|\1 window/p' -e 's/^edge \([0-9]*\): ready later, at tick .*/|\1 later/p' \
+        -e 's/^edge \([0-9]*\): ready together with edge .*/|\1 higher/p' -e 's/^refused .*/&/p' | tr -d '\n'
 }
 
 # The schedule of an accepted table, or the refusal's line, and nothing else.
@@ -61,6 +68,16 @@ while IFS=$'\t' read -r name answer; do
         check "$name: a program and nothing else" test -s out -a ! -s err
     else
         check "$name: its program refused, and none written" test "$(head -n 1 err)-$(wc -c <out)" = "$answer-0"
+    fi
+    if [[ $answer == accepted ]]; then
+        while read -r component tick reasons; do
+            "$programs/reason_printer" "$component" "$tick" <"$corpus/$name.bin" >out 2>err
+            check "$name: the reasons at $component $tick" test "$(shortened <out)" = "$reasons"
+            check "$name: nothing on standard error" test ! -s err
+        done <"$corpus/$name.why"
+    else
+        "$programs/reason_printer" 0 0 <"$corpus/$name.bin" >out 2>err
+        check "$name: the reasons refused" test "$(head -n 1 out)" = "$answer"
     fi
     "$programs/trial_run" "$corpus/$name.bin" /dev/null >out 2>err
     if [[ $answer == accepted ]]; then
@@ -118,7 +135,7 @@ check 'the corpus has ticks of five digits and more' grep -q -E ' [0-9]{5,} ' "$
 # An output that cannot be written is told.
 full() {
     local program=$1 said=$2
-    "$programs/$program" <"$corpus/probe_and_hub.bin" >/dev/full 2>err || true
+    "$programs/$program" "${@:3}" <"$corpus/probe_and_hub.bin" >/dev/full 2>err || true
     check "$program: an output that cannot be written is told" grep -q -F -- "$said" err
 }
 full schedule_printer 'The schedule could not be written.'
@@ -126,6 +143,7 @@ full chart_printer 'The chart could not be written.'
 full verdict_printer 'The verdict could not be written.'
 full spread_printer 'The spread could not be written.'
 full translate_table 'The program could not be written.'
+full reason_printer 'The reasons could not be written.' 0 0
 full program_listing 'The listing could not be written.'
 "$programs/trial_run" "$corpus/probe_and_hub.bin" /dev/null >/dev/full 2>err || true
 check 'trial_run: an output that cannot be written is told' grep -q -F 'The run could not be written.' err

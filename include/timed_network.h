@@ -30,8 +30,8 @@
  * The version of this header and its archive, as words and as a number that
  * grows: 10,000 x major + 100 x minor + patch.
  */
-#define TIMED_NETWORK_VERSION "0.6.1"
-#define TIMED_NETWORK_VERSION_NUMBER 601
+#define TIMED_NETWORK_VERSION "0.7.0"
+#define TIMED_NETWORK_VERSION_NUMBER 700
 
 /*
  * Limits and sizes. "Enough" is what a buffer needs for any table.
@@ -45,6 +45,8 @@
 #define TIMED_NETWORK_MEETINGS_ENOUGH (7 * 1025)        /* numbers of meetings */
 #define TIMED_NETWORK_CHART_ROW 69                      /* bytes of a chart's row */
 #define TIMED_NETWORK_CHART_ENOUGH (69 * 8)             /* bytes of a chart */
+#define TIMED_NETWORK_REASON 3                          /* bytes of an edge's reason */
+#define TIMED_NETWORK_REASONS_ENOUGH (3 * 32)           /* bytes of a question's */
 #define TIMED_NETWORK_MAX_PLAN 414                      /* bytes of a plan: enough */
 #define TIMED_NETWORK_MAX_PROGRAM 24576                 /* bytes of a program: enough */
 #define TIMED_NETWORK_OBSERVATION 32                    /* bytes of an observation */
@@ -76,7 +78,8 @@ enum timed_network_number {
     TIMED_NETWORK_REFUSED_LISTENER_SHORT = 17,
     TIMED_NETWORK_REFUSED_PLAN = 18,
     TIMED_NETWORK_REFUSED_SPREAD = 19,
-    TIMED_NETWORK_REFUSED_OFFSET = 20
+    TIMED_NETWORK_REFUSED_OFFSET = 20,
+    TIMED_NETWORK_REFUSED_QUESTION = 21
 };
 
 /* What the end of a run means; see timed_network_run_numbers. */
@@ -85,6 +88,15 @@ enum timed_network_end {
     TIMED_NETWORK_END_USED_UP = 1,
     TIMED_NETWORK_END_LATE = 2,
     TIMED_NETWORK_END_NOT_ALLOWED = 3
+};
+
+/* Why an edge is taken, or not; see timed_network_reasons. */
+enum timed_network_reason {
+    TIMED_NETWORK_TAKEN = 0,
+    TIMED_NETWORK_DATA_BOUND = 1,
+    TIMED_NETWORK_NO_WINDOW = 2,
+    TIMED_NETWORK_READY_LATER = 3,
+    TIMED_NETWORK_HIGHER_NUMBER = 4
 };
 
 /* What a part of a table is; see timed_network_place_numbers. */
@@ -135,7 +147,7 @@ extern "C" {
  *
  * 15 to 17 stand in the place of 11 (document 02): they are asked after 10 and
  * before 12, and earlier versions of this library said 11 for all four. 13, 14
- * and 18 to 20 refuse a call and say nothing about a table.
+ * and 18 to 21 refuse a call and say nothing about a table.
  *
  * component: the number of the component concerned, counted from 0. For 4 to 6
  * the one that was being read, for 7 to 9 the one that was opening a passage,
@@ -357,6 +369,62 @@ typedef struct timed_network_edge_choice_numbers {
 timed_network_edge_choice_numbers
 timed_network_edge_choice(const uint8_t *table, size_t length,
                           timed_network_entry_numbers entry);
+
+/*
+ * The answer of timed_network_reasons. 12 bytes.
+ *
+ * number, component: as in timed_network_call_numbers, with one number more:
+ *
+ *  21  there is no such component, or the tick is not below the horizon;
+ *      component 255
+ *
+ * passage: the place of the passage in the schedule, counted from 0.
+ * size:    how many edges are told.
+ *
+ * After a refusal passage and size are 0.
+ */
+typedef struct timed_network_reason_numbers {
+    uint8_t number;
+    uint8_t component;
+    uint32_t passage;
+    uint32_t size;
+} timed_network_reason_numbers;
+
+/*
+ * Tells why a component takes the edge that it takes at a tick (document 02,
+ * wish 7): for each edge from the location that it is in one reason.
+ *
+ * table, length: as for timed_network_check.
+ * component:     its number, counted from 0.
+ * tick:          a tick below the horizon. It names the passage of the component
+ *                whose entry is at or before it and whose end lies after it.
+ * told:          the first of `told_length` bytes that can be written.
+ * told_length:   how many bytes there are. 3 x 32 are always enough. It may be
+ *                0; then the pointer is not used.
+ *
+ * Each edge takes three bytes: its number, its reason, and its data bound, which
+ * is 255 unless the reason is 1. The reasons, of which the first that holds is
+ * told:
+ *
+ *   0  it is the edge taken
+ *   1  a data bound fails, with the values at the passage's entry; the third byte
+ *      is the number of the first that does, counted from 0 within the edge
+ *   2  it has no window of at least one tick's length
+ *   3  it is ready later than the edge taken
+ *   4  it is ready together with the edge taken, but numbered higher
+ *
+ * The edges from the passage's location stand in the order of their numbers from
+ * the front on; those of other locations are not told. The bytes past them stay as
+ * they were; after a refusal all of them do.
+ *
+ * Refused with 1 to 12 as timed_network_check refuses, then with 21, then with 13
+ * where told_length is below 3 x the number of edges told.
+ *
+ * The bytes lent must not overlap the table.
+ */
+timed_network_reason_numbers
+timed_network_reasons(const uint8_t *table, size_t length, uint32_t component,
+                      uint32_t tick, uint8_t *told, size_t told_length);
 
 /*
  * Writes the program bytes of a table: the programs of all its nodes, laid

@@ -19,7 +19,7 @@
  * 2?" for 1. The component that is concerned is not told; docs/REFUSALS.md has
  * what to look at.
  *
- * number: the number of an answer, 1 to 20. For 0, which is no refusal, and
+ * number: the number of an answer, 1 to 21. For 0, which is no refusal, and
  *         for any other it is "Does a question have this number?".
  */
 static inline const char *timed_network_refusal_text(unsigned int number) {
@@ -44,7 +44,8 @@ static inline const char *timed_network_refusal_text(unsigned int number) {
         "Does the one receive window that meets the send end later than it?",
         "Are the numbers in range and probes x (slot + 2 x guard) below the period?",
         "Is the spread at most 1,000 ticks?",
-        "Is no offset above the spread?"};
+        "Is no offset above the spread?",
+        "Is the component there and the tick below the horizon?"};
     return questions[number < sizeof questions / sizeof questions[0] ? number : 0];
 }
 

@@ -74,6 +74,12 @@ AT(timed_network_edge_choice_numbers, ready, 4, 4);
 AT(timed_network_edge_choice_numbers, end, 8, 4);
 AT(timed_network_edge_choice_numbers, looked, 12, 4);
 
+SIZE(timed_network_reason_numbers, 12);
+AT(timed_network_reason_numbers, number, 0, 1);
+AT(timed_network_reason_numbers, component, 1, 1);
+AT(timed_network_reason_numbers, passage, 4, 4);
+AT(timed_network_reason_numbers, size, 8, 4);
+
 SIZE(timed_network_place_numbers, 32);
 AT(timed_network_place_numbers, number, 0, 1);
 AT(timed_network_place_numbers, component, 1, 1);
@@ -145,6 +151,9 @@ FACT(TIMED_NETWORK_REFUSED_LISTENER_SHORT == 17);
 FACT(TIMED_NETWORK_REFUSED_PLAN == 18);
 FACT(TIMED_NETWORK_REFUSED_SPREAD == 19);
 FACT(TIMED_NETWORK_REFUSED_OFFSET == 20);
+FACT(TIMED_NETWORK_REFUSED_QUESTION == 21);
+FACT(TIMED_NETWORK_TAKEN == 0 && TIMED_NETWORK_HIGHER_NUMBER == 4);
+FACT(TIMED_NETWORK_REASON == 3 && TIMED_NETWORK_REASONS_ENOUGH == 96);
 FACT(TIMED_NETWORK_END_NOT_ALLOWED == 3);
 FACT(TIMED_NETWORK_PART_COMPONENT_LENGTH == 1 && TIMED_NETWORK_PART_TABLE_END == 11);
 

@@ -1,12 +1,11 @@
 -- Demand 3's sentences for nodes that wake apart, held against records of runs with offsets: right ones here, wrong ones in `ApartWrongs`. The sentences
 -- that have no clock (`valid`, `scheduled`, `kept`) are those of `Demand3` themselves, and their wrong records stand in `DemandWrongs`.
 use mathlib.Core.Path.{_≡_, refl}
-use mathlib.Core.Bool.{true, false}
 use mathlib.Core.List.{List, [], _∷_, _++_}
-use Prim.Native.Nat.{ℕ, zero, suc, _≤_, _<_}
+use Prim.Native.Nat.{ℕ, zero, suc}
 use borrow.Author.Tests.{ltb-true, leb-true, eqb-false}
 use lib.ListN.{getD, replicate}
-use Rattle.model.specs.Lists.{All, empty, more}
+use Rattle.model.specs.Lists.{empty, more}
 use Rattle.model.specs.Table.{Read}
 use Rattle.model.specs.Schedule.{Passage}
 use Rattle.model.specs.Checks.{acceptedSchedule, acceptedScheduleAt}

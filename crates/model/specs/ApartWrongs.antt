@@ -7,7 +7,7 @@ use borrow.Author.Tests.{ltb-true, leb-true, eqb-false}
 use lib.ListN.{length, replicate}
 use Rattle.model.specs.declared.Action.the-variants.{Internal}
 use Rattle.model.specs.Lists.{All, more}
-use Rattle.model.specs.Table.{Component, Read}
+use Rattle.model.specs.Table.{Component}
 use Rattle.model.specs.Build.{location, clockGuard, arc, component, network}
 use Rattle.model.specs.Window.{clockAt}
 use Rattle.model.specs.Schedule.{own}

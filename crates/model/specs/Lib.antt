@@ -21,10 +21,12 @@ pub mod Acceptance
 pub mod Observations
 pub mod Meetings
 pub mod Chart
+pub mod Reasons
 pub mod Hearings
 pub mod Versions
 pub mod Build
 pub mod EdgeChoice
+pub mod ReasonCases
 pub mod Cases
 pub mod RefusalCases
 pub mod DemandCases

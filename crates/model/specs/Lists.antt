@@ -24,6 +24,11 @@ module _ {A : Type 0} where
   first p [] = none
   first p (x ∷ xs) = cond (p x) (some x) (first p xs)
 
+  -- the number of the first of which p holds; their count where there is none
+  abbrev pub placeOf : (A → Bool) → List A → ℕ
+  placeOf p [] = 0
+  placeOf p (x ∷ xs) = cond (p x) 0 (suc (placeOf p xs))
+
   abbrev pub snoc : List A → A → List A
   snoc xs x = xs ++ (x ∷ [])
 

@@ -5,17 +5,16 @@ use mathlib.Core.Bool.{true, false}
 use mathlib.Core.List.{List, [], _∷_, _++_}
 use Prim.Native.Nat.{ℕ, _<_}
 use borrow.Author.Tests.{lt-ltb}
-use lib.Dec.{ltb}
 use lib.ListN.{length, replicate}
 use lib.IntN.{negsuc}
-use Rattle.model.specs.declared.Action.the-variants.{Internal, Send, Receive}
+use Rattle.model.specs.declared.Action.the-variants.{Internal, Receive}
 use Rattle.model.specs.declared.Pair.{Pair}
 use Rattle.model.specs.declared.Update.{Update}
 use Rattle.model.specs.declared.End.the-variants.{Horizon, UsedUp, Late, NotAllowed}
 use Rattle.model.specs.declared.Verdict.{Verdict}
 use Rattle.model.specs.declared.Verdict.the-variants.{Accepted, Refused}
 use Rattle.model.specs.Lists.{All, empty, more, each}
-use Rattle.model.specs.Table.{Arc, Component, Read}
+use Rattle.model.specs.Table.{Component, Read}
 use Rattle.model.specs.Build.{location, clockGuard, update, pairOf, arc, component, network}
 use Rattle.model.specs.Bytes.{tableBytes}
 use Rattle.model.specs.Reader.{readTable}
@@ -24,7 +23,7 @@ use Rattle.model.specs.Program.{programBytes, partOf}
 use Rattle.model.specs.Machine.{exec}
 use Rattle.model.specs.Run.{choose1, run, observationBytes}
 use Rattle.model.specs.Calls.{Call, RunCall, acceptedScheduleIn, acceptedScheduleInAt, checkCall, checkCallAt, scheduleCall, translateCall, runCall, offsetsFine, runCallAt}
-use Rattle.model.specs.Cases.{probe, hub, addOne, changed, worked, workedBytes, resting, sender, observed, lent, answered, refusedWith}
+use Rattle.model.specs.Cases.{probe, hub, addOne, changed, resting, sender, observed, lent, answered, refusedWith}
 
 -- ## Bytes that the reader refuses
 

@@ -1,6 +1,6 @@
 -- Document 01, "Passage and schedule", first two paragraphs: the window of an edge, the edge taken, and what its passage leads to.
 use mathlib.Core.Path.{_≡_}
-use mathlib.Core.Bool.{Bool, true, false, cond, _&&_, _||_}
+use mathlib.Core.Bool.{Bool, true, false, cond, _&&_, _||_, not}
 use mathlib.Core.List.{List, [], _∷_}
 use mathlib.Core.Option.{Option, none, some}
 use Prim.Native.Nat.{ℕ, suc, pred, _+_, _-_, min, max, _^_, _/_, _%_, _≤_, _<_}
@@ -15,7 +15,7 @@ use Rattle.model.specs.declared.ClockGuard.{ClockGuard}
 use Rattle.model.specs.declared.DataGuard.{DataGuard}
 use Rattle.model.specs.declared.Update.{Update}
 use Rattle.model.specs.declared.Pair.{Pair}
-use Rattle.model.specs.Lists.{all, orElse}
+use Rattle.model.specs.Lists.{all, placeOf, orElse}
 use Rattle.model.specs.Table.{Arc, Component, locationOf, arcOf}
 
 -- A component as it enters a location: "A component enters a location at its entry tick", with its clocks and variables there.
@@ -67,9 +67,24 @@ dataWithin g vs = leZ (g .low) (valueAt vs (g .variable)) && leZ (valueAt vs (g 
 abbrev pub dataHolds : List DataGuard → List ℤ → Bool
 dataHolds gs vs = all (λ g. dataWithin g vs) gs
 
+-- the number of the first data bound that fails; their count where all hold
+abbrev pub firstFailing : List DataGuard → List ℤ → ℕ
+firstFailing gs vs = placeOf (λ g. not (dataWithin g vs)) gs
+
+-- "ready < end": a window of at least one tick's length
+abbrev pub longEnough : Location → Arc → List ℕ → Bool
+longEnough l a xs = ltb (suc (readyOf (a .clockGuards) xs)) (pastOf l (a .clockGuards) xs)
+
+-- what keeps an edge from being a candidate: a data bound fails; or all hold and there is no window of at least one tick's length
+abbrev pub blocked : Entry → Arc → Bool
+blocked at a = not (dataHolds (a .dataGuards) (at .values))
+
+abbrev pub windowless : Location → Entry → Arc → Bool
+windowless l at a = dataHolds (a .dataGuards) (at .values) && not (longEnough l a (at .clocks))
+
 -- "The edge is a candidate if they hold and ready < end."
 abbrev pub candidate : Location → Arc → List ℕ → List ℤ → Bool
-candidate l a xs vs = dataHolds (a .dataGuards) vs && ltb (suc (readyOf (a .clockGuards) xs)) (pastOf l (a .clockGuards) xs)
+candidate l a xs vs = dataHolds (a .dataGuards) vs && longEnough l a xs
 
 -- an edge and its window, "ready to end, both included", counted from the entry
 pub record Pick : Type 0 where

@@ -82,3 +82,12 @@ pub enum End {
     Late(u8),
     NotAllowed,
 }
+
+// Why an edge from a passage's location was taken or not; a data bound that fails has its number within the edge.
+pub enum Reason {
+    Taken,
+    DataBound(u8),
+    NoWindow,
+    ReadyLater,
+    HigherNumber,
+}

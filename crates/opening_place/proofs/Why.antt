@@ -6,17 +6,17 @@ use mathlib.Core.List.{List, [], _∷_}
 use mathlib.Core.Option.{Option, none, some}
 use Prim.Native.Nat.{ℕ, suc, _+_, _≤_, _<_}
 use native.Mathlib.Omega.{arith}
-use lib.Dec.{ltb, eqb}
+use lib.Dec.{eqb}
 use lib.IntN.{ℤ}
 use lib.ListN.{length, set, getD}
 use Rattle.model.specs.declared.Update.{Update}
 use Rattle.model.specs.Lists.{only, refused}
 use Rattle.model.specs.Table.{Arc, Component, noArc, locationOf, arcOf}
 use Rattle.model.specs.declared.Location.{Location}
-use Rattle.model.specs.Window.{Entry, Pick, readyOf, pastOf, dataHolds, eligible, choice, inRange, newValue, updated, channelOf}
+use Rattle.model.specs.Window.{Entry, Pick, dataHolds, longEnough, blocked, windowless, eligible, choice, inRange, newValue, updated, channelOf}
 use Rattle.model.specs.Schedule.{Passage, passageOf, ranged, picked, opening}
 use Rattle.model.proofs.Window.Choice.{choice-none}
-use Rattle.opening_place.specs.Opening.{leaving, blocked, windowless, reasons, firstOut, overflow}
+use Rattle.opening_place.specs.Opening.{leaving, reasons, firstOut, overflow}
 
 -- ## 8
 
@@ -27,13 +27,13 @@ module _ (l : Location) (at : Entry) where
       ≡ length (only (blocked at) (only (λ a. eqb (a .edge .source) (at .location)) as′)) + length (only (windowless l at) (only (λ a. eqb (a .edge .source) (at .location)) as′))
   both [] f = omega arith
   both (a ∷ as′) f =
-      go (eqb (a .edge .source) (at .location)) (dataHolds (a .dataGuards) (at .values)) (ltb (suc (readyOf (a .clockGuards) (at .clocks))) (pastOf l (a .clockGuards) (at .clocks))) refl refl refl (f 0 (omega arith)) (both as′ (λ e h. f (suc e) (omega arith)))
+      go (eqb (a .edge .source) (at .location)) (dataHolds (a .dataGuards) (at .values)) (longEnough l a (at .clocks)) refl refl refl (f 0 (omega arith)) (both as′ (λ e h. f (suc e) (omega arith)))
     where
       left : List Arc
       left = only (λ a. eqb (a .edge .source) (at .location)) as′
 
       go : (s d w : Bool) → eqb (a .edge .source) (at .location) ≡ s → dataHolds (a .dataGuards) (at .values) ≡ d
-          → ltb (suc (readyOf (a .clockGuards) (at .clocks))) (pastOf l (a .clockGuards) (at .clocks)) ≡ w → s && (d && w) ≡ false
+          → longEnough l a (at .clocks) ≡ w → s && (d && w) ≡ false
           → length left ≡ length (only (blocked at) left) + length (only (windowless l at) left)
           → length (cond s (a ∷ left) left) ≡ length (only (blocked at) (cond s (a ∷ left) left)) + length (only (windowless l at) (cond s (a ∷ left) left))
       go false d w p q r t e = e

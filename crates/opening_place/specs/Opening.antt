@@ -1,17 +1,16 @@
 -- Document 01, "Checks, in this order", 7 to 9, "Then at each opening": the opening at which the schedule stops, and why.
-use mathlib.Core.Bool.{Bool, cond, _&&_, not}
+use mathlib.Core.Bool.{cond}
 use mathlib.Core.List.{List, [], _∷_}
 use mathlib.Core.Option.{Option, none, some}
 use Prim.Native.Nat.{ℕ, zero, suc, _-_}
 use lib.Dec.{ltb, eqb}
 use lib.IntN.{ℤ, pos}
 use lib.ListN.{length, set}
-use Rattle.model.specs.declared.Location.{Location}
 use Rattle.model.specs.declared.Update.{Update}
 use Rattle.model.specs.Lists.{only, snoc, Answer, accepted, refused}
 use Rattle.model.specs.Table.{Arc, Component, Table, Read, size, componentOf, locationOf, arcOf}
 use Rattle.model.specs.Reader.{readTable}
-use Rattle.model.specs.Window.{Entry, Pick, readyOf, pastOf, dataHolds, choice, inRange, newValue}
+use Rattle.model.specs.Window.{Entry, Pick, blocked, windowless, choice, inRange, newValue}
 use Rattle.model.specs.Schedule.{Passage, startEntry, opening, OpenedSoFar, begin, next, closing, opened}
 use Rattle.model.specs.Checks.{limit}
 use Rattle.model.specs.Run.{four}
@@ -69,16 +68,10 @@ scheduleStop limit T H =
 
 -- ## Why: 8, "Is there a candidate?"
 
--- the edges that leave the location entered; those of them whose data bounds fail; and those of the rest with no window of at least one tick's length
+-- the edges that leave the location entered; of these are counted those whose data bounds fail (`blocked`), and those of the rest with no window of at
+-- least one tick's length (`windowless`)
 abbrev pub leaving : Component → Entry → List Arc
 leaving C at = only (λ a. eqb (a .edge .source) (at .location)) (C .arcs)
-
-abbrev pub blocked : Entry → Arc → Bool
-blocked at a = not (dataHolds (a .dataGuards) (at .values))
-
-abbrev pub windowless : Location → Entry → Arc → Bool
-windowless l at a =
-    dataHolds (a .dataGuards) (at .values) && not (ltb (suc (readyOf (a .clockGuards) (at .clocks))) (pastOf l (a .clockGuards) (at .clocks)))
 
 pub record Reasons : Type 0 where
   pub leaving : ℕ

@@ -115,7 +115,7 @@ fn put_question_on_listener(out: &mut [u8], at: usize, number: u8) -> usize
     }
 }
 
-// The questions about numbers handed in: a plan's, the spread, the offsets. A number past them has none.
+// The questions about numbers handed in: a plan's, the spread, the offsets, a component and a tick. A number past them has none.
 fn put_question_on_numbers(out: &mut [u8], at: usize, number: u8) -> usize
     requires { ⌜ (at + 80 ≤ length (now out)) × (18 ≤ number) ⌝ }
     ensures { λ r. ⌜ Added (now (out .entry)) at (question number) (now (out .exit)) r × (r ≤ at + 80) ⌝ }
@@ -128,6 +128,11 @@ fn put_question_on_numbers(out: &mut [u8], at: usize, number: u8) -> usize
         ),
         19 => put(out, at, b"Is the spread at most 1,000 ticks?\n"),
         20 => put(out, at, b"Is no offset above the spread?\n"),
+        21 => put(
+            out,
+            at,
+            b"Is the component there and the tick below the horizon?\n",
+        ),
         _ => put(out, at, b"Does a question have this number?\n"),
     }
 }

@@ -5,55 +5,36 @@ use mathlib.Core.List.{List, [], _∷_}
 use Prim.Native.Nat.{ℕ, suc, _+_, _≤_, _<_}
 use native.Mathlib.Numerals.{add-one}
 use native.Mathlib.Omega.{arith}
-use borrow.Author.Tests.{eq-eqb, ne-eqb, lt-ltb, le-ltb}
-use lib.Dec.{ltb, eqb}
+use lib.Dec.{eqb}
 use lib.ListN.{length, drop, getD, drop-of-length-le}
 use lib.Seq.{drop-cons}
 use Rattle.model.specs.declared.Location.{Location}
 use Rattle.model.specs.Lists.{only}
 use Rattle.model.specs.Table.{Arc, noArc}
-use Rattle.model.specs.Window.{Entry, readyOf, pastOf, dataHolds}
-use Rattle.opening_place.specs.Opening.{blocked, windowless, Reasons}
-use Rattle.refused_opening.specs.declared.Reason.{Reason}
-use Rattle.refused_opening.specs.declared.Reason.the-variants.{Elsewhere, Blocked, Windowless, Candidate}
+use Rattle.model.specs.Window.{Entry, dataHolds, longEnough}
+use Rattle.opening_place.specs.Opening.{Reasons}
+use Rattle.window.specs.declared.Standing.{Standing}
+use Rattle.window.specs.declared.Standing.the-variants.{Elsewhere, Blocked, Windowless, Candidate}
 use Rattle.refused_opening.specs.declared.Tally.{Tally}
-use Rattle.refused_opening.specs.Counting.{reasonOf, leaves, fails, shut, reasonsOf, leavingOf, reasonsAmong}
-
--- ## One edge
-
-module _ (l : Location) (at : Entry) (a : Arc) where
-  pub reason-elsewhere : (a .edge .source ≡ at .location → ⊥) → Elsewhere ≡ reasonOf l at a
-  reason-elsewhere h = rw (ne-eqb (a .edge .source) (at .location) h)
-
-  module _ (here : a .edge .source ≡ at .location) where
-    pub reason-blocked : dataHolds (a .dataGuards) (at .values) ≡ false → Blocked ≡ reasonOf l at a
-    reason-blocked h = rw (eq-eqb (a .edge .source) (at .location) here, h)
-
-    module _ (holds : dataHolds (a .dataGuards) (at .values) ≡ true) where
-      pub reason-windowless : pastOf l (a .clockGuards) (at .clocks) ≤ readyOf (a .clockGuards) (at .clocks) + 1 → Windowless ≡ reasonOf l at a
-      reason-windowless h =
-          rw (eq-eqb (a .edge .source) (at .location) here, holds, le-ltb (suc (readyOf (a .clockGuards) (at .clocks))) (pastOf l (a .clockGuards) (at .clocks)) (omega arith))
-
-      pub reason-candidate : readyOf (a .clockGuards) (at .clocks) + 1 < pastOf l (a .clockGuards) (at .clocks) → Candidate ≡ reasonOf l at a
-      reason-candidate h =
-          rw (eq-eqb (a .edge .source) (at .location) here, holds, lt-ltb (suc (readyOf (a .clockGuards) (at .clocks))) (pastOf l (a .clockGuards) (at .clocks)) (omega arith))
+use Rattle.window.specs.Views.{standingOf}
+use Rattle.refused_opening.specs.Counting.{leaves, fails, shut, reasonsOf, leavingOf, reasonsAmong}
 
 -- ## One edge after the other
 
 module _ (l : Location) (at : Entry) where
   -- an edge counts as its reason says
   pub one-more : (a : Arc) (as′ : List Arc)
-      → (reasonsAmong l at (a ∷ as′) .leaving ≡ leaves (reasonOf l at a) + reasonsAmong l at as′ .leaving)
-      × (reasonsAmong l at (a ∷ as′) .blocked ≡ fails (reasonOf l at a) + reasonsAmong l at as′ .blocked)
-      × (reasonsAmong l at (a ∷ as′) .windowless ≡ shut (reasonOf l at a) + reasonsAmong l at as′ .windowless)
+      → (reasonsAmong l at (a ∷ as′) .leaving ≡ leaves (standingOf l at a) + reasonsAmong l at as′ .leaving)
+      × (reasonsAmong l at (a ∷ as′) .blocked ≡ fails (standingOf l at a) + reasonsAmong l at as′ .blocked)
+      × (reasonsAmong l at (a ∷ as′) .windowless ≡ shut (standingOf l at a) + reasonsAmong l at as′ .windowless)
   one-more a as′ =
-      go (eqb (a .edge .source) (at .location)) (dataHolds (a .dataGuards) (at .values)) (ltb (suc (readyOf (a .clockGuards) (at .clocks))) (pastOf l (a .clockGuards) (at .clocks))) refl refl refl
+      go (eqb (a .edge .source) (at .location)) (dataHolds (a .dataGuards) (at .values)) (longEnough l a (at .clocks)) refl refl refl
     where
       go : (s d w : Bool) → eqb (a .edge .source) (at .location) ≡ s → dataHolds (a .dataGuards) (at .values) ≡ d
-          → ltb (suc (readyOf (a .clockGuards) (at .clocks))) (pastOf l (a .clockGuards) (at .clocks)) ≡ w
-          → (reasonsAmong l at (a ∷ as′) .leaving ≡ leaves (reasonOf l at a) + reasonsAmong l at as′ .leaving)
-          × (reasonsAmong l at (a ∷ as′) .blocked ≡ fails (reasonOf l at a) + reasonsAmong l at as′ .blocked)
-          × (reasonsAmong l at (a ∷ as′) .windowless ≡ shut (reasonOf l at a) + reasonsAmong l at as′ .windowless)
+          → longEnough l a (at .clocks) ≡ w
+          → (reasonsAmong l at (a ∷ as′) .leaving ≡ leaves (standingOf l at a) + reasonsAmong l at as′ .leaving)
+          × (reasonsAmong l at (a ∷ as′) .blocked ≡ fails (standingOf l at a) + reasonsAmong l at as′ .blocked)
+          × (reasonsAmong l at (a ∷ as′) .windowless ≡ shut (standingOf l at a) + reasonsAmong l at as′ .windowless)
       go false d w p q r = rw p (omega arith, omega arith, omega arith)
       go true false w p q r = rw (p, q) (omega arith, omega arith, omega arith)
       go true true false p q r = rw (p, q, r) (omega arith, omega arith, omega arith)
@@ -69,8 +50,8 @@ module _ (l : Location) (at : Entry) where
   count-first as′ t a b c = record { leaving = omega arith; blocked = omega arith; windowless = omega arith }
 
   pub count-on : (as′ : List Arc) (e : ℕ) (t u : Tally) → e < length as′ → Counted as′ e t
-      → u .leaving ≡ t .leaving + leaves (reasonOf l at (getD as′ e noArc)) → u .blocked ≡ t .blocked + fails (reasonOf l at (getD as′ e noArc))
-      → u .windowless ≡ t .windowless + shut (reasonOf l at (getD as′ e noArc)) → Counted as′ (e + 1) u
+      → u .leaving ≡ t .leaving + leaves (standingOf l at (getD as′ e noArc)) → u .blocked ≡ t .blocked + fails (standingOf l at (getD as′ e noArc))
+      → u .windowless ≡ t .windowless + shut (standingOf l at (getD as′ e noArc)) → Counted as′ (e + 1) u
   count-on as′ e t u h k a b c =
       let s : drop e as′ ≡ getD as′ e noArc ∷ drop (e + 1) as′ = drop-cons as′ e noArc h ∙ ap (λ k. getD as′ e noArc ∷ drop k as′) (sym (add-one e)) in
       let m = one-more (getD as′ e noArc) (drop (e + 1) as′) in
@@ -89,8 +70,8 @@ module _ (l : Location) (at : Entry) where
       rw (a, b, c)
 
 -- an edge counts at most once
-pub once : (r : Reason) → (leaves r ≤ 1) × (fails r ≤ 1) × (shut r ≤ 1)
+pub once : (r : Standing) → (leaves r ≤ 1) × (fails r ≤ 1) × (shut r ≤ 1)
 once Elsewhere = (omega arith, omega arith, omega arith)
-once Blocked = (omega arith, omega arith, omega arith)
+once (Blocked j) = (omega arith, omega arith, omega arith)
 once Windowless = (omega arith, omega arith, omega arith)
-once Candidate = (omega arith, omega arith, omega arith)
+once (Candidate ready past) = (omega arith, omega arith, omega arith)

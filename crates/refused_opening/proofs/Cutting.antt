@@ -1,10 +1,10 @@
 -- Reasons and updates at an entry without the clocks and variables that its component lacks. Assumes nothing.
 use mathlib.Core.Path.{_≡_, refl, ap, _∙_}
-use mathlib.Core.Bool.{Bool, true, false, cond, _&&_, not}
+use mathlib.Core.Bool.{Bool, true, false, cond}
 use mathlib.Core.List.{List, [], _∷_}
 use mathlib.Core.Option.{Option, none, some}
 use Prim.Native.Nat.{ℕ, suc, _<_}
-use lib.Dec.{ltb, eqb}
+use lib.Dec.{eqb}
 use lib.IntN.{ℤ}
 use lib.ListN.{length, take, set}
 use lib.Seq.{take-set-lt}
@@ -12,13 +12,13 @@ use Rattle.model.specs.declared.Update.{Update}
 use Rattle.model.specs.Lists.{All, empty, more, only}
 use Rattle.model.specs.Table.{Arc, Component, noLocation, locationOf, arcOf}
 use Rattle.model.specs.Limits.{ComponentIn}
-use Rattle.model.specs.Window.{Entry, Pick, readyOf, pastOf, dataHolds, choice, inRange, newValue}
+use Rattle.model.specs.Window.{Entry, Pick, blocked, windowless, choice, inRange, newValue}
 use Rattle.model.proofs.Basics.Walk.{all-at}
 use Rattle.model.proofs.Schedule.Own.{all-then}
 use Rattle.model.proofs.Window.Choice.{choice-taken}
-use Rattle.opening_place.specs.Opening.{blocked, windowless, reasons, firstOut, Overflow, overflowWith, outOf, overflow, edgeTold, updateTold}
+use Rattle.opening_place.specs.Opening.{reasons, firstOut, Overflow, overflowWith, outOf, overflow, edgeTold, updateTold}
 use Rattle.schedule.specs.Going.{cut}
-use Rattle.schedule.proofs.Cut.{data-cut, ready-cut, past-cut, new-cut, arc-updates, choice-cut}
+use Rattle.schedule.proofs.Cut.{blocked-cut, windowless-cut, new-cut, arc-updates, choice-cut}
 use Rattle.refused_opening.specs.declared.FirstOut.{FirstOut}
 use Rattle.refused_opening.specs.Counting.{leavingOf, reasonsAmong}
 use Rattle.refused_opening.specs.Counting.{outOf as outFound}
@@ -55,19 +55,11 @@ module _ (channels : ℕ) (C : Component) (i : ComponentIn channels C) (e : Entr
       let l = locationOf C (e .location) in
       let k = all-at noLocation (i .locations) (e .location) there .clock in
       let b : only (blocked e) (leavingOf e (C .arcs)) ≡ only (blocked (cut C e)) (leavingOf e (C .arcs)) = only-same (blocked e) (blocked (cut C e))
-      (all-only (λ a. eqb (a .edge .source) (e .location)) (all-then (λ a q. blocked-cut a (all-then (λ g r. r .variable) (q .dataGuards))) (i .arcs))) in
+      (all-only (λ a. eqb (a .edge .source) (e .location)) (all-then (λ a q. blocked-cut C e a (all-then (λ g r. r .variable) (q .dataGuards))) (i .arcs))) in
       let w : only (windowless l e) (leavingOf e (C .arcs)) ≡ only (windowless l (cut C e)) (leavingOf e (C .arcs)) = only-same (windowless l e) (windowless l (cut C e))
       (all-only (λ a. eqb (a .edge .source) (e .location))
-      (all-then (λ a q. windowless-cut a k (all-then (λ g r. r .clock) (q .clockGuards)) (all-then (λ g r. r .variable) (q .dataGuards))) (i .arcs))) in
+      (all-then (λ a q. windowless-cut C e a (all-then (λ g r. r .variable) (q .dataGuards)) l k (all-then (λ g r. r .clock) (q .clockGuards))) (i .arcs))) in
       rw (b, w)
-    where
-      blocked-cut : (a : Arc) → All (λ g. g .variable < C .variables) (a .dataGuards) → blocked e a ≡ blocked (cut C e) a
-      blocked-cut a d = rw (data-cut (C .variables) (e .values) d)
-
-      windowless-cut : (a : Arc) → locationOf C (e .location) .clock < C .clocks → All (λ g. g .clock < C .clocks) (a .clockGuards)
-          → All (λ g. g .variable < C .variables) (a .dataGuards) → windowless (locationOf C (e .location)) e a ≡ windowless (locationOf C (e .location)) (cut C e) a
-      windowless-cut a k g d =
-          rw (data-cut (C .variables) (e .values) d, ready-cut (C .clocks) (e .clocks) g, past-cut (C .clocks) (e .clocks) (locationOf C (e .location)) k g)
 
   -- so is the update out of range
   pub overflow-cut : overflow C e ≡ overflow C (cut C e)

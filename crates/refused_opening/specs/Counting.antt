@@ -2,47 +2,39 @@
 use mathlib.Core.Bool.{cond}
 use mathlib.Core.List.{List}
 use mathlib.Core.Option.{Option, none, some}
-use Prim.Native.Nat.{ℕ, suc}
-use lib.Dec.{ltb, eqb}
+use Prim.Native.Nat.{ℕ}
+use lib.Dec.{eqb}
 use lib.ListN.{length}
 use Rattle.model.specs.declared.Location.{Location}
 use Rattle.model.specs.Lists.{only}
 use Rattle.model.specs.Table.{Arc}
-use Rattle.model.specs.Window.{Entry, readyOf, pastOf, dataHolds}
-use Rattle.opening_place.specs.Opening.{blocked, windowless, Reasons}
-use Rattle.refused_opening.specs.declared.Reason.{Reason}
-use Rattle.refused_opening.specs.declared.Reason.the-variants.{Elsewhere, Blocked, Windowless, Candidate}
+use Rattle.model.specs.Window.{Entry, blocked, windowless}
+use Rattle.opening_place.specs.Opening.{Reasons}
+use Rattle.window.specs.declared.Standing.{Standing}
+use Rattle.window.specs.declared.Standing.the-variants.{Elsewhere, Blocked, Windowless, Candidate}
 use Rattle.refused_opening.specs.declared.Tally.{Tally}
 use Rattle.refused_opening.specs.declared.FirstOut.{FirstOut}
 
 -- ## Edges
 
-abbrev pub reasonOf : Location → Entry → Arc → Reason
-reasonOf l at a =
-    cond (eqb (a .edge .source) (at .location))
-    (cond (dataHolds (a .dataGuards) (at .values))
-    (cond (ltb (suc (readyOf (a .clockGuards) (at .clocks))) (pastOf l (a .clockGuards) (at .clocks))) Candidate Windowless)
-    Blocked)
-    Elsewhere
-
 -- how many of each kind it is
-abbrev pub leaves : Reason → ℕ
+abbrev pub leaves : Standing → ℕ
 leaves Elsewhere = 0
-leaves Blocked = 1
+leaves (Blocked j) = 1
 leaves Windowless = 1
-leaves Candidate = 1
+leaves (Candidate ready past) = 1
 
-abbrev pub fails : Reason → ℕ
+abbrev pub fails : Standing → ℕ
 fails Elsewhere = 0
-fails Blocked = 1
+fails (Blocked j) = 1
 fails Windowless = 0
-fails Candidate = 0
+fails (Candidate ready past) = 0
 
-abbrev pub shut : Reason → ℕ
+abbrev pub shut : Standing → ℕ
 shut Elsewhere = 0
-shut Blocked = 0
+shut (Blocked j) = 0
 shut Windowless = 1
-shut Candidate = 0
+shut (Candidate ready past) = 0
 
 abbrev pub reasonsOf : Tally → Reasons
 reasonsOf t = record { leaving = t .leaving; blocked = t .blocked; windowless = t .windowless }

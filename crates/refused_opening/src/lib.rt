@@ -21,14 +21,6 @@ use model::layout;
 use opening_place::RefusedOpening;
 use window::Entry;
 
-// What keeps an edge from being a candidate: it leaves another location, a data bound fails, or it has no window of a tick or more.
-pub enum Reason {
-    Elsewhere,
-    Blocked,
-    Windowless,
-    Candidate,
-}
-
 // How many edges leave the location, and how many of them have each reason.
 pub struct Tally {
     pub leaving: u8,

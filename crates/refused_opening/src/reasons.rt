@@ -4,62 +4,34 @@ ghost use mathlib.Core.Path.{_≡_};
 ghost use Prim.Native.Nat.{_+_, _*_, _≤_, _<_};
 ghost use lib.ListN.{length};
 ghost use Rattle.model.specs.Table.{size};
-ghost use Rattle.model.specs.Places.{arcAt, startOf, Valid, readOf, componentIn};
-ghost use Rattle.window.specs.Views.{entryOf, ArcReady};
+ghost use Rattle.model.specs.Places.{startOf, Valid, readOf, componentIn};
+ghost use Rattle.window.specs.Views.{entryOf};
 ghost use Rattle.opening_place.specs.Opening.{reasonsFor};
 ghost use Rattle.schedule.specs.Going.{stopOf};
-ghost use Rattle.refused_opening.specs.Counting.{reasonOf, leaves, fails, shut, reasonsOf, reasonsAmong};
-use crate::Reason;
+ghost use Rattle.refused_opening.specs.Counting.{leaves, fails, shut, reasonsOf, reasonsAmong};
 use crate::Tally;
 use model::Location;
 use model::layout;
 use window::Entry;
+use window::Standing;
 
-// The edge at the front of the bytes.
-fn reason(bytes: &[u8], location: Location, at: Entry) -> Reason
-    requires { ⌜ ArcReady (now bytes) × (location .clock < 4) ⌝ }
-    ensures { λ r. ⌜ r ≡ reasonOf location (entryOf at) (arcAt (now (bytes .entry))) ⌝ }
-{
-    let edge = decoder::edge_at(bytes);
-    if edge.source != at.location {
-        return Reason::Elsewhere;
-    }
-    let first = layout::EDGE_HEADER
-        + parts::wide(bytes[layout::EDGE_CLOCK_GUARDS]) * layout::GUARD_WIDTH;
-    let values = at.values;
-    if !window::data_hold(&bytes[first..], bytes[layout::EDGE_DATA_GUARDS], values) {
-        return Reason::Blocked;
-    }
-    let clocks = at.clocks;
-    let delays = window::window(
-        &bytes[layout::EDGE_HEADER..],
-        bytes[layout::EDGE_CLOCK_GUARDS],
-        location,
-        clocks,
-    );
-    if delays.past <= delays.ready + 1 {
-        return Reason::Windowless;
-    }
-    Reason::Candidate
-}
-
-fn tallied(tally: Tally, reason: Reason) -> Tally
+fn tallied(tally: Tally, standing: Standing) -> Tally
     requires { ⌜ (tally .leaving < 255) × (tally .blocked < 255) × (tally .windowless < 255) ⌝ }
-    ensures { λ r. ⌜ (r .leaving ≡ tally .leaving + leaves reason) × (r .blocked ≡ tally .blocked + fails reason) × (r .windowless ≡ tally .windowless + shut reason) ⌝ }
+    ensures { λ r. ⌜ (r .leaving ≡ tally .leaving + leaves standing) × (r .blocked ≡ tally .blocked + fails standing) × (r .windowless ≡ tally .windowless + shut standing) ⌝ }
 {
-    match reason {
-        Reason::Elsewhere => tally,
-        Reason::Blocked => Tally {
+    match standing {
+        Standing::Elsewhere => tally,
+        Standing::Blocked(_) => Tally {
             leaving: tally.leaving + 1,
             blocked: tally.blocked + 1,
             windowless: tally.windowless,
         },
-        Reason::Windowless => Tally {
+        Standing::Windowless => Tally {
             leaving: tally.leaving + 1,
             blocked: tally.blocked,
             windowless: tally.windowless + 1,
         },
-        Reason::Candidate => Tally {
+        Standing::Candidate(_, _) => Tally {
             leaving: tally.leaving + 1,
             blocked: tally.blocked,
             windowless: tally.windowless,
@@ -89,7 +61,7 @@ fn count_edges(table: &[u8], start: usize, c: u8, location: Location, at: Entry)
     let mut tally = none_counted();
     let mut e: usize = 0;
     while e < count {
-        let found = reason(&table[place..], location, at);
+        let found = window::judge(&table[place..], location, at);
         tally = tallied(tally, found);
         place += decoder::arc_length(&table[place..]);
         e += 1;

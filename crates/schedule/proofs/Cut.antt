@@ -20,7 +20,7 @@ use Rattle.model.specs.declared.Update.{Update}
 use Rattle.model.specs.Lists.{All, empty, more, orElse, Answer, accepted, refused}
 use Rattle.model.specs.Table.{Arc, Component, sizesOf, noLocation, noArc, locationOf, arcOf}
 use Rattle.model.specs.Limits.{PairIn, ActionIn, ArcIn, ComponentIn}
-use Rattle.model.specs.Window.{Entry, Pick, readyOf, pastOf, dataHolds, considered, chosen, choice, inRange, newValue, updated, masked, aged, paired, leadsTo, leaves, receives, channelOf}
+use Rattle.model.specs.Window.{Entry, Pick, readyOf, pastOf, dataHolds, firstFailing, blocked, windowless, considered, chosen, choice, inRange, newValue, updated, masked, aged, paired, leadsTo, leaves, receives, channelOf}
 use Rattle.model.specs.Schedule.{Passage, startEntry, passageOf, ranged, picked, opening}
 use Rattle.model.proofs.Basics.Walk.{all-at}
 use Rattle.model.proofs.Schedule.Own.{all-then}
@@ -44,6 +44,19 @@ module _ (n : ℕ) (xs : List ℕ) where
 pub data-cut : (n : ℕ) (vs : List ℤ) {gs : List DataGuard} → All (λ g. g .variable < n) gs → dataHolds gs (take n vs) ≡ dataHolds gs vs
 data-cut n vs empty = refl
 data-cut n vs (more {x = g} h a) = rw (getD-take n vs (g .variable) (pos 0) h, data-cut n vs a)
+
+-- so is the first data bound that fails
+pub failing-cut : (n : ℕ) (vs : List ℤ) {gs : List DataGuard} → All (λ g. g .variable < n) gs → firstFailing gs (take n vs) ≡ firstFailing gs vs
+failing-cut n vs empty = refl
+failing-cut n vs (more {x = g} h a) = rw (getD-take n vs (g .variable) (pos 0) h, failing-cut n vs a)
+
+-- what keeps an edge from being a candidate
+module _ (C : Component) (e : Entry) (a : Arc) (d : All (λ g. g .variable < C .variables) (a .dataGuards)) where
+  pub blocked-cut : blocked e a ≡ blocked (cut C e) a
+  blocked-cut = rw (data-cut (C .variables) (e .values) d)
+
+  pub windowless-cut : (l : Location) → l .clock < C .clocks → All (λ g. g .clock < C .clocks) (a .clockGuards) → windowless l e a ≡ windowless l (cut C e) a
+  windowless-cut l k g = rw (data-cut (C .variables) (e .values) d, ready-cut (C .clocks) (e .clocks) g, past-cut (C .clocks) (e .clocks) l k g)
 
 -- an edge's bounds name clocks and variables below m and n
 abbrev Bounds : ℕ → ℕ → Arc → Type 0

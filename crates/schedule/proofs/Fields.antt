@@ -34,11 +34,11 @@ pub seven-stored : (l out : List ℕ) (i k a b c d e f g : ℕ) → a ≡ num l 
 seven-stored l out i k a b c d e f g p q r s t u v = rw (p, q, r, s, t, u, v, number-of-message (num l i 6)) (simp towards-suc)
 
 -- a run of stores after a run of stores
-sets-append : (xs ys l : List ℕ) (i : ℕ) → sets l i (xs ++ ys) ≡ sets (sets l i xs) (i + length xs) ys
+pub sets-append : (xs ys l : List ℕ) (i : ℕ) → sets l i (xs ++ ys) ≡ sets (sets l i xs) (i + length xs) ys
 sets-append [] ys l i = rw add-zero
 sets-append (x ∷ xs) ys l i = rw (add-suc, ← suc-add) (sets-append xs ys (set l i x) (suc i))
 
-each-snoc : {A : Type 0} (f : A → List ℕ) (xs : List A) (x : A) → each f (snoc xs x) ≡ each f xs ++ f x
+pub each-snoc : {A : Type 0} (f : A → List ℕ) (xs : List A) (x : A) → each f (snoc xs x) ≡ each f xs ++ f x
 unfolding each
 each-snoc f [] x = append-nil (f x)
 each-snoc f (y ∷ xs) x = ap (λ l. f y ++ l) (each-snoc f xs x) ∙ sym (append-assoc (f y) (each f xs) (f x))

@@ -89,7 +89,7 @@ fn refused_at(number: u8, component: usize, passage: usize, at: Entry) -> Ended
 }
 
 // Clocks and variables start at 0, at the initial location.
-fn start_entry(table: &[u8], start: usize) -> Entry
+pub fn start_entry(table: &[u8], start: usize) -> Entry
     requires { ⌜ start + 3 < length (now table) ⌝ }
     ensures { λ r. ⌜ (r .location ≡ byte (now (table .entry)) (start + 3)) × (r .tick ≡ 0) × (r .clocks ≡ 0 ∷ 0 ∷ 0 ∷ 0 ∷ []) × (r .values ≡ pos 0 ∷ pos 0 ∷ pos 0 ∷ pos 0 ∷ []) ⌝ }
 {

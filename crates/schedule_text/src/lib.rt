@@ -44,7 +44,7 @@ fn put_ticks(out: &mut [u8], at: usize, p: Passage) -> usize
 }
 
 // The seven fields.
-fn put_passage(out: &mut [u8], at: usize, p: Passage) -> usize
+pub fn put_passage(out: &mut [u8], at: usize, p: Passage) -> usize
     requires { ⌜ at + 77 ≤ length (now out) ⌝ }
     ensures { λ r. ⌜ Added (now (out .entry)) at (passageLine (shown p)) (now (out .exit)) r × (r ≤ at + 77) ⌝ }
 {

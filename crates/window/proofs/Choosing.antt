@@ -20,7 +20,7 @@ use Rattle.model.specs.Places.{arcPlace, componentIn}
 use Rattle.model.specs.Schedule.{passageOf, opening}
 use Rattle.window.specs.declared.Choice.{Choice}
 use Rattle.window.specs.Views.{pickOf, Kept}
-use Rattle.window.proofs.Considering.{elsewhere, pickFrom, pick-some}
+use Rattle.window.proofs.Considering.{passed-over, pickFrom, pick-some}
 
 module _ (l : Location) (here : ℕ) (xs : List ℕ) (vs : List ℤ) where
   -- one edge more is considered
@@ -52,7 +52,7 @@ module _ (l : Location) (here : ℕ) (xs : List ℕ) (vs : List ℤ) where
           → chosen l here xs vs (e + suc d) (drop (e + suc d) as′) k ≡ x
       go rest true q =
           let h = ltb-true e (length as′) q in
-          let same = elsewhere l here xs vs e (getD as′ e noArc) k (n e (omega arith) (omega arith) h) in
+          let same = passed-over l here xs vs e (getD as′ e noArc) k (n e (omega arith) (omega arith) h) in
           subst (λ f. chosen l here xs vs f (drop f as′) k ≡ x) shift (rest (chosen-turn as′ e k k x h same i))
       go rest false q =
           let h = ltb-false e (length as′) q in

@@ -1,42 +1,87 @@
 -- One edge is considered: when it replaces the best so far, and when not. Assumes nothing.
-use mathlib.Core.Path.{_≡_, refl, sym, ap, _∙_}
+use mathlib.Core.Path.{_≡_, refl, sym, ap, subst, _∙_}
 use mathlib.Core.Bool.{Bool, true, false, cond, _&&_}
 use mathlib.Core.List.{List}
 use mathlib.Core.Option.{Option, none, some}
-use Prim.Native.Nat.{ℕ, suc, pred, _≤_, _<_}
+use Prim.Native.Nat.{ℕ, suc, pred, _+_, _-_, _≤_, _<_}
 use native.Mathlib.Omega.{arith}
 use borrow.Author.Tests.{lt-ltb, le-ltb, ltb-true, ltb-false, eq-eqb, ne-eqb}
 use lib.Dec.{eqb, ltb}
 use lib.IntN.{ℤ}
+use lib.ListN.{length}
 use Rattle.model.specs.declared.Location.{Location}
 use Rattle.model.specs.Table.{Arc}
-use Rattle.model.specs.Window.{Pick, readyOf, pastOf, dataHolds, windowOf, better, considered}
+use Rattle.model.specs.Window.{Entry, Pick, readyOf, pastOf, dataHolds, firstFailing, longEnough, windowOf, better, considered}
+use Rattle.model.proofs.Window.Interval.{fails-there, fails-none}
 use Rattle.window.specs.declared.Choice.{Choice}
-use Rattle.window.specs.Views.{pickOf, betterOf, Kept}
+use Rattle.window.specs.declared.Standing.{Standing}
+use Rattle.window.specs.declared.Standing.the-variants.{Elsewhere, Blocked, Windowless, Candidate}
+use Rattle.window.specs.Views.{pickOf, betterOf, standingOf, SmallDelays, Kept}
 
-not-both : (b : Bool) → b && false ≡ false
-not-both true = refl
-not-both false = refl
+-- ## What an edge is
 
-module _ (l : Location) (here : ℕ) (xs : List ℕ) (vs : List ℤ) (e : ℕ) (a : Arc) (k : Option Pick) where
+module _ (l : Location) (at : Entry) (a : Arc) where
   -- it starts elsewhere
-  pub elsewhere : (a .edge .source ≡ here → ⊥) → k ≡ considered l here xs vs e a k
-  elsewhere n = rw (ne-eqb (a .edge .source) here n)
+  pub elsewhere : (a .edge .source ≡ at .location → ⊥) → Elsewhere ≡ standingOf l at a
+  elsewhere h = rw (ne-eqb (a .edge .source) (at .location) h)
 
-  -- a data bound fails
-  pub unheld : dataHolds (a .dataGuards) vs ≡ false → k ≡ considered l here xs vs e a k
-  unheld f = rw (f, not-both (eqb (a .edge .source) here))
+  module _ (here : a .edge .source ≡ at .location) where
+    -- a data bound fails
+    pub unheld : (j : ℕ) → j ≡ firstFailing (a .dataGuards) (at .values) → j < length (a .dataGuards) → Blocked j ≡ standingOf l at a
+    unheld j e h = go (dataHolds (a .dataGuards) (at .values)) refl
+      where
+        go : (d : Bool) → dataHolds (a .dataGuards) (at .values) ≡ d → Blocked j ≡ standingOf l at a
+        go true q = absurd (omega (arith, fails-none (a .dataGuards) (at .values) q))
+        go false q = rw (eq-eqb (a .edge .source) (at .location) here, q, e)
 
-  -- it has no window, or one of one tick
-  pub shut : pastOf l (a .clockGuards) xs ≤ suc (readyOf (a .clockGuards) xs) → k ≡ considered l here xs vs e a k
-  shut f =
-      let t = le-ltb (suc (readyOf (a .clockGuards) xs)) (pastOf l (a .clockGuards) xs) f in
-      rw (t, not-both (dataHolds (a .dataGuards) vs), not-both (eqb (a .edge .source) here))
+    -- all hold
+    pub held : (j : ℕ) → j ≡ firstFailing (a .dataGuards) (at .values) → length (a .dataGuards) ≤ j → dataHolds (a .dataGuards) (at .values) ≡ true
+    held j e h = go (dataHolds (a .dataGuards) (at .values)) refl
+      where
+        go : (d : Bool) → dataHolds (a .dataGuards) (at .values) ≡ d → dataHolds (a .dataGuards) (at .values) ≡ true
+        go true q = q
+        go false q = absurd (omega (arith, fails-there (a .dataGuards) (at .values) q))
 
-  -- it is a candidate
-  pub candidate-is : a .edge .source ≡ here → dataHolds (a .dataGuards) vs ≡ true → suc (readyOf (a .clockGuards) xs) < pastOf l (a .clockGuards) xs
-      → better k (windowOf l e a xs) ≡ considered l here xs vs e a k
-  candidate-is s d w = rw (eq-eqb (a .edge .source) here s, d, lt-ltb (suc (readyOf (a .clockGuards) xs)) (pastOf l (a .clockGuards) xs) w)
+    module _ (holds : dataHolds (a .dataGuards) (at .values) ≡ true) where
+      -- it has no window, or one of one tick
+      pub shut : pastOf l (a .clockGuards) (at .clocks) ≤ readyOf (a .clockGuards) (at .clocks) + 1 → Windowless ≡ standingOf l at a
+      shut h =
+          rw (eq-eqb (a .edge .source) (at .location) here, holds, le-ltb (suc (readyOf (a .clockGuards) (at .clocks))) (pastOf l (a .clockGuards) (at .clocks)) (omega arith))
+
+      -- it is a candidate
+      pub candidate-is : (r p : ℕ) → r ≡ readyOf (a .clockGuards) (at .clocks) → p ≡ pastOf l (a .clockGuards) (at .clocks) → r + 1 < p
+          → Candidate r p ≡ standingOf l at a
+      candidate-is r p q t h =
+          rw (eq-eqb (a .edge .source) (at .location) here, holds, lt-ltb (suc (readyOf (a .clockGuards) (at .clocks))) (pastOf l (a .clockGuards) (at .clocks)) (omega arith), q, t)
+
+-- an edge from elsewhere does not replace the best so far
+pub passed-over : (l : Location) (here : ℕ) (xs : List ℕ) (vs : List ℤ) (e : ℕ) (a : Arc) (k : Option Pick) → (a .edge .source ≡ here → ⊥)
+    → k ≡ considered l here xs vs e a k
+passed-over l here xs vs e a k n = rw (ne-eqb (a .edge .source) here n)
+
+-- a candidate may replace it
+abbrev pub byStanding : ℕ → Option Pick → Standing → Option Pick
+byStanding e k Elsewhere = k
+byStanding e k (Blocked j) = k
+byStanding e k Windowless = k
+byStanding e k (Candidate ready past) = better k (record { edge = e; ready = ready; end = pred past })
+
+pub considered-by : (l : Location) (at : Entry) (e : ℕ) (a : Arc) (k : Option Pick)
+    → byStanding e k (standingOf l at a) ≡ considered l (at .location) (at .clocks) (at .values) e a k
+considered-by l at e a k = go (eqb (a .edge .source) (at .location)) (dataHolds (a .dataGuards) (at .values)) (longEnough l a (at .clocks))
+  where
+    ready : ℕ
+    ready = readyOf (a .clockGuards) (at .clocks)
+
+    past : ℕ
+    past = pastOf l (a .clockGuards) (at .clocks)
+
+    go : (s d w : Bool) → byStanding e k (cond s (cond d (cond w (Candidate ready past) Windowless) (Blocked (firstFailing (a .dataGuards) (at .values)))) Elsewhere)
+        ≡ cond (s && (d && w)) (better k (windowOf l e a (at .clocks))) k
+    go false d w = refl
+    go true false w = refl
+    go true true false = refl
+    go true true true = refl
 
 -- ## The views
 
@@ -74,7 +119,15 @@ better-kept f best t k b = go (ltb (t .ready) (best .ready))
     go true = k
     go false = b
 
--- the better of the best so far and an edge with its window
-pub better-window : (l : Location) (xs : List ℕ) (a : Arc) (best t : Choice) (e : ℕ) → t .ready < 65536 → t .edge ≡ e → t .ready ≡ readyOf (a .clockGuards) xs
-    → t .end ≡ pred (pastOf l (a .clockGuards) xs) → pickOf (betterOf best t) ≡ better (pickOf best) (windowOf l e a xs)
-better-window l xs a best t e h n r d = better-pick best t h ∙ rw (n, r, d)
+-- a candidate as a choice: the better of it and the best so far, and its place
+module _ (t : Choice) (e r p : ℕ) (s : Standing) (is : s ≡ Candidate r p) (small : SmallDelays s) (n : t .edge ≡ e) (d : t .end ≡ p - 1) where
+  delays : SmallDelays (Candidate r p)
+  delays = subst SmallDelays is small
+
+  pub better-candidate : (best : Choice) → t .ready ≡ r → pickOf (betterOf best t) ≡ byStanding e (pickOf best) s
+  better-candidate best q =
+      let z : t .end ≡ pred p = omega arith in
+      better-pick best t (omega (arith, delays .0)) ∙ rw (is, n, q, z)
+
+  pub kept-candidate : (f : ℕ → ℕ) → f e ≡ t .place → t .edge < 256 → Kept f t
+  kept-candidate f q h = λ z. (sym q ∙ ap f (sym n), h, omega (arith, delays .1))

@@ -1,6 +1,5 @@
 -- The edge at the front of bytes: its parts, and that the functions over them may be called. Assumes nothing.
 use mathlib.Core.Path.{_≡_, refl, subst}
-use mathlib.Core.Bool.{Bool}
 use mathlib.Core.List.{List}
 use Prim.Native.Nat.{ℕ, _+_, _-_, _*_, _≤_, _<_}
 use native.Mathlib.Omega.{arith}
@@ -11,7 +10,8 @@ use Rattle.model.specs.declared.Location.{Location}
 use Rattle.model.specs.Lists.{All}
 use Rattle.model.specs.Reader.{byte, clockGuardAt, dataGuardAt, updateAt}
 use Rattle.model.specs.Places.{listAt, itemsPlace, arcAt}
-use Rattle.model.specs.Window.{readyOf, pastOf, dataHolds}
+use Rattle.model.specs.Window.{readyOf, pastOf, firstFailing}
+use Rattle.model.proofs.Basics.Walk.{list-length}
 use Rattle.decoder.proofs.Found.{found}
 use Rattle.decoder.proofs.ByAction.{internal-length, internal-updates, receive-length}
 use Rattle.parts.proofs.Skim.{tail}
@@ -39,10 +39,15 @@ module _ (h : List ℕ) (r : ArcReady h) where
 
 -- what the functions over an edge's parts say of the edge
 module _ (h : List ℕ) where
-  pub data-found : (at : ℕ) (vs : List ℤ) {r : Bool} → at ≡ 7 + byte h 4 * 5
-      → r ≡ dataHolds (listAt dataGuardAt 5 (byte h 5) (take (length h - at) (drop at h))) vs → r ≡ dataHolds (arcAt h .dataGuards) vs
+  pub data-found : (at : ℕ) (vs : List ℤ) {r : ℕ} → at ≡ 7 + byte h 4 * 5
+      → r ≡ firstFailing (listAt dataGuardAt 5 (byte h 5) (take (length h - at) (drop at h))) vs → r ≡ firstFailing (arcAt h .dataGuards) vs
   unfolding arcAt
-  data-found at vs e p = found (λ bs. dataHolds (listAt dataGuardAt 5 (byte h 5) bs) vs) h at (7 + byte h 4 * 5) e p
+  data-found at vs e p = found (λ bs. firstFailing (listAt dataGuardAt 5 (byte h 5) bs) vs) h at (7 + byte h 4 * 5) e p
+
+  -- there are as many as the edge counts
+  pub data-count : length (arcAt h .dataGuards) ≡ byte h 5
+  unfolding arcAt
+  data-count = list-length dataGuardAt 5 (byte h 5) _
 
   pub ready-found : (xs : List ℕ) {r : ℕ} → r ≡ readyOf (listAt clockGuardAt 5 (byte h 4) (take (length h - 7) (drop 7 h))) xs
       → r ≡ readyOf (arcAt h .clockGuards) xs

@@ -1,12 +1,12 @@
 -- The parts of one width that are left to a loop that counts down. Assumes nothing.
 use mathlib.Core.Path.{_≡_, refl, ap, _∙_}
-use mathlib.Core.Bool.{Bool, true, false}
+use mathlib.Core.Bool.{Bool, true, false, not}
 use mathlib.Core.List.{List, [], _∷_}
 use Prim.Native.Nat.{ℕ, zero, suc, _+_, _-_, _≤_, _<_}
 use native.Mathlib.Omega.{arith}
 use lib.ListN.{length, take, drop, length-drop}
 use lib.Seq.{drop-drop}
-use Rattle.model.specs.Lists.{all, All, empty, more}
+use Rattle.model.specs.Lists.{placeOf, All, empty, more}
 use Rattle.model.specs.Places.{listAt}
 use Rattle.parts.proofs.Skim.{tail}
 
@@ -47,16 +47,16 @@ module _ {A : Type 0} {P : A → Type 0} where
       → All P (listAt value w (k - 1) (drop (at + w) h))
   all-rest value w h at k e a = rest-of (rw (next value w h at k e) at a)
 
--- a test of each, in a loop that stops at the first that fails
-module _ {A : Type 0} (p : A → Bool) (value : List ℕ → A) (w : ℕ) (h : List ℕ) (at k : ℕ) (x : Bool) (i : all p (listAt value w k (drop at h)) ≡ x) where
-  pub holds-stop : 0 < k → p (value (drop at h)) ≡ false → false ≡ x
-  holds-stop e f = rw (next value w h at k e, f) at i
+-- the first that fails a test, in a loop that stops there; so many came before
+module _ {A : Type 0} (p : A → Bool) (value : List ℕ → A) (w : ℕ) (h : List ℕ) (at k before x : ℕ) (i : before + placeOf (λ a. not (p a)) (listAt value w k (drop at h)) ≡ x) where
+  pub fails-stop : 0 < k → p (value (drop at h)) ≡ false → before ≡ x
+  fails-stop e f = let j = rw (next value w h at k e, f) at i in omega arith
 
-  pub holds-turn : 0 < k → p (value (drop at h)) ≡ true → all p (listAt value w (k - 1) (drop (at + w) h)) ≡ x
-  holds-turn e f = rw (next value w h at k e, f) at i
+  pub fails-turn : 0 < k → p (value (drop at h)) ≡ true → before + 1 + placeOf (λ a. not (p a)) (listAt value w (k - 1) (drop (at + w) h)) ≡ x
+  fails-turn e f = let j = rw (next value w h at k e, f) at i in omega arith
 
-  pub holds-done : k ≤ 0 → true ≡ x
-  holds-done e = rw (no-more value w (drop at h) k e) at i
+  pub fails-done : k ≤ 0 → before ≡ x
+  fails-done e = let j = rw (no-more value w (drop at h) k e) at i in omega arith
 
 -- a part of a slice is as long as what is left there
 pub tail-long : (h : List ℕ) (at n : ℕ) → at + n ≤ length h → n ≤ length (take (length h - at) (drop at h))

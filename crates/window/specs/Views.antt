@@ -3,20 +3,23 @@ use mathlib.Core.Path.{_≡_}
 use mathlib.Core.Bool.{cond}
 use mathlib.Core.List.{List}
 use mathlib.Core.Option.{Option, none, some}
-use Prim.Native.Nat.{ℕ, _≤_, _<_}
+use Prim.Native.Nat.{ℕ, _+_, _≤_, _<_}
 use lib.Dec.{eqb, ltb}
 use lib.IntN.{ℤ}
+use Rattle.model.specs.declared.Location.{Location}
 use Rattle.model.specs.Lists.{All, Answer, accepted, refused}
-use Rattle.model.specs.Table.{Component, arcOf}
+use Rattle.model.specs.Table.{Arc, Component, arcOf}
 use lib.ListN.{length}
 use Rattle.model.specs.Places.{arcAt, arcPlace, componentIn}
-use Rattle.model.specs.Window.{Pick, channelOf, inRange}
+use Rattle.model.specs.Window.{Pick, readyOf, pastOf, dataHolds, firstFailing, longEnough, channelOf, inRange}
 use Rattle.model.specs.Schedule.{Passage, passageOf}
 use Rattle.decoder.specs.Decoded.{Decodable}
 use Rattle.window.specs.declared.Entry.{Entry}
 use Rattle.window.specs.declared.Updated.{Updated}
 use Rattle.window.specs.declared.Choice.{Choice}
 use Rattle.window.specs.declared.TakenEdge.{TakenEdge}
+use Rattle.window.specs.declared.Standing.{Standing}
+use Rattle.window.specs.declared.Standing.the-variants.{Elsewhere, Blocked, Windowless, Candidate}
 use Rattle.window.specs.declared.NewValue.{NewValue}
 use Rattle.window.specs.declared.NewValue.the-variants.{Fits, Out}
 use Rattle.window.specs.declared.Opening.{Opening}
@@ -33,6 +36,20 @@ pickOf k = cond (ltb (k .ready) 65536) (some (record { edge = k .edge; ready = k
 -- the earlier of two, on a tie the first
 abbrev pub betterOf : Choice → Choice → Choice
 betterOf best t = cond (ltb (t .ready) (best .ready)) t best
+
+-- what an edge is at an entry
+abbrev pub standingOf : Location → Rattle.model.specs.Window.Entry → Arc → Standing
+standingOf l at a =
+    let held = cond (longEnough l a (at .clocks)) (Candidate (readyOf (a .clockGuards) (at .clocks)) (pastOf l (a .clockGuards) (at .clocks))) Windowless in
+    let left = cond (dataHolds (a .dataGuards) (at .values)) held (Blocked (firstFailing (a .dataGuards) (at .values))) in
+    cond (eqb (a .edge .source) (at .location)) left Elsewhere
+
+-- delays of 16 bits, and a window of at least one tick's length
+abbrev pub SmallDelays : Standing → Type 0
+SmallDelays Elsewhere = Unit {0}
+SmallDelays (Blocked j) = Unit {0}
+SmallDelays Windowless = Unit {0}
+SmallDelays (Candidate ready past) = (ready ≤ 65535) × (past ≤ 65536) × (ready + 1 < past)
 
 -- its place is that of its number, and its numbers are small
 abbrev pub Kept : (ℕ → ℕ) → Choice → Type 0

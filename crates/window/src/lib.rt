@@ -2,17 +2,17 @@
 ghost use mathlib.Core.Path.{_≡_};
 ghost use mathlib.Core.Bool.{cond, _&&_};
 ghost use Prim.Native.Nat.{ℕ, suc, _+_, _-_, _*_, min, max, _≤_, _<_};
-ghost use lib.Dec.{eqb};
+ghost use lib.Dec.{eqb, ltb};
 ghost use lib.Signed.{leZ};
 ghost use lib.ListN.{length};
 ghost use Rattle.model.specs.Lists.{All};
 ghost use Rattle.model.specs.Table.{size};
 ghost use Rattle.model.specs.Reader.{clockGuardAt, dataGuardAt, pairAt};
 ghost use Rattle.model.specs.Places.{listAt, arcAt, arcPlace, startOf, Valid, readOf, componentIn};
-ghost use Rattle.model.specs.Window.{readyOf, pastOf, dataWithin, dataHolds, considered, choice, looked, aged, paired, leadsTo, leaves};
+ghost use Rattle.model.specs.Window.{readyOf, pastOf, dataWithin, firstFailing, considered, choice, looked, aged, paired, leadsTo, leaves};
 ghost use Rattle.model.specs.Schedule.{opening};
 ghost use Rattle.window.specs.Indexed.{Indexed};
-ghost use Rattle.window.specs.Views.{entryOf, pickOf, Kept, messageOf, openingOf, ArcReady, Placed, betterOf};
+ghost use Rattle.window.specs.Views.{standingOf, SmallDelays, entryOf, pickOf, Kept, messageOf, openingOf, ArcReady, Placed, betterOf};
 
 pub mod index;
 pub mod updates;
@@ -51,6 +51,15 @@ pub struct Choice {
     pub place: usize,
     pub ready: u32,
     pub end: u32,
+}
+
+// What an edge is at an entry: it leaves another location, a data bound fails (the first that does), it has no window of at least one tick's length, or it is a candidate,
+// with its ready and the first delay past its end.
+pub enum Standing {
+    Elsewhere,
+    Blocked(u8),
+    Windowless,
+    Candidate(u32, u32),
 }
 
 // What the search found: the edge taken, and how many edges were looked at.
@@ -147,22 +156,22 @@ fn data_within(guard: DataGuard, values: [i16; 4]) -> bool
     within(values[i], guard.low, guard.high)
 }
 
-// Whether `count` data bounds hold; `guards` begins at the first bound.
-pub fn data_hold(guards: &[u8], count: u8, values: [i16; 4]) -> bool
+// The number of the first of `count` data bounds that fails, `count` where all hold; `guards` begins at the first bound.
+fn first_failing(guards: &[u8], count: u8, values: [i16; 4]) -> u8
     requires { ⌜ (count * 5 ≤ length (now guards)) × All (λ g. g .variable < 4) (listAt dataGuardAt 5 count (now guards)) ⌝ }
-    ensures { λ r. ⌜ r ≡ dataHolds (listAt dataGuardAt 5 count (now (guards .entry))) values ⌝ }
+    ensures { λ r. ⌜ r ≡ firstFailing (listAt dataGuardAt 5 count (now (guards .entry))) values ⌝ }
 {
     let mut at: usize = 0;
     let mut k = count;
     while 0 < k {
         let guard = decoder::data_guard_at(&guards[at..]);
         if !data_within(guard, values) {
-            return false;
+            return count - k;
         }
         at += layout::GUARD_WIDTH;
         k -= 1;
     }
-    true
+    count
 }
 
 // The earlier of two, on a tie the first.
@@ -176,7 +185,47 @@ fn better(best: Choice, candidate: Choice) -> Choice
     }
 }
 
-// The edge at the front of the bytes, number e, at that place in the table: it replaces the best so far, or it does not.
+// Whether a window has at least one tick's length.
+fn long_enough(delays: Delays) -> bool
+    requires { ⌜ delays .ready ≤ 65535 ⌝ }
+    ensures { λ r. ⌜ r ≡ ltb (suc (delays .ready)) (delays .past) ⌝ }
+{
+    delays.ready + 1 < delays.past
+}
+
+// What the edge at the front of the bytes is.
+pub fn judge(bytes: &[u8], location: Location, at: Entry) -> Standing
+    requires { ⌜ ArcReady (now bytes) × (location .clock < 4) ⌝ }
+    ensures stands { λ r. ⌜ r ≡ standingOf location (entryOf at) (arcAt (now (bytes .entry))) ⌝ }
+    ensures small { λ r. ⌜ SmallDelays r ⌝ }
+{
+    let edge = decoder::edge_at(bytes);
+    if edge.source != at.location {
+        return Standing::Elsewhere;
+    }
+    let first = layout::EDGE_HEADER
+        + parts::wide(bytes[layout::EDGE_CLOCK_GUARDS]) * layout::GUARD_WIDTH;
+    let values = at.values;
+    let guards = bytes[layout::EDGE_DATA_GUARDS];
+    let failing = first_failing(&bytes[first..], guards, values);
+    if failing < guards {
+        return Standing::Blocked(failing);
+    }
+    let clocks = at.clocks;
+    let delays = window(
+        &bytes[layout::EDGE_HEADER..],
+        bytes[layout::EDGE_CLOCK_GUARDS],
+        location,
+        clocks,
+    );
+    if !long_enough(delays) {
+        return Standing::Windowless;
+    }
+    Standing::Candidate(delays.ready, delays.past)
+}
+
+// The edge at the front of the bytes, number e, at that place in the table: it replaces the best so far, or it does not. The same as by `judge`
+// (`considered-by` in proofs/Considering.antt), whose answer would have to be stored and read again for each edge of each opening.
 fn considered_edge(
     bytes: &[u8],
     e: u8,
@@ -196,7 +245,9 @@ fn considered_edge(
     let first = layout::EDGE_HEADER
         + parts::wide(bytes[layout::EDGE_CLOCK_GUARDS]) * layout::GUARD_WIDTH;
     let values = at.values;
-    if !data_hold(&bytes[first..], bytes[layout::EDGE_DATA_GUARDS], values) {
+    let guards = bytes[layout::EDGE_DATA_GUARDS];
+    let failing = first_failing(&bytes[first..], guards, values);
+    if failing < guards {
         return best;
     }
     let clocks = at.clocks;
@@ -206,7 +257,7 @@ fn considered_edge(
         location,
         clocks,
     );
-    if delays.past <= delays.ready + 1 {
+    if !long_enough(delays) {
         return best;
     }
     let candidate = Choice {
@@ -322,7 +373,7 @@ pub fn leads_to(bytes: &[u8], message: u8) -> u8
 }
 
 // The variables after updates that fit, else those before.
-fn kept_values(after: Updated, values: [i16; 4]) -> [i16; 4]
+pub fn kept_values(after: Updated, values: [i16; 4]) -> [i16; 4]
     ensures { λ r. ⌜ r ≡ cond (after .fits) (after .values) values ⌝ }
 {
     if after.fits { after.values } else { values }

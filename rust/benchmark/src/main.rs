@@ -8,6 +8,7 @@ mod apart;
 mod clock;
 mod once;
 mod processor;
+mod reasons;
 mod refused;
 mod report;
 mod tables;
@@ -80,6 +81,7 @@ fn measure(effort: Effort) -> Result<(), String> {
         apart::time(effort, row, &choices);
     }
     time_plan(effort)?;
+    reasons::time(effort)?;
     refused::time(effort)
 }
 
@@ -216,7 +218,7 @@ fn time_run(effort: Effort, row: &Row, choices: &[u8], each: &str) {
 
 #[cfg(test)]
 mod tests {
-    use super::{apart, demand_agreement, refused, tables};
+    use super::{apart, demand_agreement, reasons, refused, tables};
 
     #[test]
     fn all_sides_agree_on_every_row() {
@@ -229,6 +231,10 @@ mod tests {
         for row in &tables::apart_rows() {
             let choices = apart::demand_agreement(row).unwrap();
             assert!(!choices.is_empty(), "{}", row.name);
+        }
+        for (name, table, component) in &reasons::asked() {
+            let agreed = reasons::demand_agreement(name, table, *component);
+            assert_eq!(agreed, Ok(()));
         }
         for (number, table) in refused::read().iter().chain(&refused::opened()) {
             assert_eq!(refused::demand_agreement(*number, table), Ok(()));

@@ -3,8 +3,9 @@
 
 use crate::apart::{self, OFFSETS, SPREAD};
 use crate::tables::{apart_rows, rows, slow_rows, Row};
-use crate::{choices_to_the_horizon, last_node, refused, PLAN};
+use crate::{choices_to_the_horizon, last_node, reasons, refused, PLAN};
 use comparison::runs::AMPLE;
+use reference::table::write_table;
 use std::hint::black_box;
 use std::thread::Builder;
 use timed_network::node::Node;
@@ -36,6 +37,7 @@ fn all() -> Result<(), String> {
     }
     let mut table = [0; MAX_PLAN];
     tell("a plan of seven probes", "plan", || plan(PLAN, &mut table));
+    tell_reasons();
     tell_refused();
     Ok(())
 }
@@ -108,6 +110,16 @@ fn tell_apart(row: &Row) -> Result<(), String> {
     demand_end(name, answer)
 }
 
+/// Why an edge is taken, at the last tick.
+fn tell_reasons() {
+    for (name, table, component) in reasons::asked() {
+        let (bytes, tick) = (write_table(&table), u32::from(table.horizon) - 1);
+        let mut told = [0; REASONS_ENOUGH];
+        let ask = || reasons_into(&bytes, component, tick, &mut told);
+        tell(name, "reasons at the last tick", ask);
+    }
+}
+
 /// A run has to come to the horizon, or another one is counted than the row's.
 fn demand_end(name: &str, answer: RunNumbers) -> Result<(), String> {
     if (answer.number, answer.end) == (0, 0) {
@@ -150,6 +162,7 @@ fn tell_early(name: &str, table: &[u8]) {
         edge_choice(table, &Entry::default())
     })
     .ok();
+    tell(name, "reasons", || reasons_into(table, 0, 0, &mut []));
     tell(name, "refusal_place", || refusal_place(table));
     tell(name, "refused_opening", || refused_opening(table));
 }

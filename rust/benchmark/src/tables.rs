@@ -116,7 +116,7 @@ pub fn apart_rows() -> Vec<Row> {
 }
 
 /// "Probe and hub" with all ticks so many times as long.
-fn worked_example(times: u16) -> Table {
+pub fn worked_example(times: u16) -> Table {
     let mut table = read_table(&WORKED_EXAMPLE).expect("the worked example is accepted");
     table.horizon *= times;
     for component in &mut table.components {

@@ -4,7 +4,7 @@
 
 use crate::readers::{refused, second_edge_choice, OpeningNumbers, PlaceNumbers, Reader};
 use std::cell::RefCell;
-use timed_network::{Call, Meetings, RunNumbers, Slots, Verdict, NO_NODE};
+use timed_network::{Call, Meetings, RunNumbers, Slots, Told, Verdict, NO_NODE};
 use yardstick::{Place, Refusal, RefusedOpening, Run, Yardstick};
 
 thread_local! {
@@ -25,6 +25,7 @@ pub(crate) const READER: Reader = Reader {
     timing_chart,
     plan,
     edge_choice: second_edge_choice,
+    reasons,
     part,
     run,
     meetings,
@@ -80,6 +81,21 @@ fn plan(slots: Slots, table: &mut [u8]) -> Call {
 
 fn part(program: &[u8], node: u8) -> &[u8] {
     &program[yardstick::part(program, node)]
+}
+
+fn reasons(table: &[u8], component: u32, tick: u32, told: &mut [u8]) -> Told {
+    match with(|yardstick| yardstick.reasons(table, component, tick, told)) {
+        Ok(answer) => Told {
+            verdict: Verdict::Accepted,
+            passage: answer.passage,
+            size: answer.size,
+        },
+        Err(refusal) => Told {
+            verdict: verdict(refusal),
+            passage: 0,
+            size: 0,
+        },
+    }
 }
 
 fn run(table: &[u8], choices: &[u8], observations: &mut [u8]) -> RunNumbers {

@@ -4,7 +4,7 @@
 //! Both sides get the same tables, class after class, and are lent lists and bytes
 //! of the same lengths for schedules, charts, programs, plans and observations; at
 //! the entries of schedules and at others both are asked for the edge that is
-//! taken. Of each table both are asked where it is refused by checks 4 to 9. At
+//! taken, and at ticks of accepted tables why it is. Of each table both are asked where it is refused by checks 4 to 9. At
 //! spreads both are asked for verdicts and for the windows that met, and run nodes
 //! that wake apart. Of accepted tables random paths of the network within the
 //! schedule are drawn, and found again in runs. The first difference ends the
@@ -27,6 +27,7 @@ pub mod places;
 pub mod programs;
 pub mod random;
 pub mod readers;
+pub mod reasons;
 pub mod requests;
 pub mod runs;
 pub mod spreads;
@@ -112,7 +113,7 @@ pub struct Least {
 /// What the comparison should have tried and did not: a class without cases,
 /// an answer that never came, one of the faults of a send's hearing that came
 /// too rarely, lists or bytes that never came back in one of the ways, a kind of
-/// edge choice that never came, parts never found or never missed, a kind of run
+/// edge choice or a reason of an edge that never came, parts never found or never missed, a kind of run
 /// that is too rare, an answer at a spread or a kind of run of nodes that wake
 /// apart that is, a way in which checks 4 to 9 stop that is, a kind of path that is,
 /// fewer cases or runs in all than demanded.
@@ -134,6 +135,7 @@ pub fn gaps(tallies: &[Tally], least: &Least) -> Vec<String> {
     );
     gaps.extend(hearing_gaps(&sum, least.of_each_hearing));
     gaps.extend(list_gaps(&sum));
+    gaps.extend(sum.asked.gaps());
     gaps.extend(sum.runs.gaps(least.of_each_kind));
     gaps.extend(sum.spreads.gaps(least.of_each_apart));
     gaps.extend(sum.apart.gaps(least.of_each_apart));

@@ -2,6 +2,7 @@
 
 mod apart;
 mod places;
+mod reasons;
 
 pub use apart::{
     second_check_spread, second_largest_spread, second_meetings, second_meetings_spread,
@@ -9,14 +10,15 @@ pub use apart::{
 };
 use places::{library_opening, library_place};
 pub use places::{second_opening, second_place, OpeningNumbers, PlaceNumbers, NONE};
+pub use reasons::second_reasons;
 
 use crate::fast;
 use reference::run::Outcome;
 use reference::table::Refusal;
 use reference::{calls, edge_choice, plan};
 use timed_network::{
-    Call, EdgeChoice, Entry, Meetings, RunNumbers, Slots, TakenEdge, Verdict, FIELDS, NO_MESSAGE,
-    NO_NODE,
+    Call, EdgeChoice, Entry, Meetings, RunNumbers, Slots, TakenEdge, Told, Verdict, FIELDS,
+    NO_MESSAGE, NO_NODE,
 };
 
 /// The numbers that `check` answers: 0 where it accepts, then those of the
@@ -33,6 +35,9 @@ pub const TOO_MANY: u8 = 14;
 pub const TOO_WIDE: u8 = 19;
 /// The refusal of an offset above the spread.
 pub const TOO_LATE: u8 = 20;
+/// The refusal of a question about a component that there is not, or about a tick from
+/// the horizon on.
+pub const NO_QUESTION: u8 = 21;
 
 /// A call that finds one node's part of a program.
 pub type Part = for<'a> fn(&'a [u8], u8) -> &'a [u8];
@@ -45,6 +50,8 @@ pub type Run = fn(&[u8], &[u8], &mut [u8]) -> RunNumbers;
 
 /// A call that chooses an edge at an entry.
 pub type Chooses = fn(&[u8], &Entry) -> Result<EdgeChoice, Verdict>;
+/// A call that tells why an edge is taken.
+pub type Reasons = fn(&[u8], u32, u32, &mut [u8]) -> Told;
 /// A call that judges a table at a spread.
 pub type ChecksSpread = fn(&[u8], u32) -> Verdict;
 /// A call that lists the windows that met at a spread.
@@ -71,6 +78,8 @@ pub struct Reader {
     pub plan: Plans,
     /// Which edge it takes at an entry, and how many it looks at.
     pub edge_choice: Chooses,
+    /// Why it says that an edge is taken at a tick, and writes.
+    pub reasons: Reasons,
     /// What it finds as one node's part of a program.
     pub part: Part,
     /// What it says of a table's run under choices, and writes.
@@ -112,6 +121,7 @@ impl Readers {
             edge_choice: |table, entry| {
                 timed_network::edge_choice(table, entry).map_err(Verdict::from)
             },
+            reasons: timed_network::reasons_into,
             part: timed_network::part,
             run: timed_network::run_numbers,
             meetings: timed_network::meetings,
@@ -145,6 +155,7 @@ impl Reader {
             timing_chart: second_chart,
             plan: second_plan,
             edge_choice: second_edge_choice,
+            reasons: second_reasons,
             part: second_part,
             run: second_run,
             meetings: second_meetings,

@@ -1,9 +1,11 @@
-//! The programs, parts, charts, plans, edge choices, verdicts at a spread, runs and
-//! places of refusals that the vectors keep, with their answers.
+//! The programs, parts, charts, plans, edge choices, reasons, verdicts at a spread, runs
+//! and places of refusals that the vectors keep, with their answers.
 
 mod apart;
+mod why;
 
 pub use apart::Apart;
+pub use why::Why;
 
 use crate::bytes::unhex;
 use crate::stored::{read_answer, vector_lines};
@@ -53,6 +55,8 @@ pub enum Request {
         /// The numbers in the order of the schedule, or why there are none.
         answer: Result<Vec<u32>, Verdict>,
     },
+    /// Why an edge is taken.
+    Why(Why),
     /// A run of a table.
     Run {
         /// The table.
@@ -139,6 +143,7 @@ fn request(line: &str) -> Option<Option<Request>> {
         (["chart", table, lent], _) => chart(table, lent, answer)?,
         (["plan", numbers @ ..], _) => plan(numbers, answer)?,
         (["looked", table], _) => looked(table, answer)?,
+        (["why", ..] | ["lent", _, "why", ..], _) => Request::Why(why::read(&words, answer)?),
         (["place", table], _) => Request::Place {
             table: unhex(table)?,
             answer: located(answer)?,

@@ -1,10 +1,13 @@
 //! The tables that the repository keeps, with their answers and schedules.
 
 use crate::bytes::unhex;
+use crate::reasons::Question;
 use crate::requests::located;
 use std::fs;
 use std::path::{Path, PathBuf};
-use table_text::corpus::{names_with_spreads, read_answers, read_schedule, read_spreads, Answer};
+use table_text::corpus::{
+    names_with_spreads, read_answers, read_questions, read_schedule, read_spreads, Answer,
+};
 use table_text::schedule::{self, Passage};
 use timed_network::Verdict;
 
@@ -112,6 +115,28 @@ pub fn corpus_spreads() -> Result<Vec<(Vec<u8>, u32, Verdict)>, String> {
         let bytes = fs::read(&file).map_err(|error| at(&file, &error.to_string()))?;
         for (spread, answer) in read_spreads(&folder, &name)? {
             all.push((bytes.clone(), spread, verdict(answer)));
+        }
+    }
+    Ok(all)
+}
+
+/// The accepted tables of the corpus with each of their questions, and its answer in
+/// words.
+pub fn corpus_questions() -> Result<Vec<(Vec<u8>, Question, String)>, String> {
+    let folder = folder("corpus");
+    let mut all = Vec::new();
+    for (name, answer) in read_answers(&folder)? {
+        if answer != Answer::Accepted {
+            continue;
+        }
+        let file = folder.join(format!("{name}.bin"));
+        let bytes = fs::read(&file).map_err(|error| at(&file, &error.to_string()))?;
+        for asked in read_questions(&folder, &name)? {
+            let question = Question {
+                component: asked.component,
+                tick: asked.tick,
+            };
+            all.push((bytes.clone(), question, asked.answer));
         }
     }
     Ok(all)

@@ -3,6 +3,7 @@
 use crate::edge_choices::Chosen;
 use crate::places::Places;
 use crate::readers::{NUMBERS, TOO_SHORT};
+use crate::reasons::Asked;
 use crate::runs::apart::RunsApart;
 use crate::runs::paths::Paths;
 use crate::runs::Runs;
@@ -30,6 +31,8 @@ pub struct Tally {
     pub plans: Lists,
     /// The edges that were asked for and compared.
     pub edge_choices: EdgeChoices,
+    /// The questions why edges are taken.
+    pub asked: Asked,
     /// The parts that were found in programs, and those that were not.
     pub parts: [u64; 2],
     /// The runs.
@@ -157,6 +160,7 @@ impl Tally {
             charts: Lists::default(),
             plans: Lists::default(),
             edge_choices: EdgeChoices::default(),
+            asked: Asked::default(),
             parts: [0; 2],
             runs: Runs::default(),
             spreads: Spreads::default(),
@@ -208,6 +212,7 @@ impl Tally {
             sum.charts.add(&tally.charts);
             sum.plans.add(&tally.plans);
             sum.edge_choices.add(&tally.edge_choices);
+            sum.asked.add(&tally.asked);
             for (all, own) in sum.parts.iter_mut().zip(tally.parts) {
                 *all += own;
             }
@@ -222,8 +227,8 @@ impl Tally {
 }
 
 /// What was tried: the answers that were given, each with how often, then
-/// lists, programs, charts, plans, edge choices, parts, runs, what there is of nodes
-/// that wake apart, where the tables were refused, and paths.
+/// lists, programs, charts, plans, edge choices, questions, parts, runs, what there is of
+/// nodes that wake apart, where the tables were refused, and paths.
 impl fmt::Display for Tally {
     fn fmt(&self, out: &mut fmt::Formatter<'_>) -> fmt::Result {
         let [accepted, refusals @ ..] = &self.answers;
@@ -249,6 +254,9 @@ impl fmt::Display for Tally {
         if self.edge_choices.all() > 0 {
             let choices = &self.edge_choices;
             write!(out, "; {} edge choices: {choices}", choices.all())?;
+        }
+        if self.asked.all() > 0 {
+            write!(out, "; {}", self.asked)?;
         }
         let [found, empty] = self.parts;
         let parts = found + empty;

@@ -1,6 +1,7 @@
 //! What was counted is told, and so is what was not tried.
 
 use comparison::places::Places;
+use comparison::reasons::Asked;
 use comparison::runs::apart::RunsApart;
 use comparison::runs::paths::Paths;
 use comparison::runs::Runs;
@@ -9,7 +10,7 @@ use comparison::tally::{EdgeChoices, Lists, Tally};
 use comparison::{cases, gaps, Least};
 
 /// A class with these answers, and lists, programs, charts, plans, edge choices,
-/// parts and runs of all kinds, also of nodes that wake apart, and refusals at all
+/// questions, parts and runs of all kinds, also of nodes that wake apart, and refusals at all
 /// places.
 fn tally(class: &'static str, answers: [u64; 16]) -> Tally {
     let lists = Lists {
@@ -28,6 +29,14 @@ fn tally(class: &'static str, answers: [u64; 16]) -> Tally {
             at_once: 4,
             later: 3,
             none: 2,
+            refused: 1,
+        },
+        asked: Asked {
+            edges: [9, 8, 7, 6, 5],
+            later_bound: 4,
+            written: 3,
+            short: 2,
+            absent: 1,
             refused: 1,
         },
         parts: [5, 4],
@@ -170,6 +179,15 @@ fn what_was_not_tried_is_told() {
         "no refused table was asked for an edge",
         "no part was found",
         "no part was empty",
+        "no edge had the reason: taken",
+        "no edge had the reason: data bound",
+        "no edge had the reason: no window",
+        "no edge had the reason: ready later",
+        "no edge had the reason: numbered higher",
+        "no data bound failed behind another",
+        "no reasons were too long",
+        "no question was refused with 21",
+        "no refused table was asked for reasons",
     ];
     assert_eq!(gaps(&[bare], &least(0, 0)), told);
     let no_runs = Tally {
@@ -205,6 +223,9 @@ fn a_line_tells_all_answers_that_were_given() {
                 6 charts: written 3, too short 2, refused before 1; \
                 6 plans: written 3, too short 2, refused before 1; \
                 10 edge choices: at once 4, later 3, no candidate 2, table refused 1; \
+                7 questions: written 3, too short 2, refused 21: 1, table refused 1; \
+                edges: taken 9, data bound 8, no window 7, ready later 6, numbered higher 5 \
+                (4 data bounds behind another); \
                 9 parts: found 5, empty 4; 38 runs: 7 horizon, 7 used up, 7 late \
                 (5 at work, 4 for a sleep, 2 several nodes), 7 not allowed \
                 (1 no such node, 1 nothing kept, 1 early sleep, 2 early listen, \

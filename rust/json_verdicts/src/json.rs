@@ -108,7 +108,7 @@ fn opening_object(
     object(&fields)
 }
 
-fn object(fields: &[(&str, String)]) -> String {
+pub fn object(fields: &[(&str, String)]) -> String {
     let field = |(name, value): &(&str, String)| format!("\"{name}\":{value}");
     let fields: Vec<String> = fields.iter().map(field).collect();
     format!("{{{}}}", fields.join(","))
@@ -135,12 +135,12 @@ fn window(numbers: &[u32]) -> String {
     object(&fields)
 }
 
-fn or_null(number: Option<impl ToString>) -> String {
+pub fn or_null(number: Option<impl ToString>) -> String {
     number.map_or("null".to_string(), |number| number.to_string())
 }
 
 /// A string between quotes. What JSON does not take as it is is escaped.
-fn string(text: &str) -> String {
+pub fn string(text: &str) -> String {
     let mut quoted = String::from("\"");
     for character in text.chars() {
         match character {

@@ -4,9 +4,7 @@
 
 #![forbid(unsafe_code)]
 
-mod json;
-mod stop;
-
+use json_verdicts::json;
 use std::ffi::{OsStr, OsString};
 use std::os::unix::ffi::OsStrExt;
 use std::process::ExitCode;

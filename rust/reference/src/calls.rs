@@ -1,4 +1,5 @@
-//! The exported calls over lent buffers, with checks 13, 14, 18 and 20.
+//! The exported calls over lent buffers, with checks 13, 14, 18, 20
+//! and 21.
 //!
 //! "Lent buffers keep their bytes; on success so do those past the result."
 
@@ -9,9 +10,10 @@ use crate::opening::RefusedOpening;
 use crate::place::{self, Place};
 use crate::plan::{self, Slots};
 use crate::program::{self, program_length, write_program};
+use crate::reasons;
 use crate::run::{run_apart_into, Outcome, OBSERVATION};
 use crate::schedule::{schedule_or_fault, Passage};
-use crate::table::{read_table, write_table, Refusal};
+use crate::table::{read_table, write_table, Refusal, Table};
 
 /// "14. Are there at most 1,000,000 choices? Else 14."
 pub const MAX_CHOICES: usize = 1_000_000;
@@ -121,6 +123,47 @@ pub fn plan(slots: &Slots, bytes: &mut [u8]) -> Result<usize, Refusal> {
 pub fn edge_choice(table: &[u8], component: u8, entry: &Entry) -> Result<EdgeChoice, Refusal> {
     let table = read_table(table)?;
     Ok(edge_choice::edge_choice(&table, component, entry))
+}
+
+/// The bytes that an edge takes in a lent answer: its number, the number of its
+/// reason, and the data bound or 255.
+pub const REASON: usize = 3;
+
+/// The passage of a component at a tick and how many edges are told.
+#[derive(Clone, Copy, Debug, PartialEq, Eq)]
+pub struct Told {
+    /// The place of the passage in the schedule.
+    pub passage: usize,
+    /// How many edges are told.
+    pub size: usize,
+}
+
+/// Writes why a component takes the edge that it takes at a tick, [`REASON`] bytes
+/// an edge. "An absent component or a tick from H on is refused with 21, after 12",
+/// and a short buffer with 13 after that.
+pub fn reasons(table: &[u8], component: u32, tick: u32, bytes: &mut [u8]) -> Result<Told, Refusal> {
+    let (table, passages) = verdict(table)?;
+    reasons_of(&table, &passages, component, tick, bytes)
+}
+
+/// The same for an accepted table that was read, with its schedule.
+pub fn reasons_of(
+    table: &Table,
+    passages: &[Passage],
+    component: u32,
+    tick: u32,
+    bytes: &mut [u8],
+) -> Result<Told, Refusal> {
+    let reasons = reasons::reasons(table, passages, component, tick)?;
+    demand_room(bytes.len() / REASON, reasons.edges.len())?;
+    for (place, (edge, reason)) in bytes.chunks_exact_mut(REASON).zip(&reasons.edges) {
+        let [reason, bound] = reason.bytes();
+        place.copy_from_slice(&[*edge, reason, bound]);
+    }
+    Ok(Told {
+        passage: reasons.passage,
+        size: reasons.edges.len(),
+    })
 }
 
 /// "The part of the program bytes that belongs to one node can be had by its

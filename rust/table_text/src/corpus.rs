@@ -1,7 +1,12 @@
 //! A folder of tables: for each name a source `NAME.txt` and its bytes
-//! `NAME.bin`, for each accepted one its schedule `NAME.schedule`, for some of
-//! them its chart `NAME.chart` or its verdicts at spreads `NAME.spread`, and one
-//! file `answers.tsv` with the answers of checks 1 to 12.
+//! `NAME.bin`, for each accepted one its schedule `NAME.schedule` and why edges are
+//! taken `NAME.why`, for some of them its chart `NAME.chart` or its verdicts at
+//! spreads `NAME.spread`, and one file `answers.tsv` with the answers of checks 1 to
+//! 12.
+
+mod questions;
+
+pub use questions::{read as read_questions, Question};
 
 use crate::encode_file;
 use crate::schedule::{self, Passage};
@@ -64,6 +69,7 @@ pub fn verify(folder: &Path) -> Result<usize, Vec<String>> {
         .filter_map(|name| verify_one(folder, name).err());
     problems.extend(differing);
     problems.extend(verify_schedules(folder, &answers).map_err(whole)?);
+    problems.extend(questions::verify(folder, &accepted(&answers)).map_err(whole)?);
     problems.extend(verify_charts(folder).map_err(whole)?);
     problems.extend(verify_spreads(folder, &answers).map_err(whole)?);
     count_unless(problems, sources.len())
@@ -73,8 +79,7 @@ pub fn verify(folder: &Path) -> Result<usize, Vec<String>> {
 /// has, and all are as the printer prints them.
 fn verify_schedules(folder: &Path, answers: &[(String, Answer)]) -> Result<Vec<String>, String> {
     let stored = names_with(folder, "schedule")?;
-    let accepted = answers.iter().filter(|(_, a)| *a == Answer::Accepted);
-    let accepted: BTreeSet<String> = accepted.map(|(name, _)| name.clone()).collect();
+    let accepted = accepted(answers);
     let mut problems = missing(&accepted, &stored, "is accepted and has no schedule");
     let message = "has a schedule and is not accepted";
     problems.extend(missing(&stored, &accepted, message));
@@ -83,6 +88,12 @@ fn verify_schedules(folder: &Path, answers: &[(String, Answer)]) -> Result<Vec<S
         .filter_map(|name| read_schedule(folder, name).err());
     problems.extend(unreadable);
     Ok(problems)
+}
+
+/// The names of the accepted tables.
+fn accepted(answers: &[(String, Answer)]) -> BTreeSet<String> {
+    let accepted = answers.iter().filter(|(_, a)| *a == Answer::Accepted);
+    accepted.map(|(name, _)| name.clone()).collect()
 }
 
 /// What is wrong with the charts: only a table with a schedule has one, and

@@ -22,7 +22,7 @@ pub use decode::{decode, DecodeError};
 pub use encode::Encoded;
 pub use kind::{kind, Kind};
 pub use line::statement;
-pub use places::{location_start, update_start};
+pub use places::{edge_start, location_start, update_start};
 
 /// A fault in a source text, with the number of its line, counted from 1.
 #[derive(Debug, Clone, PartialEq, Eq)]

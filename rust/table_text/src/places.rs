@@ -35,7 +35,8 @@ fn component_start(table: &[u8], component: u8) -> Option<usize> {
     (0..component).try_fold(HEADER + bands, |start, _| Some(start + word(table, start)?))
 }
 
-fn edge_start(table: &[u8], component: u8, edge: u8) -> Option<usize> {
+/// The first byte of an edge.
+pub fn edge_start(table: &[u8], component: u8, edge: u8) -> Option<usize> {
     let start = component_start(table, component)?;
     let first = start + COMPONENT_HEAD + LOCATION * byte(table, start + 2)?;
     (0..edge).try_fold(first, |start, _| {

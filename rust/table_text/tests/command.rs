@@ -135,6 +135,7 @@ fn verify_finds_what_does_not_belong() {
         "three: has an answer and no source (.txt)\n",
         "one: has no answer\n",
         "three: is accepted and has no schedule\n",
+        "three: is accepted and has no questions\n",
     ];
     assert_eq!(call("verify", &folder), (Some(1), lines.concat()));
     fs::remove_dir_all(folder).unwrap();
@@ -172,12 +173,14 @@ component
   internal 0 -> 0
 ";
 const SCHEDULE: &str = "c e l entry ready end msg\n0 0 0 0 0 1 -\n";
+const QUESTIONS: &str = "0 0 0|0 taken\n0 1 refused 21 255\n";
 
 #[test]
 fn verify_reads_the_schedules() {
     let folder = folder_with_one("schedules");
     let file = |name: &str, text: &str| fs::write(folder.join(name), text).unwrap();
     file("two.txt", GOOD);
+    file("two.why", QUESTIONS);
     file("answers.tsv", "one\trefused 3 255\ntwo\taccepted\n");
     assert_eq!(call("build", &folder).0, Some(0));
     let none = "two: is accepted and has no schedule\n".to_string();
@@ -202,11 +205,57 @@ fn verify_reads_the_schedules() {
 }
 
 #[test]
+fn verify_reads_the_questions() {
+    let folder = folder_with_one("questions");
+    let file = |name: &str, text: &str| fs::write(folder.join(name), text).unwrap();
+    file("two.txt", GOOD);
+    file("two.schedule", SCHEDULE);
+    file("answers.tsv", "one\trefused 3 255\ntwo\taccepted\n");
+    assert_eq!(call("build", &folder).0, Some(0));
+    let none = "two: is accepted and has no questions\n".to_string();
+    assert_eq!(call("verify", &folder), (Some(1), none));
+    file("two.why", QUESTIONS);
+    let verified = "2 tables verified\n".to_string();
+    assert_eq!(call("verify", &folder), (Some(0), verified));
+
+    let form = "write: COMPONENT TICK, then: P|EDGE REASON.., or: refused N C";
+    for bad in [
+        "0 0",
+        "0 0 0",
+        "0 0 0|0 window",
+        "0 0 0|0 taken|1 taken",
+        "0 0 0|0 data|1 taken",
+        "0 0 0|0 soon|1 taken",
+        "0 0 |0 taken",
+        "x 0 0|0 taken",
+        "0 -1 0|0 taken",
+        "0 0 x|0 taken",
+        "0 0 0|x taken",
+    ] {
+        file("two.why", bad);
+        let told = format!("two.why: line 1: {form}\n");
+        assert_eq!(call("verify", &folder), (Some(1), told), "{bad}");
+    }
+    file("two.why", "0 1 0|0 taken\n0 0 0|0 taken\n");
+    let rising = "two.why: line 2: components and their ticks must rise, each once\n";
+    assert_eq!(call("verify", &folder), (Some(1), rising.to_string()));
+    file("two.why", "");
+    let none = "two.why: is empty\n".to_string();
+    assert_eq!(call("verify", &folder), (Some(1), none));
+    file("two.why", QUESTIONS);
+    file("one.why", QUESTIONS);
+    let other = "one: has questions and is not accepted\n".to_string();
+    assert_eq!(call("verify", &folder), (Some(1), other));
+    fs::remove_dir_all(folder).unwrap();
+}
+
+#[test]
 fn verify_reads_the_charts() {
     let folder = folder_with_one("charts");
     let file = |name: &str, text: &str| fs::write(folder.join(name), text).unwrap();
     file("two.txt", GOOD);
     file("two.schedule", SCHEDULE);
+    file("two.why", QUESTIONS);
     file("answers.tsv", "one\trefused 3 255\ntwo\taccepted\n");
     assert_eq!(call("build", &folder).0, Some(0));
     let chart = format!("C0: {:>64}\n", "W");
@@ -240,6 +289,7 @@ fn verify_reads_the_verdicts_at_spreads() {
     let file = |name: &str, text: &str| fs::write(folder.join(name), text).unwrap();
     file("two.txt", GOOD);
     file("two.schedule", SCHEDULE);
+    file("two.why", QUESTIONS);
     file("answers.tsv", "one\trefused 3 255\ntwo\taccepted\n");
     assert_eq!(call("build", &folder).0, Some(0));
     file(

@@ -5,11 +5,13 @@ mod common;
 use common::corpus_folder;
 use reference::calls;
 use reference::checks::verdict;
+use reference::reasons::{reasons, Reasons};
 use reference::schedule::print;
 use reference::table::read_table;
 use std::fs;
 use table_text::corpus::{
-    names_with_spreads, read_answers, read_chart, read_schedule, read_spreads, verify, Answer,
+    names_with_spreads, read_answers, read_chart, read_questions, read_schedule, read_spreads,
+    verify, Answer,
 };
 
 fn stored() -> Vec<(String, Answer, Vec<u8>)> {
@@ -134,6 +136,59 @@ fn verdicts_at_spreads_are_those_of_document_02() {
     }
     assert_eq!(names.len(), 7);
     assert!(numbers.into_iter().eq([10, 11, 15, 16, 17, 19]));
+}
+
+/// As the vectors write it.
+fn told(reasons: Reasons) -> String {
+    let edges = reasons.edges.iter();
+    let edges = edges.map(|(edge, reason)| format!("|{edge} {reason}"));
+    format!("{}{}", reasons.passage, edges.collect::<String>())
+}
+
+#[test]
+fn reasons_are_those_of_document_02() {
+    let mut kinds = [0; 6];
+    for (name, answer, bytes) in stored() {
+        if answer != Answer::Accepted {
+            continue;
+        }
+        let (table, passages) = verdict(&bytes).unwrap();
+        for question in read_questions(&corpus_folder(), &name).unwrap() {
+            let given = match reasons(&table, &passages, question.component, question.tick) {
+                Ok(reasons) => told(reasons),
+                Err(refusal) => format!("refused {} {}", refusal.number, refusal.component),
+            };
+            assert_eq!(given, question.answer, "{name}");
+            for (kind, word) in [
+                "taken",
+                "data",
+                "window",
+                "later",
+                "higher",
+                "refused 21 255",
+            ]
+            .iter()
+            .enumerate()
+            {
+                kinds[kind] += usize::from(given.contains(word));
+            }
+        }
+    }
+    println!("{kinds:?}");
+    assert!(kinds.iter().all(|count| *count > 5), "{kinds:?}");
+}
+
+/// All five reasons at tick 0, and 31 edges that are numbered higher.
+#[test]
+fn the_tables_of_the_reasons() {
+    let first = |name: &str| read_questions(&corpus_folder(), name).unwrap().remove(0);
+    let five = first("accepted_five_reasons");
+    assert_eq!((five.component, five.tick), (0, 0));
+    let words = "0|0 data 1|1 window|2 taken|3 later|4 higher";
+    assert_eq!(five.answer, words);
+    let higher = first("accepted_higher_number_32_edges");
+    assert_eq!(higher.answer.matches("higher").count(), 31);
+    assert!(higher.answer.starts_with("0|0 taken|1 higher|"));
 }
 
 #[test]

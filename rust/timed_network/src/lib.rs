@@ -7,13 +7,13 @@
 //! windows met where checks 10 to 12 refuse a table, [`refusal_place`] at which
 //! byte checks 4 to 6 stop, [`refused_opening`] at which opening of a passage
 //! checks 7 to 9 do, [`edge_choice`] which edge a component takes at an
-//! entry. [`plan`] writes the table of a cellar in which
+//! entry, [`reasons`] why it takes the one that it takes at a tick. [`plan`] writes the table of a cellar in which
 //! each probe has a slot of its own. [`translate`] writes the
 //! program of an accepted table, [`program`] gives it as bytes of its own,
 //! [`part`] finds one node's part in it, [`run`] carries out choices. For nodes
 //! that wake apart there are [`check_spread`], [`largest_spread`],
 //! [`meetings_spread`] and [`run_apart`]. [`node`] has one node whose registers
-//! the caller lends. The declarations of the library stand in four private
+//! the caller lends. The declarations of the library stand in five private
 //! modules; each call gets its safe form.
 //!
 //! Every slice may be lent: an empty one, one of any length (a slice never
@@ -27,12 +27,14 @@
 mod exported;
 pub mod node;
 mod places;
+mod reasons;
 mod refusal;
 mod running;
 mod spread;
 
 pub use exported::{Entry, Passage, RunNumbers};
 pub use places::{refusal_place, refused_opening, Part, Place, RefusedOpening};
+pub use reasons::{reasons, reasons_into, Reason, Reasons, Told, REASON, REASONS_ENOUGH};
 pub use refusal::{Refusal, Refused, UnknownNumber, Verdict, NO_COMPONENT};
 pub use running::{
     part, program, run, run_numbers, translate, End, Run, MAX_CHOICES, MAX_PROGRAM, NO_NODE,

@@ -8,7 +8,7 @@ use std::fmt;
 pub const NO_COMPONENT: u8 = 255;
 
 /// Why a table or a call is refused: the question that is answered with no, by
-/// the numbers of document 01; 15 to 20 are those of document 02. Displayed as
+/// the numbers of document 01; 15 to 21 are those of document 02. Displayed as
 /// that question, in the words of the proved text (`crates/refusal_text`).
 ///
 /// ```
@@ -65,10 +65,13 @@ pub enum Refusal {
     Spread = 19,
     /// 20: an offset is above the spread.
     Offset = 20,
+    /// 21: a component that is asked about is absent, or a tick is not below the
+    /// horizon.
+    Question = 21,
 }
 
 /// The question of each refusal, in the order of their numbers.
-const QUESTIONS: [&str; 20] = [
+const QUESTIONS: [&str; 21] = [
     "Is the first byte 1 or 2?",
     "Is the stated length the length handed in, from 7 to 8,192?",
     "Are components, channels, horizon and bands in range?",
@@ -89,11 +92,12 @@ const QUESTIONS: [&str; 20] = [
     "Are the numbers in range and probes x (slot + 2 x guard) below the period?",
     "Is the spread at most 1,000 ticks?",
     "Is no offset above the spread?",
+    "Is the component there and the tick below the horizon?",
 ];
 
 impl Refusal {
     /// All refusals, in the order of their numbers, which start with 1.
-    pub const ALL: [Refusal; 20] = [
+    pub const ALL: [Refusal; 21] = [
         Refusal::Version,
         Refusal::Length,
         Refusal::Header,
@@ -114,9 +118,10 @@ impl Refusal {
         Refusal::Plan,
         Refusal::Spread,
         Refusal::Offset,
+        Refusal::Question,
     ];
 
-    /// Its number, 1 to 20.
+    /// Its number, 1 to 21.
     pub fn number(self) -> u8 {
         self as u8
     }

@@ -5,7 +5,7 @@ mod common;
 
 use common::{refused, text};
 use std::error::Error;
-use timed_network::{check, End, Part, Refusal, UnknownNumber, Verdict, NO_COMPONENT};
+use timed_network::{check, End, Part, Reason, Refusal, UnknownNumber, Verdict, NO_COMPONENT};
 
 /// The strings of a text that stand between quotes.
 fn quoted(text: &str) -> Vec<String> {
@@ -99,12 +99,30 @@ fn names_and_numbers_are_those_of_the_header() {
     assert_eq!(parts, enumerators("TIMED_NETWORK_PART_"));
 }
 
+/// The reasons of the header, one behind the other, by their names and numbers.
+#[test]
+fn reasons_are_those_of_the_header() {
+    let header = text("include/timed_network.h");
+    let listed = between(&header, "enum timed_network_reason {\n", "\n};");
+    let reasons = [
+        ("Taken", Reason::Taken),
+        ("DataBound", Reason::DataBound(3)),
+        ("NoWindow", Reason::NoWindow),
+        ("ReadyLater", Reason::ReadyLater),
+        ("HigherNumber", Reason::HigherNumber),
+    ];
+    let named = reasons.map(|(name, reason)| {
+        format!("    TIMED_NETWORK_{} = {}", capitals(name), reason.number())
+    });
+    assert_eq!(named.join(",\n"), listed);
+}
+
 #[test]
 fn every_other_number_is_unknown() {
     for number in 0..=u8::MAX {
         let refusal = Refusal::try_from(number);
         match number {
-            1..=20 => assert_eq!(refusal.map(Refusal::number), Ok(number)),
+            1..=21 => assert_eq!(refusal.map(Refusal::number), Ok(number)),
             _ => assert_eq!(refusal, Err(UnknownNumber(number))),
         }
         let end = End::try_from(number);
@@ -113,14 +131,14 @@ fn every_other_number_is_unknown() {
             _ => assert_eq!(end, Err(UnknownNumber(number))),
         }
     }
-    assert_eq!(UnknownNumber(21).to_string(), "nothing has the number 21");
+    assert_eq!(UnknownNumber(22).to_string(), "nothing has the number 22");
 }
 
 #[test]
 fn a_verdict_is_a_result_and_back() {
     assert_eq!(Verdict::Accepted.into_result(), Ok(()));
     assert_eq!(Verdict::Accepted.refusal(), None);
-    for number in 1..=20 {
+    for number in 1..=21 {
         for component in [0, 7, NO_COMPONENT] {
             let verdict = refused(number, component);
             let error = verdict.into_result().unwrap_err();
@@ -130,7 +148,7 @@ fn a_verdict_is_a_result_and_back() {
             assert_eq!(Verdict::from(error), verdict);
         }
     }
-    assert_eq!(refused(21, 0).refusal(), None);
+    assert_eq!(refused(22, 0).refusal(), None);
 }
 
 /// With `?`, as a caller has it.

@@ -100,7 +100,7 @@ fn with_lines(file: &[u8]) -> Result<Input, SourceError> {
 }
 
 /// Digits alone, as the program reads them, of a number of 32 bits.
-pub fn spread_of(word: &OsStr) -> Option<u32> {
+pub fn number_of(word: &OsStr) -> Option<u32> {
     let digits = word.to_str()?;
     if digits.bytes().all(|byte| byte.is_ascii_digit()) {
         digits.parse().ok()
@@ -127,8 +127,8 @@ mod tests {
     use super::*;
 
     #[test]
-    fn spreads_are_digits() {
-        let spread = |word: &str| spread_of(OsStr::new(word));
+    fn numbers_are_digits() {
+        let spread = |word: &str| number_of(OsStr::new(word));
         assert_eq!(spread("0"), Some(0));
         assert_eq!(spread("007"), Some(7));
         assert_eq!(spread("4294967295"), Some(u32::MAX));

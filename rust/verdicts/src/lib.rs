@@ -52,7 +52,7 @@ pub fn run<T: Teller>(usage: &str, make: fn(OsString, u32, bool) -> Option<T>) -
         let [first, spread, files @ ..] = words.as_slice() else {
             return output::say(usage.as_bytes(), WRONG);
         };
-        let teller = input::spread_of(spread)
+        let teller = input::number_of(spread)
             .filter(|_| !files.is_empty())
             .and_then(|spread| make(first.clone(), spread, files.len() > 1));
         match teller {

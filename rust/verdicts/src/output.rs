@@ -20,6 +20,11 @@ pub fn write_out(bytes: &[u8]) -> Option<u8> {
     }
 }
 
+/// Writes to standard error; the status where that fails.
+pub fn write_err(bytes: &[u8]) -> Option<u8> {
+    write(io::stderr().as_fd(), bytes).err().map(|_| BROKEN)
+}
+
 /// Says something on standard error and gives the status; a message that
 /// cannot be written is a failure.
 pub fn say(message: &[u8], status: u8) -> u8 {

@@ -19,7 +19,8 @@ pub struct Words {
 /// What the program writes of a table at a spread. What has not the form of a
 /// verdict comes of something that is no such program.
 pub fn words(printer: &OsStr, table: &[u8], spread: u32) -> Result<Words, String> {
-    let output = run(printer, table, spread).map_err(|error| error.to_string())?;
+    let spread = [spread.to_string()];
+    let output = run(printer, table, &spread).map_err(|error| error.to_string())?;
     if !output.status.success() || !output.stderr.is_empty() {
         let said = String::from_utf8_lossy(&output.stderr);
         return Err(format!("{} {}", output.status, said.trim_end()));
@@ -89,11 +90,12 @@ fn number_after<N: FromStr>(line: &str, words: &str) -> Option<N> {
     rest[..end].parse().ok()
 }
 
-/// A table has fewer bytes than a pipe holds, so all of it can be written
-/// before anything is read.
-fn run(printer: &OsStr, table: &[u8], spread: u32) -> io::Result<Output> {
+/// Calls a program with these words and the table as its standard input. A
+/// table has fewer bytes than a pipe holds, so all of it can be written before
+/// anything is read.
+pub fn run(printer: &OsStr, table: &[u8], words: &[String]) -> io::Result<Output> {
     let mut program = Command::new(printer)
-        .arg(spread.to_string())
+        .args(words)
         .stdin(Stdio::piped())
         .stdout(Stdio::piped())
         .stderr(Stdio::piped())

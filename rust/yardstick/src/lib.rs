@@ -11,8 +11,8 @@
 //! in one sweep, `meetings` notes on the way which windows meet, `spread` looks at
 //! all of them again where nodes wake apart. `translate` writes programs, `part`
 //! finds one node's part, `run` carries out choices, `chart` draws the schedule,
-//! `plan` writes the table of a plan. `place` and `refused` tell where a table is
-//! refused.
+//! `plan` writes the table of a plan, `reasons` tells why an edge is taken. `place` and
+//! `refused` tell where a table is refused.
 #![forbid(unsafe_code)]
 #![warn(missing_docs)]
 
@@ -23,6 +23,7 @@ mod part;
 mod place;
 mod plan;
 mod read;
+mod reasons;
 mod refused;
 mod run;
 mod schedule;
@@ -33,6 +34,7 @@ mod translate;
 pub use part::part;
 pub use place::Place;
 pub use plan::plan;
+pub use reasons::{Told, REASON};
 pub use refused::RefusedOpening;
 
 use run::Machine;
@@ -58,7 +60,7 @@ pub const MAX_SPREAD: u32 = 1000;
 #[derive(Clone, Copy, Debug, PartialEq, Eq)]
 pub struct Refusal {
     /// The number of the check that is not passed: 1 to 12 or 15
-    /// to 17, 13, 14, 18, 19 or 20.
+    /// to 17, 13, 14, or 18 to 21.
     pub number: u8,
     /// The component concerned, or [`NONE`].
     pub component: u8,
@@ -258,6 +260,30 @@ impl Yardstick {
         demand_room(rows.len(), length)?;
         chart::write(&self.table, self.schedule.passages(), &mut rows[..length]);
         Ok(length)
+    }
+
+    /// Writes why a component takes its edge at a tick, [`REASON`] bytes for each edge
+    /// from the location of the passage that it is in.
+    pub fn reasons(
+        &mut self,
+        bytes: &[u8],
+        component: u32,
+        tick: u32,
+        told: &mut [u8],
+    ) -> Result<Told, Refusal> {
+        self.check(bytes)?;
+        let number = component as usize;
+        if number >= self.table.count || tick >= self.table.horizon {
+            return Err(Refusal::whole(21));
+        }
+        let component = self.table.component(number);
+        let passages = self.schedule.passages();
+        let visit = reasons::visit(component, bytes, passages, (number, tick));
+        let size = visit.edges(component).count_ones() as usize;
+        demand_room(told.len() / REASON, size)?;
+        visit.write(component, bytes, told);
+        let passage = visit.row as u32;
+        Ok(Told { passage, size })
     }
 
     /// Runs the programs of a table's nodes under choices, writes their

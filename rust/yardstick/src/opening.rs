@@ -76,31 +76,45 @@ fn taken_first(
     bytes: &[u8],
     (clocks, variables): Values,
 ) -> Option<Taken> {
-    let location = component.location(location);
-    let left = |clock: u8, bound: u16| i32::from(bound) - clocks[usize::from(clock) % CLOCKS];
-    let last = left(location.clock, location.bound);
-    best(location.from, |number| {
+    let place = component.location(location);
+    best(place.from, |number| {
         let edge = &component.edges[number % EDGES];
-        let (mut ready, mut end) = (0, last);
-        for &[clock, a, b, c, d] in edge.clock_bounds(bytes) {
-            ready = ready.max(left(clock, two(a, b)));
-            if two(c, d) != NO_HIGH {
-                end = end.min(left(clock, two(c, d)));
-            }
-        }
-        let candidate = ready < end && !data_bounds_fail(edge, bytes, variables);
+        let (ready, end) = window_read(place, edge, bytes, clocks);
+        let candidate = ready < end && first_failing(edge, bytes, variables).is_none();
         candidate.then_some((ready, end))
     })
 }
 
-/// Whether one of an edge's data bounds fails, as they stand in the table's bytes.
+/// The first and the last tick at which invariant and clock bounds hold, counted from
+/// the entry, by the bounds as they stand in the table's bytes.
 #[inline]
-pub(crate) fn data_bounds_fail(edge: &Edge, bytes: &[u8], variables: &Variables) -> bool {
+pub(crate) fn window_read(
+    location: &Location,
+    edge: &Edge,
+    bytes: &[u8],
+    clocks: &Clocks,
+) -> (i32, i32) {
+    let left = |clock: u8, bound: u16| i32::from(bound) - clocks[usize::from(clock) % CLOCKS];
+    let (mut ready, mut end) = (0, left(location.clock, location.bound));
+    for &[clock, a, b, c, d] in edge.clock_bounds(bytes) {
+        ready = ready.max(left(clock, two(a, b)));
+        if two(c, d) != NO_HIGH {
+            end = end.min(left(clock, two(c, d)));
+        }
+    }
+    (ready, end)
+}
+
+/// The number of the first of an edge's data bounds that fails, as they stand in the
+/// table's bytes.
+#[inline]
+pub(crate) fn first_failing(edge: &Edge, bytes: &[u8], variables: &Variables) -> Option<u8> {
     let fails = |&[variable, a, b, c, d]: &[u8; BOUND]| {
         let value = variables[usize::from(variable) % VARIABLES];
         !(two(a, b) as i16..=two(c, d) as i16).contains(&value)
     };
-    edge.data_bounds(bytes).iter().any(fails)
+    let first = edge.data_bounds(bytes).iter().position(fails)?;
+    Some(first as u8)
 }
 
 /// The first and the last tick at which invariant and clock bounds hold,

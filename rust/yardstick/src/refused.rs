@@ -1,6 +1,6 @@
 //! Where checks 7 to 9 stop: what is told of the opening at which the sweep ended.
 
-use crate::opening::{data_bounds_fail, first_out_of_range};
+use crate::opening::{first_failing, first_out_of_range};
 use crate::schedule::Stop;
 use crate::table::*;
 use crate::{Refusal, NONE};
@@ -64,7 +64,8 @@ pub(crate) fn opening(
         8 => {
             let from = component.location(stop.location).from;
             let fails = |number: &usize| {
-                data_bounds_fail(&component.edges[number % EDGES], bytes, &stop.variables)
+                let edge = &component.edges[number % EDGES];
+                first_failing(edge, bytes, &stop.variables).is_some()
             };
             opening.leaving = from.count_ones() as u8;
             opening.blocked = Bits(from).filter(fails).count() as u8;

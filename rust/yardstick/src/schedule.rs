@@ -254,7 +254,7 @@ impl Sweep<'_> {
 /// The clocks after so many ticks: "masked clocks become 0 and the others have
 /// grown".
 #[inline]
-fn grown(clocks: &Clocks, ticks: i32, mask: u8) -> Clocks {
+pub(crate) fn grown(clocks: &Clocks, ticks: i32, mask: u8) -> Clocks {
     let kept = &KEPT[usize::from(mask) % KEPT.len()];
     let mut grown = *clocks;
     for (clock, kept) in grown.iter_mut().zip(kept) {

@@ -4,7 +4,9 @@
 mod common;
 
 use common::bytes;
-use yardstick::{part, End, Refusal, Yardstick, FIELDS, MAX_CHOICES, NONE, OBSERVATION};
+use yardstick::{
+    part, End, Refusal, Told, Yardstick, FIELDS, MAX_CHOICES, NONE, OBSERVATION, REASON,
+};
 
 /// The passages of the worked example, and the bytes of its program.
 const PASSAGES: usize = 8;
@@ -77,6 +79,26 @@ fn runs_of_all_lengths() {
         assert_eq!(observations[..8], [1, 0, 0, 0, 0, 0, 0, 2]);
         let behind = &observations[OBSERVATION..];
         assert!(behind.iter().all(|byte| *byte == 0xee));
+    }
+}
+
+#[test]
+fn reasons_of_all_lengths() {
+    let mut yardstick = Yardstick::new();
+    for length in 0..12 {
+        let mut told = vec![0xee; length];
+        let answer = yardstick.reasons(&example(), 1, 6, &mut told);
+        let (passage, size) = (3, 1);
+        let written = if length >= REASON { REASON } else { 0 };
+        let expected = match written {
+            0 => Err(refused(13)),
+            _ => Ok(Told { passage, size }),
+        };
+        assert_eq!(answer, expected);
+        assert_eq!(told[..written], [1, 0, NONE][..written]);
+        assert!(told[written..].iter().all(|byte| *byte == 0xee));
+        let late = yardstick.reasons(&example(), 1, 20, &mut told);
+        assert_eq!(late, Err(refused(21)));
     }
 }
 

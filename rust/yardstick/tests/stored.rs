@@ -5,7 +5,7 @@
 mod common;
 
 use common::*;
-use yardstick::{part, plan, Refusal, Yardstick, NONE, OBSERVATION};
+use yardstick::{part, plan, Refusal, Yardstick, NONE, OBSERVATION, REASON};
 
 fn program(yardstick: &mut Yardstick, table: &[u8]) -> Result<String, Refusal> {
     let mut program = vec![0; 65_535];
@@ -183,6 +183,56 @@ fn the_vectors_of_nodes_that_wake_apart() {
     assert_eq!(count, 150);
 }
 
+/// The words of the reasons, by their numbers.
+const REASONS: [&str; 5] = ["taken", "data", "window", "later", "higher"];
+
+/// The bytes lent, the table, and the component with the tick.
+fn why(
+    yardstick: &mut Yardstick,
+    lent: usize,
+    table: &[u8],
+    question: [&str; 2],
+) -> Result<String, Refusal> {
+    let [component, tick] = question.map(|word| word.parse().unwrap());
+    let mut bytes = vec![77; lent];
+    let told = yardstick.reasons(table, component, tick, &mut bytes);
+    let written = told.map_or(0, |told| told.size * REASON);
+    assert!(bytes[written..].iter().all(|byte| *byte == 77));
+    let edge = |bytes: &[u8]| {
+        let (number, word) = (bytes[0], REASONS[usize::from(bytes[1])]);
+        assert_eq!(word == "data", bytes[2] != NONE);
+        match word {
+            "data" => format!("|{number} data {}", bytes[2]),
+            _ => format!("|{number} {word}"),
+        }
+    };
+    let edges = bytes[..written].chunks(REASON).map(edge);
+    Ok(format!("{}{}", told?.passage, edges.collect::<String>()))
+}
+
+#[test]
+fn the_vectors_of_reasons() {
+    let mut yardstick = Yardstick::new();
+    let mut count = 0;
+    for line in text("vectors/reasons.tsv").lines() {
+        let fields: Vec<&str> = line.split('\t').collect();
+        let request: Vec<&str> = fields[1].split(' ').collect();
+        let given = match request[..] {
+            ["lent", lent, "why", table, a, b] => told(why(
+                &mut yardstick,
+                lent.parse().unwrap(),
+                &unhex(table),
+                [a, b],
+            )),
+            ["why", table, a, b] => told(why(&mut yardstick, 96, &unhex(table), [a, b])),
+            _ => panic!("no such request: {request:?}"),
+        };
+        assert_eq!(given, fields[2], "{}: {}", fields[0], fields[1]);
+        count += 1;
+    }
+    assert_eq!(count, 157);
+}
+
 #[test]
 fn whole_corpus() {
     let mut yardstick = Yardstick::new();
@@ -195,6 +245,11 @@ fn whole_corpus() {
             let lines = text(&format!("corpus/{name}.schedule"));
             let given = schedule(&mut yardstick, &table).unwrap();
             assert_eq!(given, lines.lines().collect::<Vec<_>>(), "{name}");
+            for line in text(&format!("corpus/{name}.why")).lines() {
+                let words: Vec<&str> = line.splitn(3, ' ').collect();
+                let given = told(why(&mut yardstick, 96, &table, [words[0], words[1]]));
+                assert_eq!(given, words[2], "{name}: {line}");
+            }
             accepted += 1;
         }
     }

@@ -1,6 +1,6 @@
 -- The delays at which invariant and clock bounds hold are those from readyOf up to, and without, pastOf. Assumes nothing.
-use mathlib.Core.Path.{_≡_, refl}
-use mathlib.Core.Bool.{Bool, true, false, cond, _&&_, _||_}
+use mathlib.Core.Path.{_≡_, refl, sym, ap}
+use mathlib.Core.Bool.{Bool, true, false, cond, _&&_, _||_, not}
 use mathlib.Core.List.{List, [], _∷_}
 use mathlib.Core.Logic.{_↔_}
 use Prim.Native.Nat.{ℕ, suc, pred, _+_, _-_, _≤_, _<_, min}
@@ -8,12 +8,14 @@ use native.Mathlib.Omega.{arith}
 use borrow.Author.Tests.{leb-true, le-leb, ltb-true, lt-ltb}
 use lib.Dec.{leb, ltb, eqb}
 use lib.IntN.{ℤ}
+use lib.ListN.{length}
 use Rattle.model.specs.declared.Location.{Location}
 use Rattle.model.specs.declared.ClockGuard.{ClockGuard}
+use Rattle.model.specs.declared.DataGuard.{DataGuard}
 use Rattle.model.specs.Lists.{all}
 use Rattle.model.specs.Table.{Arc}
-use Rattle.model.specs.Window.{clockAt, within, holdsAfter, IsWindow, readyOf, pastOf, dataHolds, candidate}
-use Rattle.model.proofs.Basics.Bools.{and-is}
+use Rattle.model.specs.Window.{clockAt, within, holdsAfter, IsWindow, readyOf, pastOf, dataWithin, dataHolds, firstFailing, candidate}
+use Rattle.model.proofs.Basics.Bools.{clash, and-is}
 
 module _ (l : Location) (xs : List ℕ) (d : ℕ) where
   -- the clock bounds hold
@@ -108,3 +110,21 @@ candidate-is l a xs vs = (to, from)
     from h =
         let o = one-window l (a .clockGuards) xs (h .1 .2) in
         rw (h .0) (lt-ltb (suc (readyOf (a .clockGuards) xs)) (pastOf l (a .clockGuards) xs) (omega (arith, o .0, o .1, h .1 .3)))
+
+-- ## Data bounds
+
+-- where the data bounds do not all hold, the first that fails is one of them
+pub fails-there : (gs : List DataGuard) (vs : List ℤ) → dataHolds gs vs ≡ false → firstFailing gs vs < length gs
+fails-there [] vs e = clash (sym e)
+fails-there (g ∷ gs) vs e = go (λ f. fails-there gs vs f) (dataWithin g vs) e
+  where
+    go : (dataHolds gs vs ≡ false → firstFailing gs vs < length gs) → (t : Bool) → t && dataHolds gs vs ≡ false
+        → cond (not t) 0 (suc (firstFailing gs vs)) < suc (length gs)
+    go ih true f = omega (arith, ih f)
+    go ih false f = omega arith
+
+-- where they hold, none is told
+pub fails-none : (gs : List DataGuard) (vs : List ℤ) → dataHolds gs vs ≡ true → firstFailing gs vs ≡ length gs
+fails-none [] vs e = refl
+fails-none (g ∷ gs) vs e =
+    let h = and-is (dataWithin g vs) (dataHolds gs vs) .0 e in rw (h .0) (ap suc (fails-none gs vs (h .1)))

@@ -31,6 +31,12 @@ slice-aggregate-put-4 c = search needs
 put-requires-4 : tie.Need-put-requires-4
 put-requires-4 c κs = search needs
 
+slice-aggregate-put-5 : tie.Need-slice-aggregate-put-5
+slice-aggregate-put-5 c = search needs
+
+put-requires-5 : tie.Need-put-requires-5
+put-requires-5 c κs = search needs
+
 same-length : tie.Need-same-length
 same-length c = search needs
 
@@ -62,8 +68,17 @@ same-length-4 : tie.Need-same-length-4
 same-length-4 c = search needs
 
 returns-4 : tie.Need-returns-4
+unfolding question
 returns-4 c =
     let p = c .before .before .put4 in
+    (asked (c .before .before .before .before .before .before .before .args .number) 21 (c .before .before .before .before .before .match .keys4) (p .ensures .0), omega (arith, p .ensures .1))
+
+same-length-5 : tie.Need-same-length-5
+same-length-5 c = search needs
+
+returns-5 : tie.Need-returns-5
+returns-5 c =
+    let p = c .before .before .put5 in
     let rest = c .before .before .before .before .before .match .rest in
     (not-asked (c .before .before .before .before .before .before .before .args .number) (omega (arith, c .before .before .before .before .before .before .before .pre, rest .0, rest .1)) (p .ensures .0), omega (arith, p .ensures .1))
 
@@ -79,6 +94,8 @@ put-question-on-numbers-spec =
     put-requires-3
     slice-aggregate-put-4
     put-requires-4
+    slice-aggregate-put-5
+    put-requires-5
     same-length
     returns
     same-length-2
@@ -86,4 +103,6 @@ put-question-on-numbers-spec =
     same-length-3
     returns-3
     same-length-4
-    returns-4)
+    returns-4
+    same-length-5
+    returns-5)

@@ -6,6 +6,7 @@ use crate::bytes::hex;
 use crate::difference::{Outcome, Stop};
 use crate::places::{refused_by, READ};
 use crate::random::Random;
+use crate::reasons::AMPLE;
 use crate::requests::{self, Apart, Request};
 use crate::runs;
 use crate::runs::apart::Handed;
@@ -21,6 +22,9 @@ pub(super) fn corpus(trial: &mut Trial, _: &mut Random, _: &Extent) -> Outcome {
     expect_all(trial, stored::corpus())?;
     for (table, spread, answer) in stored::corpus_spreads().map_err(Stop::Unreadable)? {
         trial.expect_spread(&table, spread, answer)?;
+    }
+    for (table, question, answer) in stored::corpus_questions().map_err(Stop::Unreadable)? {
+        trial.expect_reasons(&table, &question, AMPLE, &answer)?;
     }
     for (table, answer, words) in stored::corpus_places().map_err(Stop::Unreadable)? {
         match refused_by(answer, &READ) {
@@ -41,8 +45,8 @@ fn expect_all(trial: &mut Trial, tables: Result<Vec<Stored>, String>) -> Outcome
     Ok(())
 }
 
-/// The programs, parts, charts, plans, edge choices, verdicts at a spread, runs and
-/// places of refusals of the vectors.
+/// The programs, parts, charts, plans, edge choices, reasons, verdicts at a spread, runs
+/// and places of refusals of the vectors.
 pub(super) fn requests(trial: &mut Trial, _: &mut Random, _: &Extent) -> Outcome {
     for request in requests::requests().map_err(Stop::Unreadable)? {
         match &request {
@@ -69,6 +73,9 @@ pub(super) fn requests(trial: &mut Trial, _: &mut Random, _: &Extent) -> Outcome
                 answer,
             } => trial.expect_plan(*slots, *lent, answer)?,
             Request::Looked { table, answer } => trial.expect_looked(table, answer)?,
+            Request::Why(why) => {
+                trial.expect_reasons(&why.table, &why.question, why.lent, &why.answer)?
+            }
             Request::Run {
                 table,
                 choices,

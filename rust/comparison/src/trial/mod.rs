@@ -1,6 +1,7 @@
 //! One class of cases: each case is handed to both implementations, their
 //! answers are compared and counted.
 
+mod asking;
 mod choosing;
 mod following;
 mod locating;
@@ -103,6 +104,7 @@ impl<'a> Trial<'a> {
         }
         self.chart_accepted(input)?;
         self.choose_accepted(input)?;
+        self.ask_accepted(input)?;
         self.translate_accepted(input)
     }
 
@@ -117,6 +119,7 @@ impl<'a> Trial<'a> {
             self.lend(input, lists::length_for_refused(count / every))?;
             self.translate_and_run_refused(input, count / every)?;
             self.choose_refused(input)?;
+            self.ask_refused(input)?;
         }
         Ok(())
     }

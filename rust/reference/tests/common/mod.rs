@@ -149,6 +149,12 @@ pub fn vectors_of_places() -> Vec<Vector> {
     read_vectors(&["places.tsv"])
 }
 
+/// The cases of why an edge is taken: `why`, before it `lent` where it is said how
+/// many bytes are lent.
+pub fn vectors_of_reasons() -> Vec<Vector> {
+    read_vectors(&["reasons.tsv"])
+}
+
 fn read_vectors(files: &[&str]) -> Vec<Vector> {
     let mut all = Vec::new();
     for file in files {

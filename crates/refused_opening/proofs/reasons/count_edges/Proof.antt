@@ -5,10 +5,10 @@ use native.Mathlib.Omega.{arith}
 use lib.ListN.{length}
 use Rattle.model.specs.Table.{arcOf}
 use Rattle.model.specs.Places.{arcPlace, componentIn}
-use Rattle.window.specs.Views.{entryOf}
+use Rattle.window.specs.Views.{entryOf, standingOf}
 use Rattle.window.proofs.Rests.{tail-long}
 use Rattle.window.proofs.Ready.{Entered, entered, first-place, first-within, edge-in, arc-head, arc-asked, arc-is, next-place, next-within}
-use Rattle.refused_opening.specs.Counting.{reasonOf, leaves, fails, shut}
+use Rattle.refused_opening.specs.Counting.{leaves, fails, shut}
 use Rattle.refused_opening.proofs.Counted.{Counted, count-first, count-on, count-all, once}
 use borrow.Author.Needs.{needs}
 use Rattle.refused_opening.proofs.reasons.count_edges.Statement.{statement}
@@ -82,17 +82,17 @@ head c =
     let a = c .before .before .before .before .before .before .before .before .args in
     arc-head (a .table .now) (a .c) (a .start) (known (c .before .before .before .before .before .before .before)) (c .before .loop .place) (c .before .loop .e) (c .before .loop .inv .1) (inside c)
 
-sub-reason : tie.Need-sub-reason Inv-loop μ-loop
-sub-reason c = omega (arith, head c)
+sub-judge : tie.Need-sub-judge Inv-loop μ-loop
+sub-judge c = omega (arith, head c)
 
-part-reason-start : tie.Need-part-reason-start Inv-loop μ-loop
-part-reason-start c = omega (arith, head c)
+part-judge-start : tie.Need-part-judge-start Inv-loop μ-loop
+part-judge-start c = omega (arith, head c)
 
-part-reason-end : tie.Need-part-reason-end Inv-loop μ-loop
-part-reason-end c = search needs
+part-judge-end : tie.Need-part-judge-end Inv-loop μ-loop
+part-judge-end c = search needs
 
-reason-requires : tie.Need-reason-requires Inv-loop μ-loop
-reason-requires c κs =
+judge-requires : tie.Need-judge-requires Inv-loop μ-loop
+judge-requires c κs =
     let s = c .before .before .before .before .before .before .before .before .before in
     let l = c .before .before .loop in
     (arc-asked (s .args .table .now) (s .args .c) (s .args .start) (known (c .before .before .before .before .before .before .before .before)) (l .place) (l .e) (l .inv .1) (inside (c .before)), s .pre .3)
@@ -135,9 +135,9 @@ loop-again c =
     let i = inside (c .before .before .before .before .before) in
     let t = c .before .before .tallied in
     let C = componentIn (a .table .now) (a .c) in
-    let r : c .before .before .before .reason .result ≡ reasonOf (a .location) (entryOf (a .at)) (arcOf C (l .e)) = c .before .before .before .reason .ensures
-    ∙ ap (reasonOf (a .location) (entryOf (a .at))) (arc-is (a .table .now) (a .c) (a .start) k (l .place) (l .e) (l .inv .1) i) in
-    let o = once (c .before .before .before .reason .result) in (
+    let r : c .before .before .before .judge .result ≡ standingOf (a .location) (entryOf (a .at)) (arcOf C (l .e)) = c .before .before .before .judge .ensures .0
+    ∙ ap (standingOf (a .location) (entryOf (a .at))) (arc-is (a .table .now) (a .c) (a .start) k (l .place) (l .e) (l .inv .1) i) in
+    let o = once (c .before .before .before .judge .result) in (
       omega arith,
       next-place (a .table .now) (a .c) (a .start) k (l .place) (l .e) (l .inv .1) i (c .arc-length .result) (c .arc-length .ensures),
       omega (arith, t .ensures .0, o .0, l .inv .2),
@@ -170,10 +170,10 @@ count-edges-spec =
     add-place-2
     none-counted-requires
     loop-holds
-    sub-reason
-    part-reason-start
-    part-reason-end
-    reason-requires
+    sub-judge
+    part-judge-start
+    part-judge-end
+    judge-requires
     tallied-requires
     sub-arc-length
     part-arc-length-start

@@ -1,0 +1,4 @@
+pub mod Signing
+pub mod Wording
+pub mod Deciding
+pub mod Lining

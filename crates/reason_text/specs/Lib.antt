@@ -1,0 +1,3 @@
+pub mod ReasonText
+pub mod Lines
+pub mod Cases

@@ -1,0 +1,5 @@
+pub mod Placing
+pub mod Staying
+pub mod Naming
+pub mod EdgeReasons
+pub mod Laying

@@ -1,0 +1,7 @@
+//! What the library tells of tables, as JSON and in words.
+
+#![forbid(unsafe_code)]
+
+pub mod json;
+pub mod stop;
+pub mod why;
