@@ -36,7 +36,7 @@ static uint8_t op_at(const timed_network_node_registers *node, struct bytes part
     if (part.length < STATEMENT || node->pc > part.length - STATEMENT)
         return NO_STATEMENT;
     uint8_t op = part.at[node->pc];
-    return op > 0x11 || op == PAIR ? NO_STATEMENT : op;
+    return op > 0x12 || op == PAIR ? NO_STATEMENT : op;
 }
 
 /* The start, by document 01: in the initial location's block. */

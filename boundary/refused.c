@@ -13,12 +13,14 @@ static uint32_t number_at(struct bytes table, size_t at, uint32_t width) {
 
 /* Whether a part of this kind belongs to an edge, and whether it is one of several. */
 static int of_edge(uint8_t part) {
-    return part >= TIMED_NETWORK_PART_EDGE_HEAD && part <= TIMED_NETWORK_PART_PAIR;
+    return part == TIMED_NETWORK_PART_BUDGET ||
+           (part >= TIMED_NETWORK_PART_EDGE_HEAD && part <= TIMED_NETWORK_PART_PAIR);
 }
 
 static int is_one_of(uint8_t part) {
     return part == TIMED_NETWORK_PART_LOCATION ||
-           (of_edge(part) && part != TIMED_NETWORK_PART_EDGE_HEAD);
+           (of_edge(part) && part != TIMED_NETWORK_PART_EDGE_HEAD &&
+            part != TIMED_NETWORK_PART_BUDGET);
 }
 
 /* Whether a pair before this one has its channel. */
@@ -62,7 +64,7 @@ static void try_place(struct bytes table, timed_network_verdict_numbers verdict,
     if (place->number != verdict.number || place->component != verdict.component)
         fail("another refusal than that of the check");
     if (place->part < TIMED_NETWORK_PART_COMPONENT_LENGTH ||
-        place->part > TIMED_NETWORK_PART_TABLE_END)
+        place->part > TIMED_NETWORK_PART_BUDGET)
         fail("there is no such part");
     if (of_edge(place->part) ? place->edge >= MAX_EDGES : place->edge != 255)
         fail("there is no such edge");

@@ -244,6 +244,7 @@ void stored_read(const char *root) {
     read_vectors(root, "vectors/edge_choice.tsv");
     read_vectors(root, "vectors/apart.tsv");
     read_vectors(root, "vectors/reasons.tsv");
+    read_vectors(root, "vectors/budgets.tsv");
     read_vectors(root, "vectors/places.tsv");
     read_corpus(root);
     read_places(root);

@@ -152,9 +152,9 @@ horizon: the one whose entry is at or before it and whose end lies after it. Pri
 the passage's number and its line of vanillatarn schedule, then of each edge from
 its location one reason, the first that holds: it is taken; a data bound fails, with
 the value at the passage's entry and what is allowed; it has no window of at least
-one tick, with the bounds that leave none; it is ready later than the one taken; it
-is ready together with that one, but numbered higher. Of a text the line of each
-edge is told too.
+one tick, or one that is shorter than its budget, with the bounds that make it so; it
+is ready later than the one taken; it is ready together with that one, but numbered
+higher. Of a text the line of each edge is told too.
 
 --json: an object (docs/FORMATS.md)
 

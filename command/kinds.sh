@@ -2,7 +2,7 @@
 # shellcheck shell=bash
 # shellcheck disable=SC2154 # vanillatarn sets root, scratch, table, wrong and refused
 
-# Whether a copy can be a text: a text begins with no control byte but white space, and a table with byte 1 or 2.
+# Whether a copy can be a text: a text begins with no control byte but white space, and a table with byte 1, 2 or 3.
 may_be_text() {
     local LC_ALL=C first=''
     IFS= read -r -d '' -n 1 first <"$scratch/$1" || true

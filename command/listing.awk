@@ -1,4 +1,4 @@
-# A program's listing from its bytes as numbers (`od -An -v -tu1`), written from document 01, 'The program', and the words of the
+# A program's listing from its bytes as numbers (`od -An -v -tu1`), written from document 01, 'The program', document 02's wish 8 and the words of the
 # listing's definition: a second source for what `program_listing` prints.
 { for (i = 1; i <= NF; i++) b[n++] = $i }
 
@@ -24,6 +24,7 @@ function words(op, a, k) {
     if (op == 15) return "keep edge " k
     if (op == 16) return "take"
     if (op == 17) return "choose"
+    if (op == 18) return "budget " k
     return "no statement"
 }
 

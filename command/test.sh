@@ -243,7 +243,7 @@ check 'the table is not blamed' test -z "$(grep verdict err || true)"
 
 ## Damaged programs and texts
 
-{ head -c 202 program.bin; printf '\022\000\000\000'; tail -c 40 program.bin; } >unknown
+{ head -c 202 program.bin; printf '\023\000\000\000'; tail -c 40 program.bin; } >unknown
 { head -c 14 program.bin; printf '\000\000'; tail -c 230 program.bin; } >no_block
 { head -c 14 program.bin; printf '\000\377'; tail -c 230 program.bin; } >far_block
 printf '\001\000' >no_header

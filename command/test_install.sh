@@ -115,7 +115,7 @@ if command -v pkg-config >/dev/null && command -v cc >/dev/null; then
     says 0
     ./words 1 >out 2>err || status=$?
     says 0
-    starts 'Is the first byte 1 or 2?'
+    starts 'Is the first byte 1, 2 or 3?'
     PKG_CONFIG_PATH="$prefix/lib/pkgconfig" pkg-config --modversion timed_network >out
     check 'the version is that of the file' cmp -s out "$root/VERSION"
 fi

@@ -106,7 +106,7 @@ TEXT
 check 'the file of -o is as it was' cmp -s kept old
 
 # What is none of them is refused as a table, as before.
-for first in 0 3 177 377; do
+for first in 0 4 177 377; do
     { printf '%b' "\\0$first"; tail -c +2 cellar.bin; } >other.bin
     call verdict other.bin
     says 1

@@ -8,7 +8,7 @@ question() {
         5) echo 'Is every number in its range and every mask bit a clock?' ;;
         6) echo 'Does no receive edge list a channel twice?' ;;
         7) echo 'Are there at most 1,024 passages up to the horizon?' ;;
-        8) echo "Has the location entered an edge with a window of one tick's length?" ;;
+        8) echo "Is there an edge with a window of a tick's length, no shorter than its budget?" ;;
         9) echo 'Does each update of the edge taken stay in range?' ;;
     esac
 }
@@ -86,6 +86,23 @@ done <<'TEXT'
 97 01|4 1|Component 1, edge 2, its update 0 (byte 103): bytes needed: 4, there: 0.
 TEXT
 
+# Version 3: the valve of docs/FORMATS.md, one node with one edge and its budget, as hexadecimal digits; number and component; the words.
+while IFS='|' read -r digits refusal words; do
+    read -r number component <<<"$refusal"
+    printf '%b' "$(sed -e 's/ //g' -e 's/../\\x&/g' <<<"$digits")" >valve.bin
+    refuses valve.bin "$number" "$component" "$words"
+done <<'TEXT'
+03001a0100001e 00130100010001 00000a 00000001000000 ea61|5 0|Component 0, edge 0, its budget (byte 24): it is 60001, allowed are 0 to 60000.
+03001a0100001e 00130100010001 00000a 00000001000000 ffff|5 0|Component 0, edge 0, its budget (byte 24): it is 65535, allowed are 0 to 60000.
+0300190100001e 00120100010001 00000a 00000001000000 00|4 0|Component 0, edge 0, its budget (byte 24): bytes needed: 2, there: 1.
+0300180100001e 00110100010001 00000a 00000001000000|4 0|Component 0, edge 0, its budget (byte 24): bytes needed: 2, there: 0.
+03001b0100001e 00140100010001 00000a 00000001000000 000300|4 0|Component 0, its end (byte 26): bytes left over: 1.
+03001a0100001e 00130100010001 00000a 03000001000000 ea61|5 0|Component 0, edge 0 (byte 17): kind is 3, allowed are 0 to 2.
+03001a0100001e 00130100010001 00000a 00000001010000 ea61|5 0|Component 0, edge 0, its budget (byte 24): it is 60001, allowed are 0 to 60000.
+03001a0100001e 00130100010001 00000a 00000001010000 0003|4 0|Component 0, edge 0, its clock bound 0 (byte 26): bytes needed: 5, there: 0.
+0300230100001e 001c0100010002 00000a 00000001000000 0003 00000001000000 ea61|5 0|Component 0, edge 1, its budget (byte 33): it is 60001, allowed are 0 to 60000.
+TEXT
+
 # A spread is told before the place; one that is too large hides it.
 { head -c 31 cellar.bin; printf '\376'; tail -c +33 cellar.bin; } >changed.bin
 high='Component 0, edge 0, its clock bound 0 (byte 30): high is 65534, allowed are 0 to 60000, or 65535 for none.'
@@ -109,6 +126,9 @@ refuses_json changed.bin 5 0 "{\"part\":\"clock bound\",\"edge\":0,\"index\":0,\
 { head -c 13 cellar.bin; printf '\001'; tail -c +15 cellar.bin; } >changed.bin
 numbers='"width":0,"value":12,"least":0,"limit":1,"unbounded":false'
 refuses_json changed.bin 4 0 "{\"part\":\"component's end\",\"edge\":null,\"index\":null,\"byte\":33,\"start\":33,\"offset\":0,$numbers,\"line\":null}"
+
+numbers='"width":2,"value":60001,"least":0,"limit":60001,"unbounded":false'
+refuses_json valve.bin 5 0 "{\"part\":\"budget\",\"edge\":1,\"index\":null,\"byte\":33,\"start\":33,\"offset\":0,$numbers,\"line\":null}"
 
 ## In a text: the line
 
@@ -220,7 +240,7 @@ cat >>stuck.txt <<'TEXT'
   internal 1 -> 0
     when x0 from 20
 TEXT
-reasons='Edges that leave it: 3; with a data bound that fails: 1; of the others without a window of one tick'\''s length: 2.'
+reasons='Edges that leave it: 3; with a data bound that fails: 1; of the others without a window of one tick'\''s length, or of their budget: 2.'
 words="Component 0, passage 1: it enters location 1 at tick 5. $reasons"
 refuses stuck.txt 8 0 "$words" 'The location is line 8 of stuck.txt: location x0 <= 9'
 refuses_json stuck.txt 8 0 "$entry\"leaving\":3,\"blocked\":1,\"windowless\":2,\"line\":8}"
@@ -230,6 +250,38 @@ call verdict --spread 4 stuck.bin
 says 1
 expect 8 0 'The nodes may wake up to 4 ticks apart.' "$words" >expected
 gives expected
+
+# With budgets: the first edge has three ticks from 7 to 10 and needs four, the second has none from 10 to 10, of the third the data bound fails.
+cat >valve.txt <<'TEXT'
+horizon 30
+channels 0
+component
+  clocks 1
+  variables 1
+  initial 0
+  location x0 <= 10
+  internal 0 -> 0
+    budget 4
+    when x0 from 7
+    reset x0
+  internal 0 -> 0
+    when x0 from 10
+  internal 0 -> 0
+    budget 60000
+    data v0 from 1 to 2
+TEXT
+reasons='Edges that leave it: 3; with a data bound that fails: 1; of the others without a window of one tick'\''s length, or of their budget: 2.'
+words="Component 0, passage 0: it enters location 0 at tick 0. $reasons"
+refuses valve.txt 8 0 "$words" 'The location is line 7 of valve.txt: location x0 <= 10'
+entry='{"passage":0,"location":0,"tick":0,"clocks":[0,0,0,0],"values":[0,0,0,0],'
+refuses_json valve.txt 8 0 "$entry\"leaving\":3,\"blocked\":1,\"windowless\":2,\"line\":7}"
+sed '9s/4/3/' valve.txt >fits.txt
+call verdict fits.txt
+says 0
+starts accepted
+sed '9s/4/60001/' valve.txt >changed.txt
+words='Component 0, edge 0, its budget (byte 24): it is 60001, allowed are 0 to 60000.'
+refuses changed.txt 5 0 "$words" 'This is line 9 of changed.txt: budget 60001'
 
 ## 9: 20,000 twice are too many
 

@@ -36,8 +36,9 @@ verdict_at() {
 # What the reason printer wrote, as the corpus has it: the passage, then each edge with its reason.
 shortened() {
     sed -n -e 's/^passage //p' -e 's/^edge \([0-9]*\): taken, ticks .*/|\1 taken/p' -e 's/^edge \([0-9]*\): data bound \([0-9]\) fails: v.*/|\1 data \2/p' \
-        -e 's/^edge \([0-9]*\): no window of at least one tick: .*/|\1 window/p' -e 's/^edge \([0-9]*\): ready later, at tick .*/|\1 later/p' \
-        -e 's/^edge \([0-9]*\): ready together with edge .*/|\1 higher/p' -e 's/^refused .*/&/p' | tr -d '\n'
+        -e 's/^edge \([0-9]*\): no window of at least one tick: .*/|\1 window/p' -e 's/^edge \([0-9]*\): window shorter than its budget of .*/|\1 window/p' \
+        -e 's/^edge \([0-9]*\): ready later, at tick .*/|\1 later/p' -e 's/^edge \([0-9]*\): ready together with edge .*/|\1 higher/p' \
+        -e 's/^refused .*/&/p' | tr -d '\n'
 }
 
 # The schedule of an accepted table, or the refusal's line, and nothing else.

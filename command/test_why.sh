@@ -55,13 +55,71 @@ says 0
 check '32 edges are told' test "$(grep -c '^edge ' out)" -eq 32
 check '31 are numbered higher' test "$(grep -c 'ready together with edge 0, numbered higher$' out)" -eq 31
 
+# Budgets: a window of two ticks for three, of ten for eleven, none for one, of six for six, of one for one; x1 is never reset.
+cat >valve.txt <<'TEXT'
+horizon 40
+channels 0
+component
+  clocks 2
+  variables 0
+  initial 0
+  location x0 <= 10
+  internal 0 -> 0
+    budget 3
+    when x0 from 3 to 5
+    reset x0
+  internal 0 -> 0
+    budget 11
+    reset x0
+  internal 0 -> 0
+    budget 1
+    when x0 from 10
+    reset x0
+  internal 0 -> 0
+    budget 6
+    when x0 from 4
+    reset x0
+  internal 0 -> 0
+    budget 1
+    when x0 from 9
+    reset x0
+  internal 0 -> 0
+    budget 60000
+    when x0 from 1
+    when x1 from 2 to 12
+    reset x0
+TEXT
+"$root/vanillatarn" table valve.txt -o valve.bin
+call why valve.bin 0 0
+says 0
+is_in_passage '0 0 3 0 0 4 10 -'
+ends_with 'edge 0: window shorter than its budget of 3: ready at tick 3 by clock bound 0, end at tick 5 by clock bound 0' \
+    'edge 1: window shorter than its budget of 11: ready at tick 0, end at tick 10 by the invariant' \
+    'edge 2: no window of at least one tick: ready at tick 10 by clock bound 0, over from tick 11 on by the invariant' \
+    'edge 3: taken, ticks 4 to 10' 'edge 4: ready later, at tick 9' \
+    'edge 5: window shorter than its budget of 60000: ready at tick 2 by clock bound 1, end at tick 10 by the invariant'
+call why valve.bin 0 11
+says 0
+is_in_passage '1 0 3 0 10 14 20 -'
+ends_with 'edge 0: window shorter than its budget of 3: ready at tick 13 by clock bound 0, end at tick 15 by clock bound 0' \
+    'edge 1: window shorter than its budget of 11: ready at tick 10, end at tick 20 by the invariant' \
+    'edge 2: no window of at least one tick: ready at tick 20 by clock bound 0, over from tick 21 on by the invariant' \
+    'edge 3: taken, ticks 14 to 20' 'edge 4: ready later, at tick 19' \
+    'edge 5: window shorter than its budget of 60000: ready at tick 11 by clock bound 0, end at tick 12 by clock bound 1'
+call why "$corpus/accepted_budget_first_edge_too_short.bin" 0 29
+says 0
+is_in_passage '2 0 1 0 20 26 30 -'
+ends_with 'edge 0: window shorter than its budget of 6: ready at tick 25 by clock bound 0, end at tick 30 by the invariant' \
+    'edge 1: taken, ticks 26 to 30'
+
 # The answers beside the tables of the corpus: the words of the reasons for those of the file.
 shorten() {
     sed -n -e 's/^passage //p' -e 's/^edge \([0-9]*\): taken, .*/|\1 taken/p' -e 's/^edge \([0-9]*\): data bound \([0-9]\) fails: .*/|\1 data \2/p' \
-        -e 's/^edge \([0-9]*\): no window of .*/|\1 window/p' -e 's/^edge \([0-9]*\): ready later, .*/|\1 later/p' \
-        -e 's/^edge \([0-9]*\): ready together .*/|\1 higher/p' | tr -d '\n'
+        -e 's/^edge \([0-9]*\): no window of .*/|\1 window/p' -e 's/^edge \([0-9]*\): window shorter than .*/|\1 window/p' \
+        -e 's/^edge \([0-9]*\): ready later, .*/|\1 later/p' -e 's/^edge \([0-9]*\): ready together .*/|\1 higher/p' | tr -d '\n'
 }
-for name in probe_and_hub accepted_five_reasons accepted_counter_chooses_edge accepted_edges_tie accepted_two_bands; do
+for name in probe_and_hub accepted_five_reasons accepted_counter_chooses_edge accepted_edges_tie accepted_two_bands \
+    accepted_budget_first_edge_too_short accepted_budget_ready_at_once_too_short accepted_budgets_of_probe_and_hub; do
     while read -r component tick answer; do
         call why "$corpus/$name.bin" "$component" "$tick"
         if [[ $answer == refused* ]]; then
@@ -111,6 +169,16 @@ says 0
     printf '{"edge":0,"reason":"data bound","bound":1,"ready":null,"end":null},{"edge":1,"reason":"no window","bound":null,"ready":null,"end":null},'
     printf '{"edge":2,"reason":"taken","bound":null,"ready":24,"end":40},{"edge":3,"reason":"ready later","bound":null,"ready":25,"end":null},'
     printf '{"edge":4,"reason":"higher number","bound":null,"ready":24,"end":null}],"refused":null}\n'
+} >expected
+gives expected
+call why valve.txt 0 11 --json
+says 0
+{
+    printf '{"component":0,"tick":11,"passage":1,"entry":10,"ready":14,"end":20,"edges":['
+    printf '{"edge":0,"reason":"no window","bound":null,"ready":13,"end":15,"line":8},{"edge":1,"reason":"no window","bound":null,"ready":10,"end":20,"line":12},'
+    printf '{"edge":2,"reason":"no window","bound":null,"ready":null,"end":null,"line":15},{"edge":3,"reason":"taken","bound":null,"ready":14,"end":20,"line":19},'
+    printf '{"edge":4,"reason":"ready later","bound":null,"ready":19,"end":null,"line":23},{"edge":5,"reason":"no window","bound":null,"ready":11,"end":12,"line":27}'
+    printf '],"refused":null}\n'
 } >expected
 gives expected
 call why --json cellar.bin 0 20

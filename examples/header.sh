@@ -70,7 +70,7 @@ macro() {
 constant() {
     sed -n -E "s/^pub const $1: [a-z0-9]+ = ([0-9_]+);/\1/p" rust/timed_network/src/*.rs | tr -d _
 }
-for name in FIELDS MAX_PASSAGES CHART_ROW REASON MAX_PLAN MAX_PROGRAM OBSERVATION MAX_CHOICES MAX_SPREAD TICK; do
+for name in FIELDS MAX_PASSAGES CHART_ROW REASON MAX_PLAN MAX_PROGRAM OBSERVATION MAX_CHOICES MAX_SPREAD MAX_BUDGET TICK; do
     fact "$name is another one in the wrapper in Rust" test "$(macro $name)" = "$(constant $name)"
 done
 

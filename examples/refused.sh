@@ -3,7 +3,7 @@
 # shellcheck shell=bash
 # shellcheck disable=SC2034,SC2154 # examples/test sets out, outputs and failed
 
-kinds=('' length 'first 7 bytes' location 'first 7 bytes' 'clock bound' 'data bound' update channel pair end "table's end")
+kinds=('' length 'first 7 bytes' location 'first 7 bytes' 'clock bound' 'data bound' update channel pair end "table's end" budget)
 
 # What is wrong at a place, in the words of the example: the twelve numbers of the vectors.
 fault_words() {
@@ -37,7 +37,7 @@ opening_words() {
     echo "refused $1 $2"
     sed -n "$(($1 + 1))p" "$out/questions"
     echo "component $2 enters location $5 at tick $4, passage $3"
-    [ "$1" != 8 ] || echo "edges that leave it: $8; a data bound fails: $9; no window: ${10}"
+    [ "$1" != 8 ] || echo "edges that leave it: $8; a data bound fails: $9; the window is too short: ${10}"
     [ "$1" != 9 ] || echo "edge ${11} is taken, and its update ${12} leaves the range"
 }
 

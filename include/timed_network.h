@@ -30,8 +30,8 @@
  * The version of this header and its archive, as words and as a number that
  * grows: 10,000 x major + 100 x minor + patch.
  */
-#define TIMED_NETWORK_VERSION "0.7.0"
-#define TIMED_NETWORK_VERSION_NUMBER 700
+#define TIMED_NETWORK_VERSION "0.8.0"
+#define TIMED_NETWORK_VERSION_NUMBER 800
 
 /*
  * Limits and sizes. "Enough" is what a buffer needs for any table.
@@ -53,6 +53,7 @@
 #define TIMED_NETWORK_OBSERVATIONS_ENOUGH (32 * 1024)   /* bytes of a run's */
 #define TIMED_NETWORK_MAX_CHOICES 1000000               /* choices of a run */
 #define TIMED_NETWORK_MAX_SPREAD 1000                   /* ticks of a spread */
+#define TIMED_NETWORK_MAX_BUDGET 60000                  /* ticks of an edge's budget */
 #define TIMED_NETWORK_TICK 255                          /* the choice that is a tick */
 #define TIMED_NETWORK_NONE 255                          /* no component, message, node */
 
@@ -111,7 +112,8 @@ enum timed_network_table_part {
     TIMED_NETWORK_PART_CHANNEL = 8,          /* of a send, 1 byte */
     TIMED_NETWORK_PART_PAIR = 9,             /* of a receive, 2 bytes */
     TIMED_NETWORK_PART_COMPONENT_END = 10,   /* what is left over behind its last edge */
-    TIMED_NETWORK_PART_TABLE_END = 11        /* and behind the last component */
+    TIMED_NETWORK_PART_TABLE_END = 11,       /* and behind the last component */
+    TIMED_NETWORK_PART_BUDGET = 12           /* of an edge in version 3, 2 bytes */
 };
 
 #ifdef __cplusplus
@@ -124,16 +126,18 @@ extern "C" {
  * number: 0 if the table is accepted. Otherwise it is refused, and this is the
  * number of the first check that is not passed, numbered as in document 01:
  *
- *   1  the first byte, the version, is neither 1 nor 2 (also: there is no byte
- *      at all)
+ *   1  the first byte, the version, is neither 1, 2 nor 3 (also: there is no
+ *      byte at all)
  *   2  the stated length is not the length handed in, or is not from 7 to 8,192
- *   3  components, channels or horizon are out of range, or in version 2 a band
- *      is above 3, or the table is too short for its bands
+ *   3  components, channels or horizon are out of range, or in versions 2 and 3
+ *      a band is above 3, or the table is too short for its bands
  *   4  a part does not fit its component, or bytes are left over
- *   5  a number is out of its range, or a reset mask has a bit without a clock
+ *   5  a number is out of its range, or a reset mask has a bit without a clock,
+ *      or a budget is above 60,000
  *   6  a receive edge lists a channel twice
  *   7  a passage opens while 1,024 passages are open or closed
- *   8  a passage opens and no edge is a candidate
+ *   8  a passage opens and no edge is a candidate (also: every window is shorter
+ *      than its budget)
  *   9  an update of the edge taken leaves -32,768 to 32,767
  *  10  two send windows of different components on one band share a tick (in
  *      version 1 all channels are on one band)
@@ -409,7 +413,8 @@ typedef struct timed_network_reason_numbers {
  *   0  it is the edge taken
  *   1  a data bound fails, with the values at the passage's entry; the third byte
  *      is the number of the first that does, counted from 0 within the edge
- *   2  it has no window of at least one tick's length
+ *   2  it has no window of at least one tick's length, or in version 3 one that is
+ *      shorter than its budget
  *   3  it is ready later than the edge taken
  *   4  it is ready together with the edge taken, but numbered higher
  *
@@ -733,7 +738,8 @@ timed_network_refusal_place(const uint8_t *table, size_t length);
  * blocked,
  * windowless: with 8, how many edges leave the location entered; of how many of
  *             them a data bound fails; and how many others have no window of at
- *             least one tick's length. They leave no candidate:
+ *             least one tick's length, or in version 3 one that is shorter than
+ *             their budget. They leave no candidate:
  *             leaving = blocked + windowless. Else 0.
  * edge,
  * update:     with 9, the edge taken, and the number, counted from 0, of its

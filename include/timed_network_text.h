@@ -15,8 +15,8 @@
 #define TIMED_NETWORK_TEXT_H
 
 /*
- * The question to which a refusal is the answer no: "Is the first byte 1 or
- * 2?" for 1. The component that is concerned is not told; docs/REFUSALS.md has
+ * The question to which a refusal is the answer no: "Is the first byte 1, 2 or
+ * 3?" for 1. The component that is concerned is not told; docs/REFUSALS.md has
  * what to look at.
  *
  * number: the number of an answer, 1 to 21. For 0, which is no refusal, and
@@ -25,14 +25,14 @@
 static inline const char *timed_network_refusal_text(unsigned int number) {
     static const char *const questions[] = {
         "Does a question have this number?",
-        "Is the first byte 1 or 2?",
+        "Is the first byte 1, 2 or 3?",
         "Is the stated length the length handed in, from 7 to 8,192?",
         "Are components, channels, horizon and bands in range?",
         "Does each part fit its component and end exactly there?",
         "Is every number in its range and every mask bit a clock?",
         "Does no receive edge list a channel twice?",
         "Are there at most 1,024 passages up to the horizon?",
-        "Has the location entered an edge with a window of one tick's length?",
+        "Is there an edge with a window of a tick's length, no shorter than its budget?",
         "Does each update of the edge taken stay in range?",
         "Do no two send windows of different components on one band share a tick?",
         "Does a receive window on its channel share a tick with the send window?",

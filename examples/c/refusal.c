@@ -22,8 +22,9 @@ static uint8_t table[TIMED_NETWORK_MAX_TABLE + 1];
 
 /* What the parts are called, by their numbers. */
 static const char *const part_names[] = {
-    "",           "length",     "first 7 bytes", "location", "first 7 bytes", "clock bound",
-    "data bound", "update",     "channel",       "pair",     "end",           "table's end"};
+    "",           "length", "first 7 bytes", "location", "first 7 bytes", "clock bound",
+    "data bound", "update", "channel",       "pair",     "end",           "table's end",
+    "budget"};
 
 static void print_fault(const timed_network_place_numbers *place) {
     unsigned value = (unsigned)place->value, least = (unsigned)place->least;
@@ -57,7 +58,8 @@ static void print_opening(const timed_network_opening_numbers *opening) {
            (unsigned)opening->component, (unsigned)opening->entry.location,
            (unsigned)opening->tick, (unsigned)opening->passage);
     if (opening->number == TIMED_NETWORK_REFUSED_NO_EDGE)
-        printf("edges that leave it: %u; a data bound fails: %u; no window: %u\n",
+        printf("edges that leave it: %u; a data bound fails: %u; "
+               "the window is too short: %u\n",
                (unsigned)opening->leaving, (unsigned)opening->blocked,
                (unsigned)opening->windowless);
     if (opening->number == TIMED_NETWORK_REFUSED_UPDATE)

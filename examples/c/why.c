@@ -38,7 +38,7 @@ static void print_edge(const uint8_t *edge) {
         printf("data bound %u fails\n", (unsigned)edge[2]);
         break;
     case TIMED_NETWORK_NO_WINDOW:
-        printf("no window of at least one tick\n");
+        printf("no window of at least one tick, or of its budget\n");
         break;
     case TIMED_NETWORK_READY_LATER:
         printf("ready later\n");

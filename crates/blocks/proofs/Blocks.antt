@@ -14,9 +14,9 @@ use Rattle.model.specs.declared.Edge.{Edge}
 use Rattle.model.specs.declared.Location.{Location}
 use Rattle.model.specs.Lists.{each, from, below}
 use Rattle.model.specs.Table.{Arc}
-use Rattle.model.specs.Reader.{byte, clockGuardAt, dataGuardAt, updateAt, pairAt}
-use Rattle.model.specs.Places.{listAt, itemsPlace, arcLength, arcAt}
-use Rattle.model.specs.Program.{Statement, done, age, reset, enter, keep, takeEdge, choose, clockTests, dataTests, trialOf, trials, updateOf, workOf, ageing, edgeBlockOf, quad, pairQuad, code, blockBytes}
+use Rattle.model.specs.Reader.{byte, word, clockGuardAt, dataGuardAt, updateAt, pairAt}
+use Rattle.model.specs.Places.{listAt, arcHeadLength, itemsPlace, arcLength, budgetAt, arcAt}
+use Rattle.model.specs.Program.{Statement, done, age, reset, enter, keep, takeEdge, choose, clockTests, dataTests, budgetTest, trialOf, trials, updateOf, workOf, ageing, edgeBlockOf, quad, pairQuad, code, blockBytes}
 use Rattle.model.proofs.Basics.Walk.{list-length}
 use Rattle.model.proofs.Program.Size.{block-join}
 use Rattle.decoder.proofs.ByAction.{internal-length, internal-updates, receive-length, receive-pairs}
@@ -31,41 +31,55 @@ use Rattle.blocks.proofs.Parts.{clocks-made, datas-made, updates-made, 
 
 -- ## A trial
 
-module _ (l : Location) (e : ℕ) (h : List ℕ) where
-  -- what follows its first statement, its second, its clock bounds
+module _ (l : Location) (e : ℕ) (b : Bool) (h : List ℕ) where
+  -- what follows its first statement, its second, its clock bounds, its data bounds
   abbrev pub fromHigh : List ℕ
-  fromHigh = quad 0x0C (l .clock) (l .bound) ++ (allMade ClockGuards (byte h 4) (drop 7 h) ++ (allMade DataGuards (byte h 5) (drop (7 + byte h 4 * 5) h) ++ quad 0x0F 0 e))
+  fromHigh = quad 0x0C (l .clock) (l .bound) ++ (allMade ClockGuards (byte h 4) (drop (arcHeadLength b) h) ++ (allMade DataGuards (byte h 5) (drop (arcHeadLength b + byte h 4 * 5) h) ++ (blockBytes (budgetTest (budgetAt b h)) ++ quad 0x0F 0 e)))
 
   abbrev pub fromClocks : List ℕ
-  fromClocks = allMade ClockGuards (byte h 4) (drop 7 h) ++ (allMade DataGuards (byte h 5) (drop (7 + byte h 4 * 5) h) ++ quad 0x0F 0 e)
+  fromClocks = allMade ClockGuards (byte h 4) (drop (arcHeadLength b) h) ++ (allMade DataGuards (byte h 5) (drop (arcHeadLength b + byte h 4 * 5) h) ++ (blockBytes (budgetTest (budgetAt b h)) ++ quad 0x0F 0 e))
 
   abbrev pub fromDatas : List ℕ
-  fromDatas = allMade DataGuards (byte h 5) (drop (7 + byte h 4 * 5) h) ++ quad 0x0F 0 e
+  fromDatas = allMade DataGuards (byte h 5) (drop (arcHeadLength b + byte h 4 * 5) h) ++ (blockBytes (budgetTest (budgetAt b h)) ++ quad 0x0F 0 e)
 
-  pub trial-made : quad 0x0A 0 0 ++ fromHigh ≡ blockBytes (trialOf l e (arcAt h))
+  abbrev pub fromBudget : List ℕ
+  fromBudget = blockBytes (budgetTest (budgetAt b h)) ++ quad 0x0F 0 e
+
+  pub trial-made : quad 0x0A 0 0 ++ fromHigh ≡ blockBytes (trialOf l e (arcAt b h))
   unfolding blockBytes each code arcAt
   trial-made =
-      let G = clockTests (listAt clockGuardAt 5 (byte h 4) (drop 7 h)) in
-      let D = dataTests (listAt dataGuardAt 5 (byte h 5) (drop (7 + byte h 4 * 5) h)) in
+      let G = clockTests (listAt clockGuardAt 5 (byte h 4) (drop (arcHeadLength b) h)) in
+      let D = dataTests (listAt dataGuardAt 5 (byte h 5) (drop (arcHeadLength b + byte h 4 * 5) h)) in
+      let B = budgetTest (budgetAt b h) in
       let K = keep e ∷ [] in
-      rw (clocks-made (byte h 4) (drop 7 h), datas-made (byte h 5) (drop (7 + byte h 4 * 5) h), block-join G (D ++ K), block-join D K)
+      rw (clocks-made (byte h 4) (drop (arcHeadLength b) h), datas-made (byte h 5) (drop (arcHeadLength b + byte h 4 * 5) h), block-join G (D ++ (B ++ K)), block-join D (B ++ K), block-join B K)
 
 -- its bounds stand in the edge
-pub bounds-fit : (h : List ℕ) → arcLength h ≤ length h → (7 + byte h 4 * 5 ≤ length h) × (7 + byte h 4 * 5 + byte h 5 * 5 ≤ length h)
-bounds-fit h f = (omega arith, omega arith)
+pub bounds-fit : (b : Bool) (h : List ℕ) → arcLength b h ≤ length h → (arcHeadLength b + byte h 4 * 5 ≤ length h) × (arcHeadLength b + byte h 4 * 5 + byte h 5 * 5 ≤ length h)
+bounds-fit b h f = (omega arith, omega arith)
+
+-- its budget
+module _ (b : Bool) (h : List ℕ) where
+  pub budget-none : b ≡ false → [] ≡ blockBytes (budgetTest (budgetAt b h))
+  unfolding blockBytes each
+  budget-none e = rw e
+
+  pub budget-some : b ≡ true → quad 0x12 0 (word h 7) ≡ blockBytes (budgetTest (budgetAt b h))
+  unfolding blockBytes each code
+  budget-some e = rw e
 
 -- ## The edges from a location
 
 module _ (l : Location) (here e : ℕ) where
   -- by the decoded edge
-  module _ (h : List ℕ) (edge : Edge) (is : edge ≡ arcAt h .edge) where
-    pub skipped : (edge .source ≡ here → ⊥) → [] ≡ blockBytes (trials l here e (arcAt h ∷ []))
+  module _ (b : Bool) (h : List ℕ) (edge : Edge) (is : edge ≡ arcAt b h .edge) where
+    pub skipped : (edge .source ≡ here → ⊥) → [] ≡ blockBytes (trials l here e (arcAt b h ∷ []))
     unfolding trials blockBytes each
-    skipped q = rw (ne-eqb (arcAt h .edge .source) here (λ z. q (ap (λ (x : Edge). x .source) is ∙ z)))
+    skipped q = rw (ne-eqb (arcAt b h .edge .source) here (λ z. q (ap (λ (x : Edge). x .source) is ∙ z)))
 
-    pub tried : edge .source ≡ here → blockBytes (trialOf l e (arcAt h)) ≡ blockBytes (trials l here e (arcAt h ∷ []))
+    pub tried : edge .source ≡ here → blockBytes (trialOf l e (arcAt b h)) ≡ blockBytes (trials l here e (arcAt b h ∷ []))
     unfolding trials
-    tried q = rw (eq-eqb (arcAt h .edge .source) here (sym (ap (λ (x : Edge). x .source) is) ∙ q), append-nil (trialOf l e (arcAt h)))
+    tried q = rw (eq-eqb (arcAt b h .edge .source) here (sym (ap (λ (x : Edge). x .source) is) ∙ q), append-nil (trialOf l e (arcAt b h)))
 
   trials-cons : (a : Arc) (as′ : List Arc) → trials l here e (a ∷ as′) ≡ trials l here e (a ∷ []) ++ trials l here (suc e) as′
   unfolding trials
@@ -76,92 +90,92 @@ module _ (l : Location) (here e : ℕ) where
       go false = refl
 
 -- the block's bytes from edge e on, of which k are left
-abbrev pub blockFrom : Location → ℕ → ℕ → ℕ → List ℕ → List ℕ
-blockFrom l here e k h = blockBytes (trials l here e (arcsAt k h) ++ (takeEdge ∷ []))
+abbrev pub blockFrom : Bool → Location → ℕ → ℕ → ℕ → List ℕ → List ℕ
+blockFrom b l here e k h = blockBytes (trials l here e (arcsAt b k h) ++ (takeEdge ∷ []))
 
-module _ (l : Location) (here e k : ℕ) (h : List ℕ) (more : 0 < k) where
-  block-ahead : blockFrom l here e k h ≡ blockBytes (trials l here e (arcAt h ∷ [])) ++ blockFrom l here (e + 1) (k - 1) (drop (arcLength h) h)
+module _ (b : Bool) (l : Location) (here e k : ℕ) (h : List ℕ) (more : 0 < k) where
+  block-ahead : blockFrom b l here e k h ≡ blockBytes (trials l here e (arcAt b h ∷ [])) ++ blockFrom b l here (e + 1) (k - 1) (drop (arcLength b h) h)
   unfolding arcsAt
   block-ahead =
       let q : k ≡ suc (k - 1) = omega arith in
-      let R = arcsAt (k - 1) (drop (arcLength h) h) in
-      ap (λ (i : ℕ). blockFrom l here e i h) q
-      ∙ ap (λ (b : List Statement). blockBytes (b ++ (takeEdge ∷ []))) (trials-cons l here e (arcAt h) R)
-      ∙ ap blockBytes (append-assoc (trials l here e (arcAt h ∷ [])) (trials l here (suc e) R) (takeEdge ∷ []))
-      ∙ block-join (trials l here e (arcAt h ∷ [])) (trials l here (suc e) R ++ (takeEdge ∷ []))
-      ∙ ap (λ (i : ℕ). blockBytes (trials l here e (arcAt h ∷ [])) ++ blockFrom l here i (k - 1) (drop (arcLength h) h)) (sym (add-one e))
+      let R = arcsAt b (k - 1) (drop (arcLength b h) h) in
+      ap (λ (i : ℕ). blockFrom b l here e i h) q
+      ∙ ap (λ (x : List Statement). blockBytes (x ++ (takeEdge ∷ []))) (trials-cons l here e (arcAt b h) R)
+      ∙ ap blockBytes (append-assoc (trials l here e (arcAt b h ∷ [])) (trials l here (suc e) R) (takeEdge ∷ []))
+      ∙ block-join (trials l here e (arcAt b h ∷ [])) (trials l here (suc e) R ++ (takeEdge ∷ []))
+      ∙ ap (λ (i : ℕ). blockBytes (trials l here e (arcAt b h ∷ [])) ++ blockFrom b l here i (k - 1) (drop (arcLength b h) h)) (sym (add-one e))
 
 -- ### The loop over the edges, from place to place in the bytes h
 
-module _ (l : Location) (here e n : ℕ) (h : List ℕ) (place : ℕ) {o₀ all o : List ℕ} {at₀ at : ℕ}
-    (more : e < n) (w : Writing o₀ at₀ all o at (blockFrom l here e (n - e) (drop place h))) where
+module _ (b : Bool) (l : Location) (here e n : ℕ) (h : List ℕ) (place : ℕ) {o₀ all o : List ℕ} {at₀ at : ℕ}
+    (more : e < n) (w : Writing o₀ at₀ all o at (blockFrom b l here e (n - e) (drop place h))) where
   pub some-left : 0 < n - e
   some-left = omega arith
 
   -- the trial ahead, and the rest
-  ahead : Writing o₀ at₀ all o at (blockBytes (trials l here e (arcAt (drop place h) ∷ [])) ++ blockFrom l here (e + 1) (n - e - 1) (drop (arcLength (drop place h)) (drop place h)))
-  ahead = left-is (block-ahead l here e (n - e) (drop place h) some-left) w
+  ahead : Writing o₀ at₀ all o at (blockBytes (trials l here e (arcAt b (drop place h) ∷ [])) ++ blockFrom b l here (e + 1) (n - e - 1) (drop (arcLength b (drop place h)) (drop place h)))
+  ahead = left-is (block-ahead b l here e (n - e) (drop place h) some-left) w
 
   -- the trial has room
-  pub trial-room : Room o₀ at₀ all → Room o at (blockBytes (trials l here e (arcAt (take (length h - place) (drop place h)) ∷ [])))
+  pub trial-room : Room o₀ at₀ all → Room o at (blockBytes (trials l here e (arcAt b (take (length h - place) (drop place h)) ∷ [])))
   trial-room r =
-      let x = blockBytes (trials l here e (arcAt (drop place h) ∷ [])) in
-      let y = blockFrom l here (e + 1) (n - e - 1) (drop (arcLength (drop place h)) (drop place h)) in
+      let x = blockBytes (trials l here e (arcAt b (drop place h) ∷ [])) in
+      let y = blockFrom b l here (e + 1) (n - e - 1) (drop (arcLength b (drop place h)) (drop place h)) in
       rw (tail h place) (room-first o at x y (room-left ahead r))
 
   -- a turn
-  module _ (long : ℕ) (q : long ≡ arcLength (take (length h - place) (drop place h))) where
+  module _ (long : ℕ) (q : long ≡ arcLength b (take (length h - place) (drop place h))) where
     fewer : n - e - 1 ≡ n - (e + 1)
     fewer = omega arith
 
-    pub trial-put : {p : List ℕ} {m : ℕ} → Put o at (blockBytes (trials l here e (arcAt (take (length h - place) (drop place h)) ∷ []))) m p
-        → Writing o₀ at₀ all p m (blockFrom l here (e + 1) (n - (e + 1)) (drop (place + long) h))
+    pub trial-put : {p : List ℕ} {m : ℕ} → Put o at (blockBytes (trials l here e (arcAt b (take (length h - place) (drop place h)) ∷ []))) m p
+        → Writing o₀ at₀ all p m (blockFrom b l here (e + 1) (n - (e + 1)) (drop (place + long) h))
     trial-put {p} {m} k =
-        let y = blockFrom l here (e + 1) (n - e - 1) (drop (arcLength (drop place h)) (drop place h)) in
-        let t : Put o at (blockBytes (trials l here e (arcAt (drop place h) ∷ []))) m p =
-        subst (λ (s : List ℕ). Put o at (blockBytes (trials l here e (arcAt s ∷ []))) m p) (tail h place) k in
-        rw (← fewer, ← edge-passed h place long q) (put-on y ahead t)
+        let y = blockFrom b l here (e + 1) (n - e - 1) (drop (arcLength b (drop place h)) (drop place h)) in
+        let t : Put o at (blockBytes (trials l here e (arcAt b (drop place h) ∷ []))) m p =
+        subst (λ (s : List ℕ). Put o at (blockBytes (trials l here e (arcAt b s ∷ []))) m p) (tail h place) k in
+        rw (← fewer, ← edge-passed b h place long q) (put-on y ahead t)
 
 -- the last statement is left
-pub take-left : (l : Location) (here e n : ℕ) (h : List ℕ) {o₀ all o : List ℕ} {at₀ at : ℕ} → n ≤ e → Writing o₀ at₀ all o at (blockFrom l here e (n - e) h)
+pub take-left : (b : Bool) (l : Location) (here e n : ℕ) (h : List ℕ) {o₀ all o : List ℕ} {at₀ at : ℕ} → n ≤ e → Writing o₀ at₀ all o at (blockFrom b l here e (n - e) h)
     → Writing o₀ at₀ all o at (quad 0x10 0 0 ++ [])
 unfolding arcsAt trials blockBytes each code
-take-left l here e n h {o₀} {all} {o} {at₀} {at} q w =
+take-left b l here e n h {o₀} {all} {o} {at₀} {at} q w =
     let z : n - e ≡ 0 = omega arith in
-    subst (λ (i : ℕ). Writing o₀ at₀ all o at (blockFrom l here e i h)) z w
+    subst (λ (i : ℕ). Writing o₀ at₀ all o at (blockFrom b l here e i h)) z w
 
 -- ## Work
 
-module _ (h : List ℕ) where
+module _ (b : Bool) (h : List ℕ) where
   -- the work's bytes
   abbrev pub workBytes : List ℕ
-  workBytes = blockBytes (workOf (arcAt h) (arcAt h .edge .action))
+  workBytes = blockBytes (workOf (arcAt b h) (arcAt b h .edge .action))
 
-  module _ (e : Internal ≡ arcAt h .edge .action) where
-    pub internal-work : allMade Updates (byte h 6) (drop (itemsPlace h) h) ++ quad 0x03 0 0 ≡ workBytes
+  module _ (e : Internal ≡ arcAt b h .edge .action) where
+    pub internal-work : allMade Updates (byte h 6) (drop (itemsPlace b h) h) ++ quad 0x03 0 0 ≡ workBytes
     unfolding blockBytes each code
     internal-work =
-        rw (← e, internal-updates h e, updates-made (byte h 6) (drop (itemsPlace h) h))
-        (sym (block-join (map updateOf (listAt updateAt 4 (byte h 6) (drop (itemsPlace h) h))) (done ∷ [])))
+        rw (← e, internal-updates b h e, updates-made (byte h 6) (drop (itemsPlace b h) h))
+        (sym (block-join (map updateOf (listAt updateAt 4 (byte h 6) (drop (itemsPlace b h) h))) (done ∷ [])))
 
     -- the items stand in the edge
-    pub updates-stand : arcLength h ≤ length h → itemsPlace h + byte h 6 * 4 ≤ length h
-    updates-stand f = omega (arith, f, internal-length h e)
+    pub updates-stand : arcLength b h ≤ length h → itemsPlace b h + byte h 6 * 4 ≤ length h
+    updates-stand f = omega (arith, f, internal-length b h e)
 
-  pub send-work : (channel : ℕ) → Send channel ≡ arcAt h .edge .action → quad 0x04 channel 0 ≡ workBytes
+  pub send-work : (channel : ℕ) → Send channel ≡ arcAt b h .edge .action → quad 0x04 channel 0 ≡ workBytes
   unfolding blockBytes each code
   send-work channel e = rw (← e)
 
-  module _ (e : Receive ≡ arcAt h .edge .action) where
-    pub receive-work : quad 0x05 (byte h 6) 0 ++ allMade Pairs (byte h 6) (drop (itemsPlace h) h) ≡ workBytes
+  module _ (e : Receive ≡ arcAt b h .edge .action) where
+    pub receive-work : quad 0x05 (byte h 6) 0 ++ allMade Pairs (byte h 6) (drop (itemsPlace b h) h) ≡ workBytes
     unfolding blockBytes each code
     receive-work =
-        let ps = listAt pairAt 2 (byte h 6) (drop (itemsPlace h) h) in
-        rw (← e, receive-pairs h e, pairs-made (byte h 6) (drop (itemsPlace h) h), list-length pairAt 2 (byte h 6) (drop (itemsPlace h) h))
+        let ps = listAt pairAt 2 (byte h 6) (drop (itemsPlace b h) h) in
+        rw (← e, receive-pairs b h e, pairs-made (byte h 6) (drop (itemsPlace b h) h), list-length pairAt 2 (byte h 6) (drop (itemsPlace b h) h))
         (sym (append-nil (quad 0x05 (byte h 6) 0 ++ each pairQuad ps)))
 
-    pub pairs-stand : arcLength h ≤ length h → itemsPlace h + byte h 6 * 2 ≤ length h
-    pairs-stand f = omega (arith, f, receive-length h e)
+    pub pairs-stand : arcLength b h ≤ length h → itemsPlace b h + byte h 6 * 2 ≤ length h
+    pairs-stand f = omega (arith, f, receive-length b h e)
 
 -- ## Clocks
 
@@ -212,7 +226,7 @@ clocks-done mask i n {o₀} {all} {o} {at₀} {at} q w =
 -- ## An edge's block
 
 -- by the decoded edge
-module _ (clocks : ℕ) (h : List ℕ) (edge : Edge) where
+module _ (clocks : ℕ) (b : Bool) (h : List ℕ) (edge : Edge) where
   -- what follows its first statement, its work, its clocks
   abbrev pub fromEnter : List ℕ
   fromEnter = quad 0x09 0 (edge .destination) ++ quad 0x11 0 0
@@ -221,12 +235,12 @@ module _ (clocks : ℕ) (h : List ℕ) (edge : Edge) where
   fromAges = blockBytes (map (ageing (edge .mask)) (below clocks)) ++ (quad 0x09 0 (edge .destination) ++ quad 0x11 0 0)
 
   abbrev pub fromWork : List ℕ
-  fromWork = workBytes h ++ (blockBytes (map (ageing (edge .mask)) (below clocks)) ++ (quad 0x09 0 (edge .destination) ++ quad 0x11 0 0))
+  fromWork = workBytes b h ++ (blockBytes (map (ageing (edge .mask)) (below clocks)) ++ (quad 0x09 0 (edge .destination) ++ quad 0x11 0 0))
 
-  pub edge-made : edge ≡ arcAt h .edge → quad 0x00 0 0 ++ fromWork ≡ blockBytes (edgeBlockOf clocks (arcAt h))
+  pub edge-made : edge ≡ arcAt b h .edge → quad 0x00 0 0 ++ fromWork ≡ blockBytes (edgeBlockOf clocks (arcAt b h))
   unfolding blockBytes each code
   edge-made e =
-      let W = workOf (arcAt h) (arcAt h .edge .action) in
-      let M = map (ageing (arcAt h .edge .mask)) (below clocks) in
-      let E = enter (arcAt h .edge .destination) ∷ choose ∷ [] in
+      let W = workOf (arcAt b h) (arcAt b h .edge .action) in
+      let M = map (ageing (arcAt b h .edge .mask)) (below clocks) in
+      let E = enter (arcAt b h .edge .destination) ∷ choose ∷ [] in
       rw (e, block-join W (M ++ E), block-join M E)

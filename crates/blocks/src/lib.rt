@@ -7,8 +7,8 @@ ghost use lib.Dec.{eqb};
 ghost use lib.ListN.{length};
 ghost use Rattle.model.specs.Lists.{below};
 ghost use Rattle.model.specs.Reader.{clockGuardAt, dataGuardAt, updateAt, pairAt};
-ghost use Rattle.model.specs.Places.{arcLength, arcAt};
-ghost use Rattle.model.specs.Program.{age, reset, takeEdge, clockTests, dataTests, trialOf, trials, updateOf, workOf, ageing, edgeBlockOf, quad, pairQuad, blockBytes};
+ghost use Rattle.model.specs.Places.{arcHeadLength, arcLength, budgetAt, arcAt};
+ghost use Rattle.model.specs.Program.{age, reset, takeEdge, clockTests, dataTests, budgetTest, trialOf, trials, updateOf, workOf, ageing, edgeBlockOf, quad, pairQuad, blockBytes};
 ghost use Rattle.blocks.specs.Put.{Room, Put};
 ghost use Rattle.blocks.specs.Made.{widthOf, madeOf, allMade};
 ghost use Rattle.blocks.specs.FrontEdges.{arcsAt, ArcsFit};
@@ -138,22 +138,46 @@ fn put_parts(kind: Kind, bytes: &[u8], count: u8, out: &mut [u8], at: usize) -> 
     next
 }
 
-// The trial of edge e, which stands at the front, in the block of a location with this invariant.
-fn put_trial(bytes: &[u8], location: Location, number: u8, out: &mut [u8], at: usize) -> usize
-    requires { ⌜ (arcLength (now bytes) ≤ length (now bytes)) × Room (now out) at (blockBytes (trialOf location number (arcAt (now bytes)))) ⌝ }
-    ensures { λ r. ⌜ Put (now (out .entry)) at (blockBytes (trialOf location number (arcAt (now (bytes .entry))))) r (now (out .exit)) ⌝ }
+// The statement of a budget; nothing where edges have none.
+fn put_budget(bytes: &[u8], budgets: bool, out: &mut [u8], at: usize) -> usize
+    requires { ⌜ (arcHeadLength budgets ≤ length (now bytes)) × Room (now out) at (blockBytes (budgetTest (budgetAt budgets (now bytes)))) ⌝ }
+    ensures { λ r. ⌜ Put (now (out .entry)) at (blockBytes (budgetTest (budgetAt budgets (now (bytes .entry))))) r (now (out .exit)) ⌝ }
 {
+    if !budgets {
+        return at;
+    }
+    put_quad(
+        out,
+        at,
+        op::BUDGET,
+        0,
+        parts::word_at(bytes, layout::EDGE_BUDGET),
+    )
+}
+
+// The trial of edge e, which stands at the front, in the block of a location with this invariant.
+fn put_trial(
+    bytes: &[u8],
+    location: Location,
+    number: u8,
+    out: &mut [u8],
+    at: usize,
+    budgets: bool,
+) -> usize
+    requires { ⌜ (7 ≤ length (now bytes)) × (arcLength budgets (now bytes) ≤ length (now bytes)) × Room (now out) at (blockBytes (trialOf location number (arcAt budgets (now bytes)))) ⌝ }
+    ensures { λ r. ⌜ Put (now (out .entry)) at (blockBytes (trialOf location number (arcAt budgets (now (bytes .entry))))) r (now (out .exit)) ⌝ }
+{
+    let head = decoder::head_length(budgets);
     let first = put_quad(out, at, op::TRIAL, 0, 0);
     let second = put_quad(out, first, op::HIGH, location.clock, location.bound);
     let third = put_parts(
         Kind::ClockGuards,
-        &bytes[layout::EDGE_HEADER..],
+        &bytes[head..],
         bytes[layout::EDGE_CLOCK_GUARDS],
         out,
         second,
     );
-    let datas = layout::EDGE_HEADER
-        + parts::wide(bytes[layout::EDGE_CLOCK_GUARDS]) * layout::GUARD_WIDTH;
+    let datas = head + parts::wide(bytes[layout::EDGE_CLOCK_GUARDS]) * layout::GUARD_WIDTH;
     let fourth = put_parts(
         Kind::DataGuards,
         &bytes[datas..],
@@ -161,7 +185,8 @@ fn put_trial(bytes: &[u8], location: Location, number: u8, out: &mut [u8], at: u
         out,
         third,
     );
-    put_quad(out, fourth, op::KEEP, 0, parts::wide16(number))
+    let fifth = put_budget(bytes, budgets, out, fourth);
+    put_quad(out, fifth, op::KEEP, 0, parts::wide16(number))
 }
 
 // The same if the edge leaves from location `here`; else nothing.
@@ -172,15 +197,16 @@ fn put_trial_from(
     number: u8,
     out: &mut [u8],
     at: usize,
+    budgets: bool,
 ) -> usize
-    requires { ⌜ (arcLength (now bytes) ≤ length (now bytes)) × Room (now out) at (blockBytes (trials location here number (arcAt (now bytes) ∷ []))) ⌝ }
-    ensures { λ r. ⌜ Put (now (out .entry)) at (blockBytes (trials location here number (arcAt (now (bytes .entry)) ∷ []))) r (now (out .exit)) ⌝ }
+    requires { ⌜ (7 ≤ length (now bytes)) × (arcLength budgets (now bytes) ≤ length (now bytes)) × Room (now out) at (blockBytes (trials location here number (arcAt budgets (now bytes) ∷ []))) ⌝ }
+    ensures { λ r. ⌜ Put (now (out .entry)) at (blockBytes (trials location here number (arcAt budgets (now (bytes .entry)) ∷ []))) r (now (out .exit)) ⌝ }
 {
-    let edge = decoder::edge_at(bytes);
+    let edge = decoder::edge_at(bytes, budgets);
     if edge.source != here {
         return at;
     }
-    put_trial(bytes, location, number, out, at)
+    put_trial(bytes, location, number, out, at, budgets)
 }
 
 // The block of a location: the trials of the edges from it, of n that stand at the front.
@@ -191,28 +217,29 @@ pub fn put_location_block(
     location: Location,
     out: &mut [u8],
     at: usize,
+    budgets: bool,
 ) -> usize
-    requires { ⌜ ArcsFit count (now bytes) × Room (now out) at (blockBytes (trials location here 0 (arcsAt count (now bytes)) ++ (takeEdge ∷ []))) ⌝ }
-    ensures { λ r. ⌜ Put (now (out .entry)) at (blockBytes (trials location here 0 (arcsAt count (now (bytes .entry))) ++ (takeEdge ∷ []))) r (now (out .exit)) ⌝ }
+    requires { ⌜ ArcsFit budgets count (now bytes) × Room (now out) at (blockBytes (trials location here 0 (arcsAt budgets count (now bytes)) ++ (takeEdge ∷ []))) ⌝ }
+    ensures { λ r. ⌜ Put (now (out .entry)) at (blockBytes (trials location here 0 (arcsAt budgets count (now (bytes .entry))) ++ (takeEdge ∷ []))) r (now (out .exit)) ⌝ }
 {
     let mut place: usize = 0;
     let mut next = at;
     let mut e: u8 = 0;
     while e < count {
-        next = put_trial_from(&bytes[place..], here, location, e, out, next);
-        place += decoder::arc_length(&bytes[place..]);
+        next = put_trial_from(&bytes[place..], here, location, e, out, next, budgets);
+        place += decoder::arc_length(&bytes[place..], budgets);
         e += 1;
     }
     put_quad(out, next, op::TAKE, 0, 0)
 }
 
 // The work of the edge at the front.
-fn put_work(bytes: &[u8], out: &mut [u8], at: usize) -> usize
-    requires { ⌜ (arcLength (now bytes) ≤ length (now bytes)) × Room (now out) at (blockBytes (workOf (arcAt (now bytes)) (arcAt (now bytes) .edge .action))) ⌝ }
-    ensures { λ r. ⌜ Put (now (out .entry)) at (blockBytes (workOf (arcAt (now (bytes .entry))) (arcAt (now (bytes .entry)) .edge .action))) r (now (out .exit)) ⌝ }
+fn put_work(bytes: &[u8], out: &mut [u8], at: usize, budgets: bool) -> usize
+    requires { ⌜ (7 ≤ length (now bytes)) × (arcLength budgets (now bytes) ≤ length (now bytes)) × Room (now out) at (blockBytes (workOf (arcAt budgets (now bytes)) (arcAt budgets (now bytes) .edge .action))) ⌝ }
+    ensures { λ r. ⌜ Put (now (out .entry)) at (blockBytes (workOf (arcAt budgets (now (bytes .entry))) (arcAt budgets (now (bytes .entry)) .edge .action))) r (now (out .exit)) ⌝ }
 {
-    let items = decoder::items_place(bytes);
-    let action = decoder::action_at(bytes);
+    let items = decoder::items_place(bytes, budgets);
+    let action = decoder::action_at(bytes, budgets);
     match action {
         Action::Internal => {
             let next = put_parts(
@@ -266,13 +293,13 @@ fn put_clocks(mask: u8, clocks: u8, out: &mut [u8], at: usize) -> usize
 }
 
 // The block of the edge at the front.
-pub fn put_edge_block(bytes: &[u8], clocks: u8, out: &mut [u8], at: usize) -> usize
-    requires { ⌜ (arcLength (now bytes) ≤ length (now bytes)) × Room (now out) at (blockBytes (edgeBlockOf clocks (arcAt (now bytes)))) ⌝ }
-    ensures { λ r. ⌜ Put (now (out .entry)) at (blockBytes (edgeBlockOf clocks (arcAt (now (bytes .entry))))) r (now (out .exit)) ⌝ }
+pub fn put_edge_block(bytes: &[u8], clocks: u8, out: &mut [u8], at: usize, budgets: bool) -> usize
+    requires { ⌜ (7 ≤ length (now bytes)) × (arcLength budgets (now bytes) ≤ length (now bytes)) × Room (now out) at (blockBytes (edgeBlockOf clocks (arcAt budgets (now bytes)))) ⌝ }
+    ensures { λ r. ⌜ Put (now (out .entry)) at (blockBytes (edgeBlockOf clocks (arcAt budgets (now (bytes .entry))))) r (now (out .exit)) ⌝ }
 {
-    let edge = decoder::edge_at(bytes);
+    let edge = decoder::edge_at(bytes, budgets);
     let first = put_quad(out, at, op::SLEEP, 0, 0);
-    let second = put_work(bytes, out, first);
+    let second = put_work(bytes, out, first, budgets);
     let third = put_clocks(edge.mask, clocks, out, second);
     let fourth = put_quad(out, third, op::ENTER, 0, parts::wide16(edge.destination));
     put_quad(out, fourth, op::CHOOSE, 0, 0)

@@ -16,7 +16,7 @@ use Rattle.model.specs.Table.{Arc, Table, bandOf}
 use Rattle.model.specs.Limits.{ActionIn}
 use Rattle.model.specs.Window.{sends, channelOf}
 use Rattle.model.specs.Reader.{byte}
-use Rattle.model.specs.Places.{arcAt, Valid, readOf}
+use Rattle.model.specs.Places.{arcAt, budgeted, Valid, readOf}
 use Rattle.model.specs.Schedule.{Passage, passageArc}
 use Rattle.model.specs.Checks.{sameBand, disturb}
 use Rattle.model.proofs.Reader.RoundTrip.{written-read}
@@ -61,7 +61,7 @@ sent-below s a Receive k i e = let z : _≡_ {A = ℕ} 0 1 = cc in absurd (omega
 pub row-channel : (bs l : List ℕ) (i k : ℕ) → Bytes bs → RowKnown bs l i → messageOf k ≡ channelOf (passageArc (readOf bs .table) (rowPassage l i)) → (k ≡ 255 → ⊥)
     → k < readOf bs .table .channels
 row-channel bs l i k b r e n =
-    let a = arcAt (drop (num l i 7) bs) in
+    let a = arcAt (budgeted bs) (drop (num l i 7) bs) in
     let s : channelOf a ≡ some k = ap channelOf (row-arc bs l i b (r .valid) (r .row)) ∙ sym e ∙ message-some k n in
     sent-below _ a (a .edge .action) k (row-in bs l i b (r .valid) (r .row) .action) s
 

@@ -5,7 +5,7 @@ use mathlib.Core.List.{List, [], _∷_, _++_}
 use mathlib.Core.Option.{Option}
 use Prim.Native.Nat.{ℕ, _+_, _-_, _≤_, _<_}
 use native.Mathlib.Omega.{arith}
-use borrow.Author.Tests.{lt-leb, not-true, not-false, le-ltb, lt-ltb}
+use borrow.Author.Tests.{lt-leb, le-leb, not-true, not-false, le-ltb, lt-ltb}
 use lib.Dec.{leb, eqb}
 use lib.ListN.{length}
 use Rattle.model.specs.declared.Hearing.the-variants.{Well, LateStart, EarlyEnd}
@@ -34,9 +34,12 @@ module _ (G : ℕ) where
   abbrev pub beside : Passage → Passage → Bool
   beside v w = others v w && near G v w
 
-  pub beside-is : (v w : Passage) (vr we wr ve vc wc : ℕ) (x y : Bool) → vr ≡ v .ready → we ≡ w .end + G → wr ≡ w .ready → ve ≡ v .end + G → vc ≡ v .component → wc ≡ w .component
-      → y ≡ leb vr we && leb wr ve → x ≡ not (eqb vc wc) && y → x ≡ beside v w
-  beside-is v w vr we wr ve vc wc x y a b c d e f q p = rw (← a, ← b, ← c, ← d, ← e, ← f, ← q) p
+  pub ended-before : (v w : Passage) → w .end + G < v .ready → false ≡ beside v w
+  ended-before v w h = rw (apart-before v w h, and-false)
+
+  pub beside-is : (v w : Passage) {wr ve vc wc : ℕ} {x : Bool} → v .ready ≤ w .end + G → vc ≡ v .component → wc ≡ w .component → wr ≡ w .ready → ve ≡ v .end + G
+      → x ≡ not (eqb vc wc) && leb wr ve → x ≡ beside v w
+  beside-is v w h a b c d p = rw (le-leb (v .ready) (w .end + G) h, ← a, ← b, ← c, ← d) p
 
   -- how a send is heard by one window: what `heard_by` answers
   module _ (s r : Passage) where

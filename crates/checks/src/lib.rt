@@ -39,8 +39,9 @@ fn row_sends(table: &[u8], rows: &[u32], i: usize) -> bool
     requires { ⌜ RowKnown (now table) (now rows) i ⌝ }
     ensures { λ r. ⌜ r ≡ not (isNone (channelOf (passageArc (readOf (now (table .entry)) .table) (rowPassage (now (rows .entry)) i)))) ⌝ }
 {
+    let budgets = decoder::budgeted(table);
     let at = rows::index(rows, i, rows::PLACE);
-    let action = decoder::action_at(&table[at..]);
+    let action = decoder::action_at(&table[at..], budgets);
     match action {
         Action::Internal => false,
         Action::Send(_) => true,

@@ -38,13 +38,11 @@ pub fn overlap(rows: &[u32], i: usize, j: usize, spread: u32) -> bool
     requires { ⌜ (i * 9 + 9 ≤ length (now rows)) × (j * 9 + 9 ≤ length (now rows)) ⌝ }
     ensures { λ r. ⌜ r ≡ others (rowPassage (now (rows .entry)) i) (rowPassage (now (rows .entry)) j) && near spread (rowPassage (now (rows .entry)) i) (rowPassage (now (rows .entry)) j) ⌝ }
 {
-    let started = tick(rows, i, rows::READY) <= put_off(rows, j, rows::END, spread);
-    let shared = parts::both(
-        started,
-        tick(rows, j, rows::READY) <= put_off(rows, i, rows::END, spread),
-    );
+    if put_off(rows, j, rows::END, spread) < tick(rows, i, rows::READY) {
+        return false;
+    }
     parts::both(
         rows::number(rows, i, rows::COMPONENT) != rows::number(rows, j, rows::COMPONENT),
-        shared,
+        tick(rows, j, rows::READY) <= put_off(rows, i, rows::END, spread),
     )
 }

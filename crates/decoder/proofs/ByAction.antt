@@ -1,5 +1,6 @@
 -- What hangs on an edge's action, for who has decoded the action at the front of bytes h. Assumes nothing.
 use mathlib.Core.Path.{_≡_, refl, ap}
+use mathlib.Core.Bool.{Bool}
 use mathlib.Core.List.{List, []}
 use Prim.Native.Nat.{ℕ, zero, suc, _-_, _*_}
 use native.Mathlib.Omega.{arith}
@@ -28,48 +29,48 @@ receive-kind (suc (suc m)) k e = omega arith
 
 -- ## The items of the edge at the front
 
-module _ (h : List ℕ) where
+module _ (b : Bool) (h : List ℕ) where
   -- an internal edge has updates alone
-  module _ (e : Internal ≡ arcAt h .edge .action) where
+  module _ (e : Internal ≡ arcAt b h .edge .action) where
     pub internal-length : itemsLength (byte h 0) (byte h 6) ≡ byte h 6 * 4
     unfolding arcAt
-    internal-length = rw (internal-kind (byte h 0) (byte h (itemsPlace h)) e)
+    internal-length = rw (internal-kind (byte h 0) (byte h (itemsPlace b h)) e)
 
-    pub internal-updates : arcAt h .updates ≡ listAt updateAt 4 (byte h 6) (drop (itemsPlace h) h)
+    pub internal-updates : arcAt b h .updates ≡ listAt updateAt 4 (byte h 6) (drop (itemsPlace b h) h)
     unfolding arcAt updatesAt
-    internal-updates = rw (internal-kind (byte h 0) (byte h (itemsPlace h)) e)
+    internal-updates = rw (internal-kind (byte h 0) (byte h (itemsPlace b h)) e)
 
-    pub internal-pairs : arcAt h .pairs ≡ []
+    pub internal-pairs : arcAt b h .pairs ≡ []
     unfolding arcAt pairsAt
-    internal-pairs = rw (internal-kind (byte h 0) (byte h (itemsPlace h)) e)
+    internal-pairs = rw (internal-kind (byte h 0) (byte h (itemsPlace b h)) e)
 
   -- a send its channel alone
-  module _ (channel : ℕ) (e : Send channel ≡ arcAt h .edge .action) where
-    pub send-channel : (byte h 0 ≡ 1) × (channel ≡ byte h (itemsPlace h))
+  module _ (channel : ℕ) (e : Send channel ≡ arcAt b h .edge .action) where
+    pub send-channel : (byte h 0 ≡ 1) × (channel ≡ byte h (itemsPlace b h))
     unfolding arcAt
-    send-channel = send-kind (byte h 0) (byte h (itemsPlace h)) channel e
+    send-channel = send-kind (byte h 0) (byte h (itemsPlace b h)) channel e
 
-    pub send-updates : arcAt h .updates ≡ []
+    pub send-updates : arcAt b h .updates ≡ []
     unfolding arcAt updatesAt
     send-updates = rw (send-channel .0)
 
-    pub send-pairs : arcAt h .pairs ≡ []
+    pub send-pairs : arcAt b h .pairs ≡ []
     unfolding arcAt pairsAt
     send-pairs = rw (send-channel .0)
 
   -- a receive pairs alone
-  module _ (e : Receive ≡ arcAt h .edge .action) where
+  module _ (e : Receive ≡ arcAt b h .edge .action) where
     receive-from : byte h 0 ≡ suc (suc (byte h 0 - 2))
     unfolding arcAt
-    receive-from = receive-kind (byte h 0) (byte h (itemsPlace h)) e
+    receive-from = receive-kind (byte h 0) (byte h (itemsPlace b h)) e
 
     pub receive-length : itemsLength (byte h 0) (byte h 6) ≡ byte h 6 * 2
     receive-length = ap (λ (k : ℕ). itemsLength k (byte h 6)) receive-from
 
-    pub receive-updates : arcAt h .updates ≡ []
+    pub receive-updates : arcAt b h .updates ≡ []
     unfolding arcAt updatesAt
-    receive-updates = ap (λ (k : ℕ). updatesAt k (byte h 6) (drop (itemsPlace h) h)) receive-from
+    receive-updates = ap (λ (k : ℕ). updatesAt k (byte h 6) (drop (itemsPlace b h) h)) receive-from
 
-    pub receive-pairs : arcAt h .pairs ≡ listAt pairAt 2 (byte h 6) (drop (itemsPlace h) h)
+    pub receive-pairs : arcAt b h .pairs ≡ listAt pairAt 2 (byte h 6) (drop (itemsPlace b h) h)
     unfolding arcAt pairsAt
-    receive-pairs = ap (λ (k : ℕ). pairsAt k (byte h 6) (drop (itemsPlace h) h)) receive-from
+    receive-pairs = ap (λ (k : ℕ). pairsAt k (byte h 6) (drop (itemsPlace b h) h)) receive-from

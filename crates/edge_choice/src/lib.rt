@@ -77,9 +77,10 @@ fn choose_there(table: &[u8], start: usize, c: u8, at: Entry) -> EdgeChoice
     requires { ⌜ Valid (now table) × (c < size (readOf (now table) .table)) × (start ≡ startOf (now table) c) × (at .location < length (componentIn (now table) c .locations)) ⌝ }
     ensures { λ r. ⌜ callOf r ≡ edgeChoiceCall (now (table .entry)) c (entryOf at) ⌝ }
 {
+    let budgets = decoder::budgeted(table);
     let mut index = [32u16; 640];
-    window::index::put_edges(table, start, parts::wide(c), &mut index);
-    let found = window::choose(table, start, c, at, &index);
+    window::index::put_edges(table, start, parts::wide(c), &mut index, budgets);
+    let found = window::choose(table, start, c, at, &index, budgets);
     let choice = found.choice;
     answered(choice, found.looked as u32)
 }

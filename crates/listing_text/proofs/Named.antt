@@ -13,7 +13,7 @@ pub known-op : (op known a k : ℕ) {before after : List ℕ} {at end : ℕ} →
 known-op op known a k e added = same-words (statementWords op a k) added (ap (λ (n : ℕ). statementWords n a k) (sym e))
 
 -- past the last
-pub no-op : (op a k : ℕ) {before after : List ℕ} {at end : ℕ} → 18 ≤ op → Added before at noStatement after end → Added before at (statementWords op a k) after end
+pub no-op : (op a k : ℕ) {before after : List ℕ} {at end : ℕ} → 19 ≤ op → Added before at noStatement after end → Added before at (statementWords op a k) after end
 unfolding statementWords
 no-op op a k h added = same-words (statementWords op a k) added (sym (List·getD-eq-default (named a k) noStatement h))
 

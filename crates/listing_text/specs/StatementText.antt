@@ -26,14 +26,14 @@ two first a second k = field first a ++ field second k
 abbrev pub bound : String → ℕ → ℕ → List ℕ
 bound words a k = field words a ++ ascii ": " ++ signedText k
 
--- The names by their op, 00 to 11 (hexadecimal), with the fields that document 01 names for each.
+-- The names by their op, 00 to 12 (hexadecimal), with the fields that document 01 names for each.
 abbrev pub named : ℕ → ℕ → List (List ℕ)
 named a k =
     ascii "sleep" ∷ bound "set variable " a k ∷ bound "add variable " a k ∷ ascii "done" ∷ field "send channel " a
     ∷ field "listen pairs " a ∷ two "pair channel " a " location " k ∷ field "age clock " a ∷ field "zero clock " a
     ∷ field "enter location " k ∷ ascii "trial" ∷ two "low clock " a ": " k ∷ two "high clock " a ": " k
     ∷ bound "data low variable " a k ∷ bound "data high variable " a k ∷ field "keep edge " k ∷ ascii "take"
-    ∷ ascii "choose" ∷ []
+    ∷ ascii "choose" ∷ field "budget " k ∷ []
 
 abbrev pub noStatement : List ℕ
 noStatement = ascii "no statement"

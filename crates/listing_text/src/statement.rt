@@ -125,6 +125,8 @@ fn put_words(out: &mut [u8], at: usize, op: u8, a: u32, k: u32) -> usize
         put_trial(out, at, op, a, k)
     } else if op == 17 {
         put(out, at, b"choose")
+    } else if op == 18 {
+        put_field(out, at, b"budget ", k)
     } else {
         put(out, at, b"no statement")
     }

@@ -38,7 +38,7 @@ awake bs n (suc k) d = each-at (λ m. after m n ≡ n) none refl rest k
   where
     rest : All (λ m. after m n ≡ n) (drop 1 (decodings bs))
     rest =
-        more refl (more refl (more refl (more refl (more refl (more refl (more refl (more refl (more refl (more refl (more refl (more refl (more refl (more refl (more refl (more refl (more refl empty))))))))))))))))
+        more refl (more refl (more refl (more refl (more refl (more refl (more refl (more refl (more refl (more refl (more refl (more refl (more refl (more refl (more refl (more refl (more refl (more refl empty)))))))))))))))))
 
 at-op : (p : List ℕ) (r : Node) (at : ℕ) → finish p r (restAt p at) .sleeps ≡ after (getD (decodings (drop at p)) (opIn (drop at p)) none) (r .sleeps)
 at-op p r at =

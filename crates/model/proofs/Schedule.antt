@@ -3,6 +3,8 @@
 -- Of its chart: `Charted.covered` and `once` (each tick below the horizon is in exactly one cell), `Charted.shows-send` to `shows-space` (what each cell shows).
 -- Of the passage at a tick: `Reasoned.named` (it is there and alone), `Reasoned.reason-true` and `reason-only` (each edge has exactly the reason given);
 -- `Answered.reasons-true` (both, of any bytes; the edge taken is told); `Replayed.Ahead` (clocks and variables found again along the passages of a component).
+-- Of budgets: `Budgets.no-budgets` and `same-choice-of` (versions 1 and 2 have none, and choose as they did), `Budgets.spanned` (every passage's window is as
+-- long as its edge's budget).
 pub mod Soonest
 pub mod Messages
 pub mod Own
@@ -15,3 +17,4 @@ pub mod Charted
 pub mod Replayed
 pub mod Reasoned
 pub mod Answered
+pub mod Budgets

@@ -1,6 +1,7 @@
 -- Short ways to write a table down.
 use mathlib.Core.Bool.{Bool}
-use mathlib.Core.List.{List}
+use mathlib.Core.List.{List, map}
+use mathlib.Core.Option.{none, some}
 use Prim.Native.Nat.{ℕ}
 use lib.IntN.{ℤ}
 use lib.ListN.{length, replicate}
@@ -29,6 +30,7 @@ abbrev pub arc : ℕ → ℕ → ℕ → Action → List ClockGuard → List Dat
 arc s d m a cs ds us ps =
     record {
       edge = record { source = s; destination = d; mask = m; action = a };
+      budget = none;
       clockGuards = cs;
       dataGuards = ds;
       updates = us;
@@ -46,3 +48,16 @@ network k h cs = record { version = 1; table = record { channels = k; bands = re
 -- version 2: the channels' bands, horizon; components
 abbrev pub banded : List ℕ → ℕ → List Component → Read
 banded bs h cs = record { version = 2; table = record { channels = length bs; bands = bs; components = cs }; horizon = h }
+
+-- the same edge with a budget, and a component all of whose edges have it
+abbrev pub budgeted : ℕ → Arc → Arc
+budgeted b a =
+    record { edge = a .edge; budget = some b; clockGuards = a .clockGuards; dataGuards = a .dataGuards; updates = a .updates; pairs = a .pairs }
+
+abbrev pub allBudgeted : ℕ → Component → Component
+allBudgeted b C =
+    record { initial = C .initial; clocks = C .clocks; variables = C .variables; locations = C .locations; arcs = map (budgeted b) (C .arcs) }
+
+-- version 3: the channels' bands, horizon; components whose edges all have a budget
+abbrev pub withBudgets : List ℕ → ℕ → List Component → Read
+withBudgets bs h cs = record { version = 3; table = record { channels = length bs; bands = bs; components = cs }; horizon = h }

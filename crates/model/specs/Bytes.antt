@@ -1,6 +1,7 @@
 -- Document 01, "The table": the bytes of a table.
 use mathlib.Core.Bool.{cond}
 use mathlib.Core.List.{List, [], _∷_, _++_}
+use mathlib.Core.Option.{Option, none, some}
 use Prim.Native.Nat.{ℕ, _+_, _-_}
 use lib.Dec.{leb}
 use lib.IntN.{ℤ, pos, negsuc}
@@ -66,9 +67,14 @@ arcHead a =
     ∷ itemCount a (a .edge .action)
     ∷ []
 
+-- "a 2-byte budget (0 to 60,000), a part of its own, after each edge's 7 bytes", in version 3
+abbrev pub budgetBytes : Option ℕ → List ℕ
+budgetBytes none = []
+budgetBytes (some b) = be16 b
+
 unfoldable pub arcBytes : Arc → List ℕ
 unfolding each itemBytes
-arcBytes a = arcHead a ++ each clockGuardBytes (a .clockGuards) ++ each dataGuardBytes (a .dataGuards) ++ itemBytes a (a .edge .action)
+arcBytes a = arcHead a ++ budgetBytes (a .budget) ++ each clockGuardBytes (a .clockGuards) ++ each dataGuardBytes (a .dataGuards) ++ itemBytes a (a .edge .action)
 
 -- "locations; initial location; clocks; variables; edges; then locations, then edges"
 unfoldable pub bodyBytes : Component → List ℕ

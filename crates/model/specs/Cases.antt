@@ -14,7 +14,7 @@ use Rattle.model.specs.declared.Verdict.{Verdict}
 use Rattle.model.specs.declared.Verdict.the-variants.{Accepted, Refused}
 use Rattle.model.specs.Lists.{All, empty, more, Answer, accepted, refused, each}
 use Rattle.model.specs.Table.{Component, Table, Read}
-use Rattle.model.specs.Build.{location, clockGuard, update, pairOf, arc, component, network, banded}
+use Rattle.model.specs.Build.{location, clockGuard, update, pairOf, arc, component, network, banded, allBudgeted, withBudgets}
 use Rattle.model.specs.Bytes.{tableBytes}
 use Rattle.model.specs.Reader.{readTable}
 use Rattle.model.specs.Schedule.{Passage, sevenOf}
@@ -47,6 +47,10 @@ addOne = update 0 true (pos 1) ∷ []
 -- "H = 20, one channel."
 abbrev pub worked : ℕ → Read
 worked horizon = network 1 horizon (probe 3 ∷ hub 2 6 addOne ∷ [])
+
+-- the same in version 3, by the budget of the probe's edges and of the hub's
+abbrev pub workBudgets : ℕ → ℕ → Read
+workBudgets p h = withBudgets (0 ∷ []) 20 (allBudgeted p (probe 3) ∷ allBudgeted h (hub 2 6 addOne) ∷ [])
 
 abbrev pub changed : Component → Component → Read
 changed p h = network 1 20 (p ∷ h ∷ [])
@@ -302,8 +306,14 @@ rows =
     ∷ checks (0x02 ∷ 0x00 ∷ 0x09 ∷ 0x01 ∷ 0x03 ∷ 0x00 ∷ 0x14 ∷ 0x00 ∷ 0x00 ∷ []) (Refused 3 255)
     -- its bands, and no component: 4
     ∷ checks (0x02 ∷ 0x00 ∷ 0x09 ∷ 0x01 ∷ 0x02 ∷ 0x00 ∷ 0x14 ∷ 0x00 ∷ 0x00 ∷ []) (Refused 4 0)
-    -- version 3: 1
-    ∷ checks (0x03 ∷ 0x00 ∷ 0x09 ∷ 0x01 ∷ 0x02 ∷ 0x00 ∷ 0x14 ∷ 0x00 ∷ 0x00 ∷ []) (Refused 1 255)
+    -- version 4: 1; version 3 with its bands, and no component: 4
+    ∷ checks (0x04 ∷ 0x00 ∷ 0x09 ∷ 0x01 ∷ 0x02 ∷ 0x00 ∷ 0x14 ∷ 0x00 ∷ 0x00 ∷ []) (Refused 1 255)
+    ∷ checks (0x03 ∷ 0x00 ∷ 0x09 ∷ 0x01 ∷ 0x02 ∷ 0x00 ∷ 0x14 ∷ 0x00 ∷ 0x00 ∷ []) (Refused 4 0)
+    -- the worked table in version 3: each window is as long as its budget; one tick more on the probe's edges, of which the first takes from 3 to 5: 8;
+    -- a budget above 60,000: 5
+    ∷ checks (tableBytes (workBudgets 2 1)) Accepted
+    ∷ checks (tableBytes (workBudgets 3 1)) (Refused 8 0)
+    ∷ checks (tableBytes (workBudgets 60001 1)) (Refused 5 0)
     -- both messages at tick 4
     ∷ runs (onBands 0 1) bothSend lent (answered UsedUp 4 30 4 bothSent 132)
     ∷ []
@@ -311,4 +321,4 @@ rows =
 pub cases : All Holds rows
 unfolding tableBytes readTable checkCall acceptedScheduleIn acceptedSchedule each blockBytes locationBlock edgeBlock follow runCall run programBytes observationBytes partOf choose1 exec
 cases =
-    more refl (more refl (more refl (more refl (more refl (more refl (more refl (more refl (more refl (more refl (more refl (more refl (more refl (more refl (more refl (more refl (more refl (more refl (more refl (more refl (more refl (more refl (more refl (more refl (more refl (more refl (more refl (more refl (more refl (more refl (more refl (more refl (more refl (more refl (more refl (more refl (more refl (more refl (more refl (more refl (more refl (more refl (more refl (more refl (more refl (more refl (more refl (more refl (more refl (more refl (more refl empty))))))))))))))))))))))))))))))))))))))))))))))))))
+    more refl (more refl (more refl (more refl (more refl (more refl (more refl (more refl (more refl (more refl (more refl (more refl (more refl (more refl (more refl (more refl (more refl (more refl (more refl (more refl (more refl (more refl (more refl (more refl (more refl (more refl (more refl (more refl (more refl (more refl (more refl (more refl (more refl (more refl (more refl (more refl (more refl (more refl (more refl (more refl (more refl (more refl (more refl (more refl (more refl (more refl (more refl (more refl (more refl (more refl (more refl (more refl (more refl (more refl (more refl empty))))))))))))))))))))))))))))))))))))))))))))))))))))))

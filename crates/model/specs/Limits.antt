@@ -1,7 +1,10 @@
 -- Document 01, "The table": the ranges of its numbers. What "a network in the paper's limits" is, without the reader.
 use mathlib.Core.Path.{_≡_}
 use mathlib.Core.Logic.{_⊎_}
+use mathlib.Core.Bool.{Bool, true, false}
 use mathlib.Core.List.{List, [], _∷_}
+use mathlib.Core.Option.{Option}
+use mathlib.Core.Option.{none as no-budget, some as a-budget}
 use Prim.Native.Nat.{ℕ, _^_, _≤_, _<_}
 use lib.IntN.{ℤ, pos, negsuc}
 use lib.ListN.{length, replicate}
@@ -14,7 +17,7 @@ use Rattle.model.specs.declared.Update.{Update}
 use Rattle.model.specs.declared.Pair.{Pair}
 use Rattle.model.specs.declared.Sizes.{Sizes}
 use Rattle.model.specs.Lists.{All}
-use Rattle.model.specs.Table.{Arc, Component, Read, sizesOf}
+use Rattle.model.specs.Table.{Arc, Component, Read, TableHeader, headerOf, sizesOf}
 use Rattle.model.specs.Bytes.{tableBytes}
 
 -- "−32,768 to 32,767"
@@ -82,8 +85,16 @@ ActionIn s a Internal = InternalIn s a
 ActionIn s a (Send k) = SendIn s k a
 ActionIn s a Receive = ReceiveIn s a
 
+-- "a 2-byte budget (0 to 60,000)" where edges have one
+abbrev pub BudgetIn : Bool → Option ℕ → Type 0
+BudgetIn true no-budget = ⊥
+BudgetIn true (a-budget b) = b ≤ 60000
+BudgetIn false no-budget = Unit {0}
+BudgetIn false (a-budget b) = ⊥
+
 -- "kind, source, destination, reset mask (bit i for clock i), counts of clock bounds (0 to 4), data bounds and items"
 pub record ArcIn (s : Sizes) (a : Arc) : Type 0 where
+  pub budget : BudgetIn (s .budgets) (a .budget)
   pub source : a .edge .source < s .locations
   pub destination : a .edge .destination < s .locations
   pub mask : a .edge .mask < 2 ^ s .clocks
@@ -93,7 +104,7 @@ pub record ArcIn (s : Sizes) (a : Arc) : Type 0 where
   pub action : ActionIn s a (a .edge .action)
 
 -- "locations 1 to 16; initial location; clocks 1 to 4; variables 0 to 4; edges 1 to 32"
-pub record ComponentIn (channels : ℕ) (C : Component) : Type 0 where
+pub record ComponentIn (header : TableHeader) (C : Component) : Type 0 where
   pub leastLocations : 1 ≤ length (C .locations)
   pub mostLocations : length (C .locations) ≤ 16
   pub initial : C .initial < length (C .locations)
@@ -102,8 +113,8 @@ pub record ComponentIn (channels : ℕ) (C : Component) : Type 0 where
   pub variables : C .variables ≤ 4
   pub leastArcs : 1 ≤ length (C .arcs)
   pub mostArcs : length (C .arcs) ≤ 32
-  pub locations : All (LocationIn (sizesOf channels C)) (C .locations)
-  pub arcs : All (ArcIn (sizesOf channels C)) (C .arcs)
+  pub locations : All (LocationIn (sizesOf header C)) (C .locations)
+  pub arcs : All (ArcIn (sizesOf header C)) (C .arcs)
 
 -- "one byte per channel with its band, 0 to 3"; "Version 1 tables have all channels on band 0"
 pub record BandsIn (version channels : ℕ) (bands : List ℕ) : Type 0 where
@@ -114,7 +125,7 @@ pub record BandsIn (version channels : ℕ) (bands : List ℕ) : Type 0 where
 -- "components (nodes) 1 to 8; channels 0 to 16; horizon H, 1 to 60,000", and at most 8,192 bytes
 pub record InLimits (t : Read) : Type 0 where
   pub leastVersion : 1 ≤ t .version
-  pub mostVersion : t .version ≤ 2
+  pub mostVersion : t .version ≤ 3
   pub bands : BandsIn (t .version) (t .table .channels) (t .table .bands)
   pub leastComponents : 1 ≤ length (t .table .components)
   pub mostComponents : length (t .table .components) ≤ 8
@@ -122,4 +133,4 @@ pub record InLimits (t : Read) : Type 0 where
   pub leastHorizon : 1 ≤ t .horizon
   pub mostHorizon : t .horizon ≤ 60000
   pub bytes : length (tableBytes t) ≤ 8192
-  pub components : All (ComponentIn (t .table .channels)) (t .table .components)
+  pub components : All (ComponentIn (headerOf t)) (t .table .components)

@@ -12,7 +12,7 @@ use Rattle.model.specs.Lists.{orElse}
 use Rattle.model.specs.Reader.{byte, word, complement}
 use Rattle.model.specs.Places.{listAt}
 use Rattle.model.specs.Window.{Pick, better, clockAt, valueAt}
-use Rattle.model.specs.Program.{Statement, sleep, setTo, addTo, done, send, listen, age, reset, enter, trial, low, high, dataLow, dataHigh, keep, takeEdge, choose, partOf, within}
+use Rattle.model.specs.Program.{Statement, sleep, setTo, addTo, done, send, listen, age, reset, enter, trial, low, high, dataLow, dataHigh, keep, budget, takeEdge, choose, partOf, within}
 
 -- ## Statements from bytes
 
@@ -41,6 +41,7 @@ decodings bs =
     ∷ some (keep (numberIn bs))
     ∷ some takeEdge
     ∷ some choose
+    ∷ some (budget k)
     ∷ []
 
 -- The statement at the front; none where fewer than four bytes are left or the op is unknown, and then the block breaks off there and the
@@ -194,6 +195,11 @@ lowered x k clock = record { ready = x .ready; end = some (lowest (x .end) (k - 
 abbrev pub met : Trial → Bool → Trial
 met x b = record { ready = x .ready; end = x .end; good = x .good && b }
 
+-- statement 12 "fails the trial of a shorter window"; an end that is not lowered yet is no shorter one
+abbrev pub spans : Trial → ℕ → Option ℕ → Bool
+spans x k none = true
+spans x k (some end) = leb (x .ready + k) end
+
 -- "Keep applies the candidate rule."
 abbrev pub keeps : Trial → ℕ → Option ℕ → Option Pick → Option Pick
 keeps x e none k = k
@@ -219,6 +225,7 @@ exec p r (low i k) = withTrial r (raised (r .tried) k (clockAt (r .clocks) i))
 exec p r (high i k) = withTrial r (lowered (r .tried) k (clockAt (r .clocks) i))
 exec p r (dataLow v k) = withTrial r (met (r .tried) (leZ k (valueAt (r .values) v)))
 exec p r (dataHigh v k) = withTrial r (met (r .tried) (leZ (valueAt (r .values) v) k))
+exec p r (budget k) = withTrial r (met (r .tried) (spans (r .tried) k (r .tried .end)))
 exec p r (keep e) = withKept r (keeps (r .tried) e (r .tried .end) (r .kept))
 exec p r takeEdge = takes r p (r .kept)
 -- "Choose goes to the present location's block."

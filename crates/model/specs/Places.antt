@@ -1,7 +1,9 @@
 -- Document 01, "The table": where the parts of a table stand in its bytes, and what stands there. Nothing is tested here:
 -- for the bytes of an accepted table these are its parts (the law `located` in proofs/Reader/Located.antt).
 use mathlib.Core.Path.{_≡_}
-use mathlib.Core.Bool.{Bool, true, false}
+use mathlib.Core.Bool.{Bool, true, false, cond}
+use mathlib.Core.Option.{Option, none, some}
+use lib.Dec.{leb}
 use mathlib.Core.List.{List, [], _∷_}
 use Prim.Native.Nat.{ℕ, zero, suc, _+_, _*_, _≤_, _<_}
 use lib.ListN.{length, drop}
@@ -26,12 +28,16 @@ itemsLength zero n = n * 4
 itemsLength (suc zero) n = 1
 itemsLength (suc (suc k)) n = n * 2
 
--- the items stand after the 7 bytes and the bounds
-abbrev pub itemsPlace : List ℕ → ℕ
-itemsPlace h = 7 + (byte h 4 + byte h 5) * 5
+-- how many bytes stand before an edge's bounds: 7, with a budget 9
+abbrev pub arcHeadLength : Bool → ℕ
+arcHeadLength b = cond b 9 7
 
-abbrev pub arcLength : List ℕ → ℕ
-arcLength h = itemsPlace h + itemsLength (byte h 0) (byte h 6)
+-- the items stand after these bytes and the bounds
+abbrev pub itemsPlace : Bool → List ℕ → ℕ
+itemsPlace b h = arcHeadLength b + (byte h 4 + byte h 5) * 5
+
+abbrev pub arcLength : Bool → List ℕ → ℕ
+arcLength b h = itemsPlace b h + itemsLength (byte h 0) (byte h 6)
 
 -- the kind, and the first byte of the items
 abbrev pub actionAt : ℕ → ℕ → Action
@@ -50,15 +56,20 @@ pairsAt zero n bs = []
 pairsAt (suc zero) n bs = []
 pairsAt (suc (suc k)) n bs = listAt pairAt 2 n bs
 
-unfoldable pub arcAt : List ℕ → Arc
+-- the budget, where edges have one
+abbrev pub budgetAt : Bool → List ℕ → Option ℕ
+budgetAt b h = cond b (some (word h 7)) none
+
+unfoldable pub arcAt : Bool → List ℕ → Arc
 unfolding listAt updatesAt pairsAt
-arcAt h =
+arcAt b h =
     record {
-      edge = edgeAt h (actionAt (byte h 0) (byte h (itemsPlace h)));
-      clockGuards = listAt clockGuardAt 5 (byte h 4) (drop 7 h);
-      dataGuards = listAt dataGuardAt 5 (byte h 5) (drop (7 + byte h 4 * 5) h);
-      updates = updatesAt (byte h 0) (byte h 6) (drop (itemsPlace h) h);
-      pairs = pairsAt (byte h 0) (byte h 6) (drop (itemsPlace h) h);
+      edge = edgeAt h (actionAt (byte h 0) (byte h (itemsPlace b h)));
+      budget = budgetAt b h;
+      clockGuards = listAt clockGuardAt 5 (byte h 4) (drop (arcHeadLength b) h);
+      dataGuards = listAt dataGuardAt 5 (byte h 5) (drop (arcHeadLength b + byte h 4 * 5) h);
+      updates = updatesAt (byte h 0) (byte h 6) (drop (itemsPlace b h) h);
+      pairs = pairsAt (byte h 0) (byte h 6) (drop (itemsPlace b h) h);
     }
 
 -- ## Places in the table's bytes
@@ -73,9 +84,13 @@ abbrev pub locationPlace : ℕ → ℕ → ℕ
 locationPlace b l = b + 7 + l * 3
 
 -- Edge e of the component that starts at b: after its locations, each edge as long as its counts say.
+-- "Table version 3 is version 2 with a 2-byte budget .. after each edge's 7 bytes"
+abbrev pub budgeted : List ℕ → Bool
+budgeted bs = leb 3 (byte bs 0)
+
 unfoldable pub arcPlace : List ℕ → ℕ → ℕ → ℕ
 arcPlace bs b zero = locationPlace b (byte bs (b + 2))
-arcPlace bs b (suc e) = arcPlace bs b e + arcLength (drop (arcPlace bs b e) bs)
+arcPlace bs b (suc e) = arcPlace bs b e + arcLength (budgeted bs) (drop (arcPlace bs b e) bs)
 
 -- ## What the law says
 
@@ -89,8 +104,8 @@ pub record ComponentAt (bs : List ℕ) (b : ℕ) (C : Component) : Type 0 where
   pub arcs : byte bs (b + 6) ≡ length (C .arcs)
   pub locationFits : (l : ℕ) → l < length (C .locations) → locationPlace b l + 3 ≤ length bs
   pub location : (l : ℕ) → l < length (C .locations) → locationAt (drop (locationPlace b l) bs) ≡ locationOf C l
-  pub arcFits : (e : ℕ) → e < length (C .arcs) → arcPlace bs b e + arcLength (drop (arcPlace bs b e) bs) ≤ length bs
-  pub arc : (e : ℕ) → e < length (C .arcs) → arcAt (drop (arcPlace bs b e) bs) ≡ arcOf C e
+  pub arcFits : (e : ℕ) → e < length (C .arcs) → arcPlace bs b e + arcLength (budgeted bs) (drop (arcPlace bs b e) bs) ≤ length bs
+  pub arc : (e : ℕ) → e < length (C .arcs) → arcAt (budgeted bs) (drop (arcPlace bs b e) bs) ≡ arcOf C e
 
 -- the table stands in the bytes, whole
 pub record Located (bs : List ℕ) (t : Read) : Type 0 where

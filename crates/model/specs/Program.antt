@@ -1,5 +1,6 @@
 -- Document 01, "The program": statements, the blocks, the bytes, and the part of one node.
 use mathlib.Core.Bool.{cond}
+use mathlib.Core.Option.{Option, none, some}
 use mathlib.Core.List.{List, [], _∷_, _++_, map}
 use Prim.Native.Nat.{ℕ, zero, suc, _+_, _/_}
 use lib.Dec.{leb, ltb, eqb}
@@ -35,6 +36,7 @@ pub data Statement : Type 0 where
   dataLow : ℕ → ℤ → Statement
   dataHigh : ℕ → ℤ → Statement
   keep : ℕ → Statement
+  budget : ℕ → Statement
   takeEdge : Statement
   choose : Statement
 
@@ -50,9 +52,14 @@ abbrev pub dataTests : List DataGuard → List Statement
 dataTests [] = []
 dataTests (g ∷ gs) = dataLow (g .variable) (g .low) ∷ dataHigh (g .variable) (g .high) ∷ dataTests gs
 
+-- document 02, wish 8: "A new statement 12, k = budget, stands before keep in version 3 programs only"
+abbrev pub budgetTest : Option ℕ → List Statement
+budgetTest none = []
+budgetTest (some b) = budget b ∷ []
+
 -- "per edge from it, 0A trial; 0C high for the invariant; per clock bound ..; per data bound ..; 0F keep, k = edge"
 abbrev pub trialOf : Location → ℕ → Arc → List Statement
-trialOf l e a = trial ∷ high (l .clock) (l .bound) ∷ (clockTests (a .clockGuards) ++ (dataTests (a .dataGuards) ++ (keep e ∷ [])))
+trialOf l e a = trial ∷ high (l .clock) (l .bound) ∷ (clockTests (a .clockGuards) ++ (dataTests (a .dataGuards) ++ (budgetTest (a .budget) ++ (keep e ∷ []))))
 
 -- "Location block: per edge from it": the edges from number e on that leave from `here`
 unfoldable pub trials : Location → ℕ → ℕ → List Arc → List Statement
@@ -113,6 +120,7 @@ code (high i k) = quad 0x0C i k
 code (dataLow v k) = quad 0x0D v (unsigned k)
 code (dataHigh v k) = quad 0x0E v (unsigned k)
 code (keep e) = quad 0x0F 0 e
+code (budget k) = quad 0x12 0 k
 code takeEdge = quad 0x10 0 0
 code choose = quad 0x11 0 0
 

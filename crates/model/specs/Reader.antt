@@ -1,5 +1,6 @@
 -- Document 01, "Checks, in this order", 1 to 6: from bytes to the table with its horizon, front to back, the first fault counts.
-use mathlib.Core.Bool.{Bool, cond, _&&_, _||_}
+use mathlib.Core.Bool.{Bool, true, false, cond, _&&_, _||_}
+use mathlib.Core.Option.{Option, none, some}
 use mathlib.Core.List.{List, [], _∷_}
 use Prim.Native.Nat.{ℕ, zero, suc, pred, _+_, _-_, _*_, _^_}
 use lib.Dec.{leb, ltb, eqb}
@@ -15,7 +16,7 @@ use Rattle.model.specs.declared.Update.{Update}
 use Rattle.model.specs.declared.Pair.{Pair}
 use Rattle.model.specs.declared.Sizes.{Sizes}
 use Rattle.model.specs.Lists.{all, any, Answer, accepted, refused, _after_}
-use Rattle.model.specs.Table.{Arc, Component, Read}
+use Rattle.model.specs.Table.{Arc, Component, Read, TableHeader}
 
 -- "All fields are unsigned, big-endian": the byte, and the number of two bytes, that stand at i.
 abbrev pub byte : List ℕ → ℕ → ℕ
@@ -150,16 +151,27 @@ edgeFine s h =
 abbrev pub edgeAt : List ℕ → Action → Edge
 edgeAt h a = record { source = byte h 1; destination = byte h 2; mask = byte h 3; action = a }
 
-abbrev pub arcWith : List ℕ → List ClockGuard → List DataGuard → Items → Arc
-arcWith h cs ds i =
-    record { edge = edgeAt h (i .action); clockGuards = cs; dataGuards = ds; updates = i .updates; pairs = i .pairs }
+abbrev pub arcWith : List ℕ → Option ℕ → List ClockGuard → List DataGuard → Items → Arc
+arcWith h b cs ds i =
+    record { edge = edgeAt h (i .action); budget = b; clockGuards = cs; dataGuards = ds; updates = i .updates; pairs = i .pairs }
+
+-- "a 2-byte budget (0 to 60,000), a part of its own": "a budget above 60,000 is a 5"
+abbrev pub budgetFine : List ℕ → Bool
+budgetFine bs = leb (word bs 0) 60000
+
+abbrev pub readBudget : Bool → List ℕ → Parsed (Option ℕ)
+readBudget true bs = part 2 budgetFine (λ r. word r 0) bs then λ b r. ok (some b) r
+readBudget false bs = ok none bs
+
+abbrev pub readArcParts : Sizes → List ℕ → Option ℕ → List ℕ → Parsed Arc
+readArcParts s h b r = many (readClockGuard s) (byte h 4) r then λ cs r₁.
+    many (readDataGuard s) (byte h 5) r₁ then λ ds r₂.
+    readItems s (byte h 0) (byte h 6) r₂ then λ i r₃. ok (arcWith h b cs ds i) r₃
 
 abbrev pub readArcBody : Sizes → List ℕ → List ℕ → Parsed Arc
-readArcBody s h r = many (readClockGuard s) (byte h 4) r then λ cs r₁.
-    many (readDataGuard s) (byte h 5) r₁ then λ ds r₂.
-    readItems s (byte h 0) (byte h 6) r₂ then λ i r₃. ok (arcWith h cs ds i) r₃
+readArcBody s h r = readBudget (s .budgets) r then readArcParts s h
 
--- The 7 bytes, then clock bounds, data bounds, items.
+-- The 7 bytes, then the budget where edges have one, clock bounds, data bounds, items.
 unfoldable pub readArc : Sizes → List ℕ → Parsed Arc
 unfolding many readItems
 readArc s bs = part 7 (edgeFine s) (λ h. h) bs then readArcBody s
@@ -174,8 +186,8 @@ headFine h =
     && leb 1 (byte h 6)
     && leb (byte h 6) 32
 
-abbrev pub sizesAt : ℕ → List ℕ → Sizes
-sizesAt channels h = record { channels = channels; locations = byte h 2; clocks = byte h 4; variables = byte h 5 }
+abbrev pub sizesAt : TableHeader → List ℕ → Sizes
+sizesAt d h = record { channels = d .channels; locations = byte h 2; clocks = byte h 4; variables = byte h 5; budgets = d .budgets }
 
 abbrev pub componentWith : List ℕ → List Location → List Arc → Component
 componentWith h ls as′ = record { initial = byte h 3; clocks = byte h 4; variables = byte h 5; locations = ls; arcs = as′ }
@@ -185,14 +197,14 @@ abbrev pub finished : {A : Type 0} → A → List ℕ → Parsed A
 finished a [] = ok a []
 finished a (b ∷ bs) = fault 4
 
-abbrev pub readBody : ℕ → List ℕ → List ℕ → Parsed Component
-readBody channels h r = many (readLocation (sizesAt channels h)) (byte h 2) r then λ ls r₁.
-    many (readArc (sizesAt channels h)) (byte h 6) r₁ then λ as′ r₂. finished (componentWith h ls as′) r₂
+abbrev pub readBody : TableHeader → List ℕ → List ℕ → Parsed Component
+readBody d h r = many (readLocation (sizesAt d h)) (byte h 2) r then λ ls r₁.
+    many (readArc (sizesAt d h)) (byte h 6) r₁ then λ as′ r₂. finished (componentWith h ls as′) r₂
 
 -- one component from its own bytes: the first 7 bytes, "then locations, then edges"
-unfoldable pub readComponent : ℕ → List ℕ → Parsed Component
+unfoldable pub readComponent : TableHeader → List ℕ → Parsed Component
 unfolding many readArc
-readComponent channels bs = part 7 headFine (λ h. h) bs then readBody channels
+readComponent d bs = part 7 headFine (λ h. h) bs then readBody d
 
 -- "A refusal gives its number and a component: .. for 4 to 9 the one read".
 abbrev pub about : {A : Type 0} → ℕ → Parsed A → Answer A
@@ -209,19 +221,19 @@ abbrev pub lengthFits : List ℕ → Bool
 lengthFits bs = leb 2 (length bs) && leb (word bs 0) (length bs)
 
 -- n components from number c on
-unfoldable pub readComponents : ℕ → ℕ → ℕ → List ℕ → Answer (List Component)
+unfoldable pub readComponents : TableHeader → ℕ → ℕ → List ℕ → Answer (List Component)
 unfolding readComponent
-readComponents channels zero c bs = atEnd (pred c) bs
-readComponents channels (suc n) c bs =
-    let rest = (about c (readComponent channels (take (word bs 0) bs)) after λ C.
-    readComponents channels n (suc c) (drop (word bs 0) bs) after λ l. accepted (C ∷ l)) in
+readComponents d zero c bs = atEnd (pred c) bs
+readComponents d (suc n) c bs =
+    let rest = (about c (readComponent d (take (word bs 0) bs)) after λ C.
+    readComponents d n (suc c) (drop (word bs 0) bs) after λ l. accepted (C ∷ l)) in
     cond (lengthFits bs) rest (refused 4 c)
 
 -- ## The table
 
--- 1. "Is the first byte 1? (Empty input: no.)", and in document 02, wish 2: "check 1 takes both versions"
+-- 1. "Is the first byte 1? (Empty input: no.)", and in document 02, wish 2: "check 1 takes both versions"; wish 8: "Check 1 takes version 3 too"
 abbrev pub versionFine : List ℕ → Bool
-versionFine bs = leb 1 (byte bs 0) && leb (byte bs 0) 2
+versionFine bs = leb 1 (byte bs 0) && leb (byte bs 0) 3
 
 -- 2. "Is the stated length the length handed in, from 7 to 8,192?"
 abbrev pub lengthFine : List ℕ → Bool
@@ -243,6 +255,10 @@ bandsAt bs = cond (leb 2 (byte bs 0)) (take (byte bs 4) (drop 7 bs)) (replicate 
 abbrev pub bandsFine : List ℕ → Bool
 bandsFine bs = leb (bodyStart bs) (length bs) && all (λ b. leb b 3) (bandsAt bs)
 
+-- what the header tells of the components
+abbrev pub headerAt : List ℕ → TableHeader
+headerAt bs = record { channels = byte bs 4; budgets = leb 3 (byte bs 0) }
+
 abbrev pub readWith : List ℕ → List Component → Read
 readWith bs l =
     record {
@@ -256,7 +272,7 @@ readWith bs l =
 unfoldable pub readTable : List ℕ → Answer Read
 unfolding readComponents
 readTable bs =
-    let fourth = (readComponents (byte bs 4) (byte bs 3) 0 (drop (bodyStart bs) bs) after λ l. accepted (readWith bs l)) in
+    let fourth = (readComponents (headerAt bs) (byte bs 3) 0 (drop (bodyStart bs) bs) after λ l. accepted (readWith bs l)) in
     let third = cond (countFine bs && bandsFine bs) fourth (refused 3 255) in
     let second = cond (lengthFine bs) third (refused 2 255) in
     cond (versionFine bs) second (refused 1 255)

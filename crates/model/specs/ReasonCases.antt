@@ -1,5 +1,5 @@
--- Document 02, wish 7, computed: each reason, the order in which they are tried, their numbers, 21 and 13; and of each sentence that a reason says,
--- a wrong reason that it rules out.
+-- Document 02, wish 7, computed: each reason, the order in which they are tried, their numbers, 21 and 13; of wish 8 the budget; and of each sentence
+-- that a reason says, a wrong reason that it rules out.
 use mathlib.Core.Path.{_≡_, refl, sym}
 use mathlib.Core.Bool.{Bool, true, false, _&&_}
 use mathlib.Core.List.{List, [], _∷_, _++_}
@@ -17,7 +17,7 @@ use Rattle.model.specs.declared.Reason.the-variants.{Taken, DataBound, N
 use Rattle.model.specs.declared.Verdict.the-variants.{Accepted}
 use Rattle.model.specs.Lists.{All, empty, more}
 use Rattle.model.specs.Table.{Arc, Component}
-use Rattle.model.specs.Build.{location, clockGuard, arc, component, network}
+use Rattle.model.specs.Build.{location, clockGuard, arc, component, network, allBudgeted, withBudgets}
 use Rattle.model.specs.Bytes.{tableBytes}
 use Rattle.model.specs.Window.{holdsAfter, IsWindow}
 use Rattle.model.specs.Schedule.{Passage}
@@ -43,6 +43,13 @@ five =
 abbrev fiveBytes : List ℕ
 fiveBytes = tableBytes (network 0 12 (five ∷ []))
 
+-- The same with a budget on each edge. Edges 1 and 2 have a window of 7 ticks' length, edge 0 one of 1, edge 6 one of 10.
+abbrev tight : ℕ → Component
+tight budget = allBudgeted budget five
+
+abbrev tightBytes : ℕ → List ℕ
+tightBytes budget = tableBytes (withBudgets [] 12 (tight budget ∷ []))
+
 -- nobody hears its send: 11
 abbrev unheardBytes : List ℕ
 unheardBytes = tableBytes (network 1 12 (component 0 1 0 (location 0 10 ∷ []) (arc 0 0 1 (Send 0) (clockGuard 0 3 65535 ∷ []) [] [] [] ∷ []) ∷ []))
@@ -57,6 +64,10 @@ tells passage size bytes kept = record { verdict = Accepted; passage = passage; 
 -- "taken" 0, the first data bound that fails 1, no window 2, ready later 3, numbered higher 4
 abbrev atStart : List ℕ
 atStart = 0 ∷ 3 ∷ 255 ∷ 1 ∷ 0 ∷ 255 ∷ 2 ∷ 4 ∷ 255 ∷ 3 ∷ 1 ∷ 1 ∷ 4 ∷ 2 ∷ 255 ∷ 5 ∷ 1 ∷ 0 ∷ []
+
+-- a window shorter than the budget "is under the window reason"
+abbrev budgetsAtStart : List ℕ
+budgetsAtStart = 0 ∷ 2 ∷ 255 ∷ 1 ∷ 0 ∷ 255 ∷ 2 ∷ 4 ∷ 255 ∷ 3 ∷ 1 ∷ 1 ∷ 4 ∷ 2 ∷ 255 ∷ 5 ∷ 1 ∷ 0 ∷ []
 
 pub record Row : Type 0 where
   pub table : List ℕ
@@ -79,6 +90,10 @@ rows =
     -- the next one, also at H - 1, though it ends at 20
     ∷ asks fiveBytes 0 10 5 (tells 1 1 (6 ∷ 0 ∷ 255 ∷ []) 2)
     ∷ asks fiveBytes 0 11 3 (tells 1 1 (6 ∷ 0 ∷ 255 ∷ []) 0)
+    -- budgets of 2 and of 7, the length of the window taken; with 8 there is no candidate
+    ∷ asks (tightBytes 2) 0 0 18 (tells 0 6 budgetsAtStart 0)
+    ∷ asks (tightBytes 7) 0 9 18 (tells 0 6 budgetsAtStart 0)
+    ∷ asks (tightBytes 8) 0 0 18 (notTold 8 0 (lent 18))
     -- 21: a tick from H on, an absent component; also where the lent bytes are too few
     ∷ asks fiveBytes 0 12 18 (notTold 21 255 (lent 18))
     ∷ asks fiveBytes 1 0 18 (notTold 21 255 (lent 18))
@@ -95,7 +110,7 @@ rows =
 pub cases : All Holds rows
 unfolding reasonsCall tableBytes
 cases =
-    more refl (more refl (more refl (more refl (more refl (more refl (more refl (more refl (more refl (more refl (more refl (more refl empty)))))))))))
+    more refl (more refl (more refl (more refl (more refl (more refl (more refl (more refl (more refl (more refl (more refl (more refl (more refl (more refl (more refl empty))))))))))))))
 
 -- ## Wrong reasons
 
@@ -111,8 +126,11 @@ through value edge ready =
       message = none;
     }
 
+abbrev WrongIn : Component → ℕ → ℕ → ℕ → ℕ → Reason → Type 0
+WrongIn C value taken ready e r = IsReason C (through value taken ready) e r → ⊥
+
 abbrev Wrong : ℕ → ℕ → ℕ → ℕ → Reason → Type 0
-Wrong value taken ready e r = IsReason five (through value taken ready) e r → ⊥
+Wrong = WrongIn five
 
 -- each breaks one sentence of the reason and no other
 abbrev pub Wrongs : Type 0
@@ -128,16 +146,21 @@ Wrongs =
     × Wrong 0 4 10 4 NoWindow
     × Wrong 0 1 3 5 NoWindow
     × Wrong 0 1 3 0 NoWindow
-    -- ready later: the edge taken; where a data bound fails; without a window; ready together
+    -- exactly as long as the budget
+    × WrongIn (tight 7) 0 1 3 2 NoWindow
+    -- ready later: the edge taken; where a data bound fails; without a window; with one shorter than the budget; ready together
     × Wrong 0 0 3 0 ReadyLater
     × Wrong 0 1 3 3 ReadyLater
     × Wrong 0 1 3 4 ReadyLater
+    × WrongIn (tight 8) 0 1 2 2 ReadyLater
     × Wrong 0 1 3 2 ReadyLater
-    -- numbered higher: the edge taken; a lower number; where a data bound fails; without a window; ready later; ready sooner
+    -- numbered higher: the edge taken; a lower number; where a data bound fails; without a window; with one shorter than the budget; ready later; ready
+    -- sooner
     × Wrong 0 1 3 1 HigherNumber
     × Wrong 0 2 3 1 HigherNumber
     × Wrong 0 1 5 3 HigherNumber
     × Wrong 0 1 10 4 HigherNumber
+    × WrongIn (tight 8) 0 1 3 2 HigherNumber
     × Wrong 0 0 2 1 HigherNumber
     × Wrong 0 0 9 1 HigherNumber
 
@@ -164,6 +187,14 @@ at-least low d q = omega (arith, leb-true low (0 + d) (first-holds _ _ (first-ho
 nine-ten : IsWindow (location 0 10) (clockGuard 0 9 65535 ∷ []) (0 ∷ []) 9 10
 nine-ten = record { atReady = refl; least = at-least 9; atEnd = refl; last = at-most 9 }
 
+-- from 3 to 10
+three-ten : IsWindow (location 0 10) (clockGuard 0 3 65535 ∷ []) (0 ∷ []) 3 10
+three-ten = record { atReady = refl; least = at-least 3; atEnd = refl; last = at-most 3 }
+
+-- not 8 ticks long
+no-eight : (r q : ℕ) → IsWindow (location 0 10) (clockGuard 0 3 65535 ∷ []) (0 ∷ []) r q → r + 8 ≤ q → ⊥
+no-eight r q w h = omega (arith, at-least 3 r (w .atReady), at-most 3 q (w .atEnd), h)
+
 pub wrongs-refuted : Wrongs
 wrongs-refuted = (
   λ h. eqb-false 2 1 refl h,
@@ -173,15 +204,18 @@ wrongs-refuted = (
   λ h. clash (h .3 1 (omega arith)),
   λ h. h .0 refl,
   λ h. clash (h .1),
-  λ h. h .2 9 10 nine-ten (omega arith),
+  λ h. h .2 9 10 nine-ten (omega arith) tt,
+  λ h. h .2 3 10 three-ten (omega arith) (omega arith),
   λ h. h .0 refl,
   λ h. clash (h .1),
   λ h. omega (arith, at-least 10 (h .2 .0) (h .2 .2 .atReady), at-most 10 (h .2 .1) (h .2 .2 .atEnd), h .2 .3),
-  λ h. omega (arith, h .2 .2 .least 3 refl, h .2 .4),
+  λ h. no-eight (h .2 .0) (h .2 .1) (h .2 .2) (h .2 .4),
+  λ h. omega (arith, h .2 .2 .least 3 refl, h .2 .5),
   λ h. omega (arith, h .0),
   λ h. omega (arith, h .0),
   λ h. clash (h .1),
   λ h. omega (arith, at-least 10 (h .2 .0) (h .2 .2 .atReady), at-most 10 (h .2 .1) (h .2 .2 .atEnd), h .2 .3),
-  λ h. omega (arith, at-least 3 (h .2 .0) (h .2 .2 .atReady), h .2 .4),
-  λ h. omega (arith, h .2 .2 .least 3 refl, h .2 .4),
+  λ h. no-eight (h .2 .0) (h .2 .1) (h .2 .2) (h .2 .4),
+  λ h. omega (arith, at-least 3 (h .2 .0) (h .2 .2 .atReady), h .2 .5),
+  λ h. omega (arith, h .2 .2 .least 3 refl, h .2 .5),
 )

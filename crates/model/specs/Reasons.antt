@@ -15,7 +15,7 @@ use Rattle.model.specs.declared.Verdict.the-variants.{Accepted, Refused}
 use Rattle.model.specs.Lists.{_∈_, placeOf, only, below, each, Answer, accepted, refused, _after_}
 use Rattle.model.specs.Table.{Arc, Component, Table, Read, size, componentOf, locationOf, arcOf}
 use Rattle.model.specs.Reader.{readTable}
-use Rattle.model.specs.Window.{Entry, IsWindow, readyOf, dataWithin, dataHolds, firstFailing, blocked, windowless}
+use Rattle.model.specs.Window.{Entry, IsWindow, Spans, readyOf, dataWithin, dataHolds, firstFailing, blocked, windowless}
 use Rattle.model.specs.Schedule.{Passage}
 use Rattle.model.specs.Checks.{passageAt, acceptedSchedule, acceptedScheduleOf}
 
@@ -32,7 +32,8 @@ passageNumber S c t = placeOf (passesAt c t) S
 -- ## The reasons
 
 -- "taken; first data bound that fails; no window of at least one tick's length; ready later than the taken one; ready together with it
--- but numbered higher. Reasons are tried in that order": of edge e, which is a, where the edge taken at that entry is ready at that tick
+-- but numbered higher. Reasons are tried in that order"; wish 8: "a window shorter than the budget is under the window reason": of edge e, which is a,
+-- where the edge taken at that entry is ready at that tick
 abbrev pub reasonBy : Location → Entry → ℕ → ℕ → ℕ → Arc → Reason
 reasonBy l at taken ready e a =
     let last = cond (ltb ready (at .tick + readyOf (a .clockGuards) (at .clocks))) ReadyLater HigherNumber in
@@ -63,14 +64,14 @@ IsReason C v e (DataBound j) =
     × ((i : ℕ) → i < j → dataWithin (getD gs i noBound) (v .entry .values) ≡ true)
 IsReason C v e NoWindow =
     (e ≡ v .edge → ⊥) × (dataHolds (arcOf C e .dataGuards) (v .entry .values) ≡ true)
-    × ((r q : ℕ) → IsWindow (locationOf C (v .entry .location)) (arcOf C e .clockGuards) (v .entry .clocks) r q → r < q → ⊥)
+    × ((r q : ℕ) → IsWindow (locationOf C (v .entry .location)) (arcOf C e .clockGuards) (v .entry .clocks) r q → r < q → Spans (arcOf C e .budget) r q → ⊥)
 IsReason C v e ReadyLater =
     (e ≡ v .edge → ⊥) × (dataHolds (arcOf C e .dataGuards) (v .entry .values) ≡ true)
-    × ((r : ℕ) × (q : ℕ) × IsWindow (locationOf C (v .entry .location)) (arcOf C e .clockGuards) (v .entry .clocks) r q × (r < q)
+    × ((r : ℕ) × (q : ℕ) × IsWindow (locationOf C (v .entry .location)) (arcOf C e .clockGuards) (v .entry .clocks) r q × (r < q) × Spans (arcOf C e .budget) r q
     × (v .ready < v .entry .tick + r))
 IsReason C v e HigherNumber =
     (v .edge < e) × (dataHolds (arcOf C e .dataGuards) (v .entry .values) ≡ true)
-    × ((r : ℕ) × (q : ℕ) × IsWindow (locationOf C (v .entry .location)) (arcOf C e .clockGuards) (v .entry .clocks) r q × (r < q)
+    × ((r : ℕ) × (q : ℕ) × IsWindow (locationOf C (v .entry .location)) (arcOf C e .clockGuards) (v .entry .clocks) r q × (r < q) × Spans (arcOf C e .budget) r q
     × (v .entry .tick + r ≡ v .ready))
 
 -- ## The question

@@ -40,7 +40,15 @@ one mask high low =
 abbrev pub fine : List ℕ
 fine = one 1 0 5
 
--- the same with another stated length, and so many bytes behind it
+-- the same with a budget, 24 bytes: by its bytes; and cut behind the first of these, 18 bytes
+abbrev pub working : ℕ → ℕ → List ℕ
+working high low =
+    (0 ∷ 24 ∷ 1 ∷ 0 ∷ 1 ∷ 0 ∷ 1 ∷ 0 ∷ 0 ∷ 5 ∷ []) ++ (0 ∷ 0 ∷ 0 ∷ 1 ∷ 1 ∷ 0 ∷ 0 ∷ high ∷ low ∷ 0 ∷ 0 ∷ 3 ∷ 255 ∷ 255 ∷ [])
+
+abbrev pub budgetCut : List ℕ
+budgetCut = (0 ∷ 18 ∷ 1 ∷ 0 ∷ 1 ∷ 0 ∷ 1 ∷ 0 ∷ 0 ∷ 5 ∷ []) ++ (0 ∷ 0 ∷ 0 ∷ 1 ∷ 1 ∷ 0 ∷ 0 ∷ 0xEA ∷ [])
+
+-- without one, and with another stated length, and so many bytes behind it
 abbrev pub stating : ℕ → ℕ → List ℕ
 stating total behind = (0 ∷ total ∷ 1 ∷ 0 ∷ 1 ∷ 0 ∷ 1 ∷ 0 ∷ 0 ∷ 5 ∷ []) ++ (0 ∷ 0 ∷ 0 ∷ 1 ∷ 1 ∷ 0 ∷ 0 ∷ 0 ∷ 0 ∷ 3 ∷ 255 ∷ 255 ∷ []) ++ replicate behind 0
 
@@ -94,6 +102,17 @@ abbrev pub singleProgram : List ℕ
 singleProgram = 1 ∷ 0 ∷ 56 ∷ 1 ∷ 0 ∷ 5
     ∷ 0 ∷ 50 ∷ 1 ∷ 1 ∷ 0 ∷ 0 ∷ 0 ∷ 0 ∷ 0 ∷ 5
     ∷ 0x0A ∷ 0 ∷ 0 ∷ 0 ∷ 0x0C ∷ 0 ∷ 0 ∷ 5 ∷ 0x0B ∷ 0 ∷ 0 ∷ 3 ∷ 0x0F ∷ 0 ∷ 0 ∷ 0 ∷ 0x10 ∷ 0 ∷ 0 ∷ 0
+    ∷ 0x00 ∷ 0 ∷ 0 ∷ 0 ∷ 0x03 ∷ 0 ∷ 0 ∷ 0 ∷ 0x08 ∷ 0 ∷ 0 ∷ 0 ∷ 0x09 ∷ 0 ∷ 0 ∷ 0 ∷ 0x11 ∷ 0 ∷ 0 ∷ 0
+    ∷ []
+
+-- the same in version 3 with a budget (below 256): statement 12 stands before keep, a budget of 0 too
+abbrev pub workingSingle : ℕ → List ℕ
+workingSingle budget = header 3 31 1 0 5 ++ working 0 budget
+
+abbrev pub workingProgram : ℕ → List ℕ
+workingProgram budget = 3 ∷ 0 ∷ 60 ∷ 1 ∷ 0 ∷ 5
+    ∷ 0 ∷ 54 ∷ 1 ∷ 1 ∷ 0 ∷ 0 ∷ 0 ∷ 0 ∷ 0 ∷ 6
+    ∷ 0x0A ∷ 0 ∷ 0 ∷ 0 ∷ 0x0C ∷ 0 ∷ 0 ∷ 5 ∷ 0x0B ∷ 0 ∷ 0 ∷ 3 ∷ 0x12 ∷ 0 ∷ 0 ∷ budget ∷ 0x0F ∷ 0 ∷ 0 ∷ 0 ∷ 0x10 ∷ 0 ∷ 0 ∷ 0
     ∷ 0x00 ∷ 0 ∷ 0 ∷ 0 ∷ 0x03 ∷ 0 ∷ 0 ∷ 0 ∷ 0x08 ∷ 0 ∷ 0 ∷ 0 ∷ 0x09 ∷ 0 ∷ 0 ∷ 0 ∷ 0x11 ∷ 0 ∷ 0 ∷ 0
     ∷ []
 
@@ -152,8 +171,9 @@ Holds (wakes G table offsets choices bytes answer) = runCallAt G table offsets c
 
 abbrev pub rows : List Row
 rows =
-    -- 1. "Is the first byte 1?" Version 0
+    -- 1. "Is the first byte 1?" Version 0, and 4
     checks (header 0 29 1 0 20 ++ fine) (Refused 1 255)
+    ∷ checks (header 4 31 1 0 20 ++ working 0 2) (Refused 1 255)
     -- 2. "Is the stated length the length handed in ..?" One byte alone; one more stated than there are; as many
     ∷ checks (1 ∷ []) (Refused 2 255)
     ∷ checks (header 1 30 1 0 20 ++ fine) (Refused 2 255)
@@ -164,17 +184,19 @@ rows =
     ∷ checks (header 1 29 1 17 20 ++ fine) (Refused 3 255)
     ∷ checks ((1 ∷ 0 ∷ 29 ∷ 1 ∷ 0 ∷ 0xEA ∷ 0x61 ∷ []) ++ fine) (Refused 3 255)
     -- 4. "Does each part fit its component, and end exactly there, and the last component at the table's end?" No component, no second one; a byte left
-    -- over in the component, and behind the last one
+    -- over in the component, and behind the last one; a budget that is cut
     ∷ checks (header 1 7 1 0 20) (Refused 4 0)
     ∷ checks (header 1 29 2 0 20 ++ fine) (Refused 4 1)
     ∷ checks (header 1 30 1 0 20 ++ stating 23 1) (Refused 4 0)
     ∷ checks (header 1 30 1 0 20 ++ stating 22 1) (Refused 4 0)
+    ∷ checks (header 3 25 1 0 20 ++ budgetCut) (Refused 4 0)
     -- 5. "Is every number in its range and every mask bit a clock?" Bit 1 of a component with one clock, also of the second component; a location's bound
-    -- of 60,001, and of 60,000
+    -- of 60,001, and of 60,000; a budget of 60,001
     ∷ checks (header 1 29 1 0 20 ++ one 2 0 5) (Refused 5 0)
     ∷ checks (header 1 51 2 0 20 ++ fine ++ one 2 0 5) (Refused 5 1)
     ∷ checks (header 1 29 1 0 20 ++ one 1 0xEA 0x61) (Refused 5 0)
     ∷ checks (header 1 29 1 0 20 ++ one 1 0xEA 0x60) Accepted
+    ∷ checks (header 3 31 1 0 20 ++ working 0xEA 0x61) (Refused 5 0)
     -- 6. "Does no receive edge list a channel twice?" Also in the second component
     ∷ checks (header 1 33 1 2 20 ++ hearing 0 0) (Refused 6 0)
     ∷ checks (header 1 55 2 2 20 ++ fine ++ hearing 1 1) (Refused 6 1)
@@ -182,9 +204,13 @@ rows =
     -- 7. "Are fewer than 1,024 passages open or closed?" The opening at tick 1,024 would be the 1,025th
     ∷ checks (everyTick 1024) Accepted
     ∷ checks (everyTick 1025) (Refused 7 0)
-    -- 8. "Is there a candidate?" A window of one tick has no length; also in the second component
+    -- 8. "Is there a candidate?" A window of one tick has no length; also in the second component; "only if its window length .. is also at least the
+    -- budget": from 3 to 5 with budgets of 60,000, 3 and 2
     ∷ checks (turns (turning 5 5 [] ∷ [])) (Refused 8 0)
     ∷ checks (turns (turning 3 5 [] ∷ turning 5 5 [] ∷ [])) (Refused 8 1)
+    ∷ checks (header 3 31 1 0 20 ++ working 0xEA 0x60) (Refused 8 0)
+    ∷ checks (header 3 31 1 0 20 ++ working 0 3) (Refused 8 0)
+    ∷ checks (header 3 31 1 0 20 ++ working 0 2) Accepted
     -- 9. "Does each update of the taken edge stay in range?" −32,768 does, one less does not; also in the second component
     ∷ checks (turns (turning 3 5 least ∷ [])) Accepted
     ∷ checks (turns (turning 3 5 below ∷ [])) (Refused 9 0)
@@ -216,6 +242,11 @@ rows =
     ∷ translates single (replicate 55 7) (unwritten 13 255 (replicate 55 7))
     ∷ translates single (replicate 57 7) (written 56 (singleProgram ++ (7 ∷ [])))
     ∷ runs single [] (replicate 31 7) (refusedWith 13 255 (replicate 31 7))
+    -- version 3: a byte too few; budgets of 2 and 0; the node goes through statement 12 to its sleep
+    ∷ translates (workingSingle 2) (replicate 59 7) (unwritten 13 255 (replicate 59 7))
+    ∷ translates (workingSingle 2) (replicate 60 7) (written 60 (workingProgram 2))
+    ∷ translates (workingSingle 0) (replicate 60 7) (written 60 (workingProgram 0))
+    ∷ runs (workingSingle 2) (replicate 6 0 ++ replicate 3 255 ++ (0 ∷ [])) lent40 (answered UsedUp 3 10 1 (observed 0 0 0 3 3 0) 8)
     -- 14. "Are there at most 1,000,000 choices?" After 13
     ∷ runsOn single lent40 (refusedWith 14 255 lent40)
     ∷ runsOn single (replicate 31 7) (refusedWith 13 255 (replicate 31 7))
@@ -265,7 +296,7 @@ rows =
 pub cases : All Holds rows
 unfolding tableBytes readTable checkCall checkCallAt acceptedScheduleIn acceptedScheduleInAt acceptedSchedule each scheduleCall translateCall runCall runCallAt offsetsFine run programBytes observationBytes partOf choose1 exec
 cases =
-    more refl (more refl (more refl (more refl (more refl (more refl (more refl (more refl (more refl (more refl (more refl (more refl (more refl (more refl (more refl (more refl (more refl (more refl (more refl (more refl (more refl (more refl (more refl (more refl (more refl (more refl (more refl (more refl (more refl (more refl (more refl (more refl (more refl (more refl (more refl (more refl (more refl (more refl (more refl (more refl (more refl (more refl (more refl (more refl (more refl (more too-many (more too-short (more refl (more refl (more refl (more refl (more refl (more refl (more refl (more refl (more refl (more refl (more refl (more refl (more refl (more refl (more refl (more refl (more refl (more refl (more refl (more refl (more refl (more refl (more refl (more refl (more refl (more refl (more refl (more refl (more refl (more refl empty))))))))))))))))))))))))))))))))))))))))))))))))))))))))))))))))))))))))))))
+    more refl (more refl (more refl (more refl (more refl (more refl (more refl (more refl (more refl (more refl (more refl (more refl (more refl (more refl (more refl (more refl (more refl (more refl (more refl (more refl (more refl (more refl (more refl (more refl (more refl (more refl (more refl (more refl (more refl (more refl (more refl (more refl (more refl (more refl (more refl (more refl (more refl (more refl (more refl (more refl (more refl (more refl (more refl (more refl (more refl (more refl (more refl (more refl (more refl (more refl (more refl (more refl (more refl (more refl (more refl (more too-many (more too-short (more refl (more refl (more refl (more refl (more refl (more refl (more refl (more refl (more refl (more refl (more refl (more refl (more refl (more refl (more refl (more refl (more refl (more refl (more refl (more refl (more refl (more refl (more refl (more refl (more refl (more refl (more refl (more refl (more refl (more refl empty))))))))))))))))))))))))))))))))))))))))))))))))))))))))))))))))))))))))))))))))))))))
   where
     too-many : Holds (runsOn single lent40 (refusedWith 14 255 lent40))
     too-many choices h = let e = lt-ltb 1000000 (length choices) h in rw e

@@ -12,7 +12,7 @@ use Rattle.model.specs.Table.{Component, Table, Read, size}
 use Rattle.model.specs.Bytes.{unsigned}
 use Rattle.model.specs.Window.{valueAt, inRange, paired}
 use Rattle.model.specs.Schedule.{Passage, own}
-use Rattle.model.specs.Program.{Statement, sleep, setTo, addTo, done, send, listen, age, reset, enter, trial, low, high, dataLow, dataHigh, keep, takeEdge, choose, programBytes}
+use Rattle.model.specs.Program.{Statement, sleep, setTo, addTo, done, send, listen, age, reset, enter, trial, low, high, dataLow, dataHigh, keep, budget, takeEdge, choose, programBytes}
 use Rattle.model.specs.Network.{Work, one, two, Observation}
 use Rattle.model.specs.Machine.{Node, noTrial, startNode, partBytes, exec, finish, withPlace}
 
@@ -140,6 +140,7 @@ stand (high i k) = elsewhere
 stand (dataLow v k) = elsewhere
 stand (dataHigh v k) = elsewhere
 stand (keep e) = elsewhere
+stand (budget k) = elsewhere
 stand takeEdge = taking
 stand choose = elsewhere
 

@@ -1,6 +1,8 @@
 -- Document 01, "The table": what a table is. Its lists have no padding.
 use mathlib.Core.List.{List, []}
+use mathlib.Core.Option.{Option, none}
 use Prim.Native.Nat.{ℕ}
+use lib.Dec.{leb}
 use lib.ListN.{length, getD}
 use Rattle.model.specs.declared.Action.the-variants.{Internal}
 use Rattle.model.specs.declared.Edge.{Edge}
@@ -10,10 +12,13 @@ use Rattle.model.specs.declared.DataGuard.{DataGuard}
 use Rattle.model.specs.declared.Update.{Update}
 use Rattle.model.specs.declared.Pair.{Pair}
 use Rattle.model.specs.declared.Sizes.{Sizes}
+pub use Rattle.model.specs.declared.TableHeader.{TableHeader}
 
 -- An edge with the lists beside it: clock bounds, data bounds, and the items: the updates of an internal edge, the pairs of a receive edge.
 pub record Arc : Type 0 where
   pub edge : Edge
+  -- the work budget of a version 3 table; none in the others
+  pub budget : Option ℕ
   pub clockGuards : List ClockGuard
   pub dataGuards : List DataGuard
   pub updates : List Update
@@ -39,9 +44,14 @@ pub record Read : Type 0 where
   pub table : Table
   pub horizon : ℕ
 
+-- what the header tells of the components: edges have a budget in "Table version 3"
+abbrev pub headerOf : Read → TableHeader
+headerOf t = record { channels = t .table .channels; budgets = leb 3 (t .version) }
+
 -- what the ranges of a component's numbers depend on
-abbrev pub sizesOf : ℕ → Component → Sizes
-sizesOf channels C = record { channels = channels; locations = length (C .locations); clocks = C .clocks; variables = C .variables }
+abbrev pub sizesOf : TableHeader → Component → Sizes
+sizesOf h C =
+    record { channels = h .channels; locations = length (C .locations); clocks = C .clocks; variables = C .variables; budgets = h .budgets }
 
 -- "Everything is numbered from 0." What stands at a number that is absent:
 abbrev pub noLocation : Location
@@ -51,6 +61,7 @@ abbrev pub noArc : Arc
 noArc =
     record {
       edge = record { source = 0; destination = 0; mask = 0; action = Internal };
+      budget = none;
       clockGuards = [];
       dataGuards = [];
       updates = [];

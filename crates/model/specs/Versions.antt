@@ -1,20 +1,23 @@
 -- Document 01 as it stood before document 02's wishes 2, 3 and 6, kept to say what tables of version 1 got: their reader, checks 10 to 12, schedule,
 -- program and calls, not defined through those of today. What a table of version 1 got then, it gets now, with 15 to 17 read as 11 (the laws are in
--- proofs/Reader/Versions.antt).
--- Where document 01's definition still stands as it was (a component's parts, the passages, a node's bytes, the run's statements), it is used.
+-- proofs/Reader/Versions.antt). And what stood before wish 8, kept to say what tables of versions 1 and 2 got: the reader, the choice, the program.
+-- Where document 01's definition still stands as it was (a component's parts, the passages, the run's statements), it is used.
 use mathlib.Core.Bool.{Bool, false, cond, _&&_, not}
 use mathlib.Core.List.{List, [], _∷_, _++_, map}
-use Prim.Native.Nat.{ℕ, _+_, _*_}
+use mathlib.Core.Option.{Option, none}
+use Prim.Native.Nat.{ℕ, suc, _+_, _*_}
 use lib.Dec.{leb, ltb, eqb}
+use lib.IntN.{ℤ}
 use lib.ListN.{length, drop, replicate}
+use Rattle.model.specs.declared.Location.{Location}
 use Rattle.model.specs.declared.Verdict.{Verdict}
 use Rattle.model.specs.Lists.{any, only, below, first, be16, each, Answer, accepted, refused, _after_}
-use Rattle.model.specs.Table.{Component, Table, Read, size}
-use Rattle.model.specs.Reader.{byte, word, readComponents, lengthFine, countFine}
-use Rattle.model.specs.Window.{channelOf}
+use Rattle.model.specs.Table.{Arc, Component, Table, Read, size, locationOf}
+use Rattle.model.specs.Reader.{byte, word, readComponents, lengthFine, countFine, bodyStart, bandsFine, readWith}
+use Rattle.model.specs.Window.{Entry, Pick, readyOf, pastOf, dataHolds, windowOf, better, channelOf}
 use Rattle.model.specs.Schedule.{Passage, passageArc, names, own, others, schedule, sevenOf}
 use Rattle.model.specs.Checks.{isSend, isReceive, two, faultOf, limit}
-use Rattle.model.specs.Program.{nodeBytes}
+use Rattle.model.specs.Program.{Statement, trial, high, keep, takeEdge, clockTests, dataTests, edgeBlock, blockBytes, startBytes}
 use Rattle.model.specs.Run.{Setting, readyOfNth, run, observationBytes}
 use Rattle.model.specs.Calls.{Call, RunCall, laid, verdictOf, scheduleWith, bytesWith, notRun, ran}
 use Rattle.model.specs.Meetings.{MeetingsCall, withMet, listOr, about}
@@ -35,10 +38,19 @@ readWith01 bs l =
 unfoldable pub readTable01 : List ℕ → Answer Read
 unfolding readComponents
 readTable01 bs =
-    let fourth = (readComponents (byte bs 4) (byte bs 3) 0 (drop 7 bs) after λ l. accepted (readWith01 bs l)) in
+    let fourth = (readComponents (record { channels = byte bs 4; budgets = false }) (byte bs 3) 0 (drop 7 bs) after λ l. accepted (readWith01 bs l)) in
     let third = cond (countFine bs) fourth (refused 3 255) in
     let second = cond (lengthFine bs) third (refused 2 255) in
     cond (eqb (byte bs 0) 1) second (refused 1 255)
+
+-- as wish 2 left them: "Table version 2 adds .. one byte per channel with its band", and no edge has a budget
+unfoldable pub readTable12 : List ℕ → Answer Read
+unfolding readComponents
+readTable12 bs =
+    let fourth = (readComponents (record { channels = byte bs 4; budgets = false }) (byte bs 3) 0 (drop (bodyStart bs) bs) after λ l. accepted (readWith bs l)) in
+    let third = cond (countFine bs && bandsFine bs) fourth (refused 3 255) in
+    let second = cond (lengthFine bs) third (refused 2 255) in
+    cond (leb 1 (byte bs 0) && leb (byte bs 0) 2) second (refused 1 255)
 
 -- ## 7 to 12
 
@@ -78,13 +90,63 @@ checked01 T H S =
 abbrev pub acceptedScheduleOf01 : Read → Answer (List Passage)
 acceptedScheduleOf01 t = schedule limit (t .table) (t .horizon) after λ S. checked01 (t .table) (t .horizon) S
 
--- ## The program
+-- ## The rule before wish 8, and the program: "Programs of versions 1 and 2 are compared with the earlier rule"
 
--- "Version 1; total length (2 bytes); component count; H (2 bytes)."
+-- "The edge is a candidate if they hold and ready < end."
+abbrev pub candidate12 : Location → Arc → List ℕ → List ℤ → Bool
+candidate12 l a xs vs = dataHolds (a .dataGuards) vs && ltb (suc (readyOf (a .clockGuards) xs)) (pastOf l (a .clockGuards) xs)
+
+abbrev pub considered12 : Location → ℕ → List ℕ → List ℤ → ℕ → Arc → Option Pick → Option Pick
+considered12 l here xs vs e a k = cond (eqb (a .edge .source) here && candidate12 l a xs vs) (better k (windowOf l e a xs)) k
+
+unfoldable pub chosen12 : Location → ℕ → List ℕ → List ℤ → ℕ → List Arc → Option Pick → Option Pick
+chosen12 l here xs vs e [] k = k
+chosen12 l here xs vs e (a ∷ as′) k = chosen12 l here xs vs (suc e) as′ (considered12 l here xs vs e a k)
+
+unfoldable pub choice12 : Component → Entry → Option Pick
+unfolding chosen12
+choice12 C at = chosen12 (locationOf C (at .location)) (at .location) (at .clocks) (at .values) 0 (C .arcs) none
+
+-- "0A trial; 0C high for the invariant; per clock bound ..; per data bound ..; 0F keep, k = edge"
+abbrev pub trialOf12 : Location → ℕ → Arc → List Statement
+trialOf12 l e a = trial ∷ high (l .clock) (l .bound) ∷ (clockTests (a .clockGuards) ++ (dataTests (a .dataGuards) ++ (keep e ∷ [])))
+
+unfoldable pub trials12 : Location → ℕ → ℕ → List Arc → List Statement
+trials12 l here e [] = []
+trials12 l here e (a ∷ as′) = cond (eqb (a .edge .source) here) (trialOf12 l e a ++ trials12 l here (suc e) as′) (trials12 l here (suc e) as′)
+
+-- "Location block: per edge from it ..; last 10 take."
+unfoldable pub locationBlock12 : Component → ℕ → List Statement
+unfolding trials12
+locationBlock12 C here = trials12 (locationOf C here) here 0 (C .arcs) ++ (takeEdge ∷ [])
+
+-- "for each location's block, then each edge's block"
+unfoldable pub blocks12 : Component → List (List Statement)
+unfolding locationBlock12 edgeBlock
+blocks12 C = map (locationBlock12 C) (below (length (C .locations))) ++ map (edgeBlock C) (below (length (C .arcs)))
+
+-- "Per component: length, these two bytes included (2 bytes); locations; edges; initial location; a zero byte; [starts]; then those blocks in that order."
+unfoldable pub nodeBody12 : Component → List ℕ
+unfolding blocks12 startBytes blockBytes each
+nodeBody12 C =
+    (length (C .locations) ∷ length (C .arcs) ∷ C .initial ∷ 0 ∷ []) ++ (startBytes 0 (blocks12 C) ++ each blockBytes (blocks12 C))
+
+unfoldable pub nodeBytes12 : Component → List ℕ
+unfolding nodeBody12
+nodeBytes12 C = be16 (2 + length (nodeBody12 C)) ++ nodeBody12 C
+
+-- "A program begins with its table's version"; "total length (2 bytes); component count; H (2 bytes)"
+unfoldable pub programBytes12 : Read → List ℕ
+unfolding each nodeBytes12
+programBytes12 t =
+    let rest = each nodeBytes12 (t .table .components) in
+    (t .version ∷ be16 (6 + length rest)) ++ ((size (t .table) ∷ be16 (t .horizon)) ++ rest)
+
+-- document 01's: "Version 1; total length (2 bytes); component count; H (2 bytes)."
 unfoldable pub programBytes01 : Read → List ℕ
-unfolding each nodeBytes
+unfolding each nodeBytes12
 programBytes01 t =
-    let rest = each nodeBytes (t .table .components) in
+    let rest = each nodeBytes12 (t .table .components) in
     (1 ∷ be16 (6 + length rest)) ++ ((size (t .table) ∷ be16 (t .horizon)) ++ rest)
 
 -- ## The calls

@@ -71,18 +71,30 @@ dataHolds gs vs = all (λ g. dataWithin g vs) gs
 abbrev pub firstFailing : List DataGuard → List ℤ → ℕ
 firstFailing gs vs = placeOf (λ g. not (dataWithin g vs)) gs
 
--- "ready < end": a window of at least one tick's length
-abbrev pub longEnough : Location → Arc → List ℕ → Bool
-longEnough l a xs = ltb (suc (readyOf (a .clockGuards) xs)) (pastOf l (a .clockGuards) xs)
+-- Document 02, wish 8: "only if its window length, end − ready, is also at least the budget": of a window from ready up to, and without, past
+abbrev pub meetsBudget : Option ℕ → ℕ → ℕ → Bool
+meetsBudget none ready past = true
+meetsBudget (some b) ready past = ltb (ready + b) past
 
--- what keeps an edge from being a candidate: a data bound fails; or all hold and there is no window of at least one tick's length
+-- the same, of a window from ready to end, both included
+abbrev pub Spans : Option ℕ → ℕ → ℕ → Type 0
+Spans none ready end = Unit {0}
+Spans (some b) ready end = ready + b ≤ end
+
+-- "ready < end": a window of at least one tick's length, and of the budget's
+abbrev pub longEnough : Location → Arc → List ℕ → Bool
+longEnough l a xs =
+    ltb (suc (readyOf (a .clockGuards) xs)) (pastOf l (a .clockGuards) xs)
+    && meetsBudget (a .budget) (readyOf (a .clockGuards) xs) (pastOf l (a .clockGuards) xs)
+
+-- what keeps an edge from being a candidate: a data bound fails; or all hold and there is no window of at least one tick's length, and of the budget's
 abbrev pub blocked : Entry → Arc → Bool
 blocked at a = not (dataHolds (a .dataGuards) (at .values))
 
 abbrev pub windowless : Location → Entry → Arc → Bool
 windowless l at a = dataHolds (a .dataGuards) (at .values) && not (longEnough l a (at .clocks))
 
--- "The edge is a candidate if they hold and ready < end."
+-- "The edge is a candidate if they hold and ready < end", and its window is long enough for the budget.
 abbrev pub candidate : Location → Arc → List ℕ → List ℤ → Bool
 candidate l a xs vs = dataHolds (a .dataGuards) vs && longEnough l a xs
 

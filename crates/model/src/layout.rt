@@ -54,6 +54,15 @@ pub const EDGE_ITEMS: usize = 6;
 
 pub const EDGE_HEADER: usize = 7;
 
+// Document 02, wish 8: "a 2-byte budget (0 to 60,000), a part of its own, after each edge's 7 bytes", in version 3.
+pub const BUDGET_VERSION: u8 = 3;
+
+pub const EDGE_BUDGET: usize = 7;
+
+pub const BUDGET_WIDTH: usize = 2;
+
+pub const MOST_BUDGET: u16 = 60000;
+
 // "Clock bound, 5 bytes: clock, low, high. Data bound, 5 bytes: variable, low, high."
 pub const GUARD_SUBJECT: usize = 0;
 

@@ -51,12 +51,19 @@ pub struct Pair {
     pub location: u8,
 }
 
+// What a table's header tells of its components: the channels, and whether edges have a budget.
+pub struct TableHeader {
+    pub channels: u8,
+    pub budgets: bool,
+}
+
 // What the ranges of a component's numbers depend on.
 pub struct Sizes {
     pub channels: u8,
     pub locations: u8,
     pub clocks: u8,
     pub variables: u8,
+    pub budgets: bool,
 }
 
 // The answer of a check: accepted, or refused with a number and the component concerned.

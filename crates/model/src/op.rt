@@ -34,3 +34,6 @@ pub const KEEP: u8 = 0x0F;
 pub const TAKE: u8 = 0x10;
 
 pub const CHOOSE: u8 = 0x11;
+
+// Document 02, wish 8: "A new statement 12, k = budget".
+pub const BUDGET: u8 = 0x12;

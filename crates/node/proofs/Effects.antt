@@ -5,6 +5,7 @@ use mathlib.Core.Logic.{_⊎_, inl, inr}
 use mathlib.Core.List.{List}
 use Prim.Native.Nat.{ℕ, zero, suc, _+_, _-_, _≤_, _<_}
 use native.Mathlib.Omega.{arith}
+use native.Mathlib.Decide.{ℕ-discrete}
 use borrow.Author.Tests.{eq-eqb, ne-eqb, lt-ltb, le-ltb, ltb-true, ltb-false}
 use lib.Dec.{ltb}
 use lib.IntN.{ℤ, pos, _+ℤ_}
@@ -18,11 +19,11 @@ use Rattle.node.specs.declared.Trial.{Trial}
 use Rattle.node.specs.declared.Kept.{Kept}
 use Rattle.node.specs.declared.Node.{Node}
 use Rattle.node.specs.Views.{restAt, nodeOf, opIn, Executed, Tried, Grown}
-use Rattle.node.specs.After.{newTrial, raisedTo, loweredTo, metBy, keptBy, clocked, valued, entered, trying, keeping, sleeping, moved, passing, clockTried, valueTried, clockSet, valueSet, effects, effect, edgeTaken, blockChosen, onward, after}
+use Rattle.node.specs.After.{newTrial, raisedTo, loweredTo, metBy, spansBy, keptBy, clocked, valued, entered, trying, keeping, sleeping, moved, passing, clockTried, valueTried, clockSet, valueSet, effects, effect, edgeTaken, blockChosen, onward, after}
 use Rattle.node.proofs.Ops.{Op, absent, present, Opens, op-is}
 use Rattle.node.proofs.Held.{still, sleep-grown, clock-grown}
-use Rattle.node.proofs.Trials.{lowered-is, kept-is}
-use Rattle.node.proofs.Steps.{from, slept, idle, values-past, value-set, value-added, clocks-past, clock-ages, clock-zero, enters-paired, enters, trial-new, trial-low, trial-high, trial-data-low, trial-data-high, trial-kept}
+use Rattle.node.proofs.Trials.{spanned-is, lowered-is, kept-is}
+use Rattle.node.proofs.Steps.{trial-budget, from, slept, idle, values-past, value-set, value-added, clocks-past, clock-ages, clock-zero, enters-paired, enters, trial-new, trial-low, trial-high, trial-data-low, trial-data-high, trial-kept}
 use Rattle.node.proofs.Moves.{finish-none, finish-on, take-some, take-grown, choose-goes, moved-grown}
 
 -- the op k places behind 0A
@@ -118,6 +119,9 @@ module _ (h : List ℕ) (held : Counts) (r : Node) where
       thirteen (inl e) = ap (trying r) (f ∙ rw (eq-eqb (byte h 0) 13 e, g)) ∙ sym (effect-at 13 e)
       thirteen (inr l) = ap (trying r) (f ∙ rw (ne-eqb (byte h 0) 13 (λ e. omega arith), g)) ∙ sym (effect-at 14 (omega arith))
 
+  pub budget-is : (x : Trial) → byte h 0 ≡ 18 → x ≡ metBy (r .tried) (spansBy (r .tried) (word h 2)) → trying r x ≡ effect h held r
+  budget-is x e f = ap (trying r) f ∙ sym (effect-at 18 e)
+
   pub keep-is : (k : Kept) → byte h 0 ≡ 15 → k ≡ keptBy (r .tried) (byte h 3) (r .kept) → keeping r k ≡ effect h held r
   keep-is k e f = ap (keeping r) f ∙ sym (effect-at 15 e)
 
@@ -154,40 +158,43 @@ module _ (h : List ℕ) (held : Counts) (r : Node) where
         go false f = enters h held r fits e f
 
     -- a trial's op, by its distance from 0A
-    by-trial : (k : ℕ) → byte h 0 ≡ ten k → k < 6 → Executed h held r (getD (effects h held r) (ten k) r)
-    by-trial zero e l = trial-new h held r fits newTrial e refl
-    by-trial (suc zero) e l = trial-low h held r fits (raisedTo (r .tried) (word h 2) clock) e refl
-    by-trial (suc (suc zero)) e l = trial-high h held r fits (loweredTo (r .tried) (word h 2) clock) e (lowered-is (r .tried) (word h 2) clock)
-    by-trial (suc (suc (suc zero))) e l = trial-data-low h held r fits (metBy (r .tried) (leZ (complement (word h 2)) value)) e refl
-    by-trial (suc (suc (suc (suc zero)))) e l = trial-data-high h held r fits (metBy (r .tried) (leZ value (complement (word h 2)))) e refl
-    by-trial (suc (suc (suc (suc (suc zero))))) e l = trial-kept h held r fits (keptBy (r .tried) (byte h 3) (r .kept)) e (kept-is (r .tried) (byte h 3) (r .kept))
-    by-trial (suc (suc (suc (suc (suc (suc k)))))) e l = absurd (omega arith)
+    by-trial : (k : ℕ) → byte h 0 ≡ ten k → k < 9 → (k ≡ 6 → ⊥) → (k ≡ 7 → ⊥) → Executed h held r (getD (effects h held r) (ten k) r)
+    by-trial zero e l a b = trial-new h held r fits newTrial e refl
+    by-trial (suc zero) e l a b = trial-low h held r fits (raisedTo (r .tried) (word h 2) clock) e refl
+    by-trial (suc (suc zero)) e l a b = trial-high h held r fits (loweredTo (r .tried) (word h 2) clock) e (lowered-is (r .tried) (word h 2) clock)
+    by-trial (suc (suc (suc zero))) e l a b = trial-data-low h held r fits (metBy (r .tried) (leZ (complement (word h 2)) value)) e refl
+    by-trial (suc (suc (suc (suc zero)))) e l a b = trial-data-high h held r fits (metBy (r .tried) (leZ value (complement (word h 2)))) e refl
+    by-trial (suc (suc (suc (suc (suc zero))))) e l a b = trial-kept h held r fits (keptBy (r .tried) (byte h 3) (r .kept)) e (kept-is (r .tried) (byte h 3) (r .kept))
+    by-trial (suc (suc (suc (suc (suc (suc zero)))))) e l a b = absurd (a refl)
+    by-trial (suc (suc (suc (suc (suc (suc (suc zero))))))) e l a b = absurd (b refl)
+    by-trial (suc (suc (suc (suc (suc (suc (suc (suc zero)))))))) e l a b = trial-budget h held r fits (metBy (r .tried) (spansBy (r .tried) (word h 2))) e (spanned-is (r .tried) (word h 2))
+    by-trial (suc (suc (suc (suc (suc (suc (suc (suc (suc k))))))))) e l a b = absurd (omega arith)
 
-    by-op : (k : ℕ) → byte h 0 ≡ k → k < 16 → Executed h held r (getD (effects h held r) k r)
-    by-op zero e l = slept h held r fits e
-    by-op (suc zero) e l =
+    by-op : (k : ℕ) → byte h 0 ≡ k → k < 19 → (k ≡ 16 → ⊥) → (k ≡ 17 → ⊥) → Executed h held r (getD (effects h held r) k r)
+    by-op zero e l a b = slept h held r fits e
+    by-op (suc zero) e l a b =
         let z = complement (word h 2) in
         by-variable z (omega arith) (omega arith) (λ there. value-set h held r fits (set (r .values) (byte h 1) z) there e refl)
-    by-op (suc (suc zero)) e l =
+    by-op (suc (suc zero)) e l a b =
         let x = getD (r .values) (byte h 1) (pos 0) +ℤ complement (word h 2) in
         by-variable x (omega arith) (omega arith) (λ there. value-added h held r fits (set (r .values) (byte h 1) x) there e refl)
-    by-op (suc (suc (suc zero))) e l = idle h held r fits (omega arith) (omega arith)
-    by-op (suc (suc (suc (suc zero)))) e l = idle h held r fits (omega arith) (omega arith)
-    by-op (suc (suc (suc (suc (suc zero))))) e l = idle h held r fits (omega arith) (omega arith)
-    by-op (suc (suc (suc (suc (suc (suc zero)))))) e l = idle h held r fits (omega arith) (omega arith)
-    by-op (suc (suc (suc (suc (suc (suc (suc zero))))))) e l =
+    by-op (suc (suc (suc zero))) e l a b = idle h held r fits (omega arith) (omega arith)
+    by-op (suc (suc (suc (suc zero)))) e l a b = idle h held r fits (omega arith) (omega arith)
+    by-op (suc (suc (suc (suc (suc zero))))) e l a b = idle h held r fits (omega arith) (omega arith)
+    by-op (suc (suc (suc (suc (suc (suc zero)))))) e l a b = idle h held r fits (omega arith) (omega arith)
+    by-op (suc (suc (suc (suc (suc (suc (suc zero))))))) e l a b =
         let x = getD (r .clocks) (byte h 1) 0 + (r .n + r .d) in
         by-clock x (omega arith) (omega arith) (λ there. clock-ages h held r fits (set (r .clocks) (byte h 1) x) there e refl)
-    by-op (suc (suc (suc (suc (suc (suc (suc (suc zero)))))))) e l =
+    by-op (suc (suc (suc (suc (suc (suc (suc (suc zero)))))))) e l a b =
         by-clock 0 (omega arith) (omega arith) (λ there. clock-zero h held r fits (set (r .clocks) (byte h 1) 0) there e refl .0)
-    by-op (suc (suc (suc (suc (suc (suc (suc (suc (suc zero))))))))) e l = by-message e
-    by-op (suc (suc (suc (suc (suc (suc (suc (suc (suc (suc k)))))))))) e l = by-trial k e (omega arith)
+    by-op (suc (suc (suc (suc (suc (suc (suc (suc (suc zero))))))))) e l a b = by-message e
+    by-op (suc (suc (suc (suc (suc (suc (suc (suc (suc (suc k)))))))))) e l a b = by-trial k e (omega arith) (λ q. a (omega arith)) (λ q. b (omega arith))
 
-    pub executes : byte h 0 < 16 → Executed h held r (effect h held r)
-    executes l = by-op (byte h 0) refl l
+    pub executes : byte h 0 < 19 → (byte h 0 ≡ 16 → ⊥) → (byte h 0 ≡ 17 → ⊥) → Executed h held r (effect h held r)
+    executes l a b = by-op (byte h 0) refl l a b
 
     pub tries : (x : Trial) → byte h 0 < 16 → trying r x ≡ effect h held r → Tried h held r x
-    tries x l e = subst (Executed h held r) (sym e) (executes l)
+    tries x l e = subst (Executed h held r) (sym e) (executes (omega arith) (λ q. omega arith) (λ q. omega arith))
 
     pub clock-tries : (x y : Trial) (k : ℕ) → 11 ≤ byte h 0 → byte h 0 ≤ 12 → y ≡ clockTried h x k → x ≡ r .tried → k ≡ clock → Tried h held r y
     clock-tries x y k a b e f g = tries y (omega arith) (clock-tried-is y k a b (e ∙ ap (λ (z : Trial). clockTried h z k) f) g)
@@ -220,7 +227,10 @@ module _ (h : List ℕ) (held : Counts) (r : Node) where
       trial-grows (suc (suc (suc zero))) = still r _ refl refl refl
       trial-grows (suc (suc (suc (suc zero)))) = still r _ refl refl refl
       trial-grows (suc (suc (suc (suc (suc zero))))) = still r _ refl refl refl
-      trial-grows (suc (suc (suc (suc (suc (suc k)))))) = still r r refl refl refl
+      trial-grows (suc (suc (suc (suc (suc (suc zero)))))) = still r r refl refl refl
+      trial-grows (suc (suc (suc (suc (suc (suc (suc zero))))))) = still r r refl refl refl
+      trial-grows (suc (suc (suc (suc (suc (suc (suc (suc zero)))))))) = still r _ refl refl refl
+      trial-grows (suc (suc (suc (suc (suc (suc (suc (suc (suc k))))))))) = still r r refl refl refl
 
       go : (k : ℕ) → Grown r (getD (effects h held r) k r)
       go zero = sleep-grown r _ refl refl refl
@@ -259,38 +269,35 @@ module _ (p : List ℕ) (held : Counts) (r : Node) where
   pub after-choose : op ≡ 17 → after p held r ≡ blockChosen p r
   after-choose o = rw (ne-eqb op 255 (λ e. omega arith), ne-eqb op 16 (λ e. omega arith), eq-eqb op 17 o)
 
-  pub after-on : op < 16 → after p held r ≡ effect (drop (r .pc) p) held (onward p r)
-  after-on l = rw (ne-eqb op 255 (λ e. omega arith), ne-eqb op 16 (λ e. omega arith), ne-eqb op 17 (λ e. omega arith))
+  pub after-on : op < 19 → (op ≡ 16 → ⊥) → (op ≡ 17 → ⊥) → after p held r ≡ effect (drop (r .pc) p) held (onward p r)
+  after-on l a b = rw (ne-eqb op 255 (λ e. omega arith), ne-eqb op 16 a, ne-eqb op 17 b)
 
   -- h are the bytes from the program counter on
-  pub after-by : (h : List ℕ) → h ≡ drop (r .pc) p → op < 16 → (long : ℕ) → long ≡ statementLength h → (q : Node) → q ≡ effect h held (moved r (r .pc + long)) → q ≡ after p held r
-  after-by h there l long e q f =
+  pub after-by : (h : List ℕ) → h ≡ drop (r .pc) p → op < 19 → (op ≡ 16 → ⊥) → (op ≡ 17 → ⊥) → (long : ℕ) → long ≡ statementLength h → (q : Node) → q ≡ effect h held (moved r (r .pc + long)) → q ≡ after p held r
+  after-by h there l a b long e q f =
       f
       ∙ ap (λ (n : ℕ). effect h held (moved r (r .pc + n))) e
       ∙ ap (λ (bs : List ℕ). effect bs held (moved r (r .pc + statementLength bs))) there
-      ∙ sym (after-on l)
+      ∙ sym (after-on l a b)
 
   -- one of these, always
   data Case : Type 0 where
     nowhere : op ≡ 255 → Case
     taking : op ≡ 16 → Case
     choosing : op ≡ 17 → Case
-    on : Opens (drop (r .pc) p) op → op < 16 → Case
+    on : Opens (drop (r .pc) p) op → (op ≡ 16 → ⊥) → (op ≡ 17 → ⊥) → Case
 
   case-is : Case
   case-is = go (op-is (drop (r .pc) p))
     where
-      ends : Opens (drop (r .pc) p) op → 16 ≤ op → (op ≡ 16) ⊎ (17 ≤ op) → Case
-      ends o l (inl e) = taking e
-      ends o l (inr m) = choosing (omega (arith, o .low))
-
-      low : Opens (drop (r .pc) p) op → (t : Bool) → ltb op 16 ≡ t → Case
-      low o true e = on o (ltb-true op 16 e)
-      low o false e = ends o (ltb-false op 16 e) (from 16 op (ltb-false op 16 e))
+      ends : Opens (drop (r .pc) p) op → Dec (op ≡ 16) → Dec (op ≡ 17) → Case
+      ends o (yes e) d = taking e
+      ends o (no a) (yes e) = choosing e
+      ends o (no a) (no b) = on o a b
 
       go : Op (drop (r .pc) p) → Case
       go (absent a s) = nowhere a
-      go (present o f) = low (subst (Opens (drop (r .pc) p)) (sym f) o) (ltb op 16) refl
+      go (present o f) = ends (subst (Opens (drop (r .pc) p)) (sym f) o) (ℕ-discrete op 16) (ℕ-discrete op 17)
 
   -- The view of the registers is what the definition of a finished statement says, a take with nothing kept apart: the run does not allow that
   -- one, and the definition leads nowhere there.
@@ -304,10 +311,10 @@ module _ (p : List ℕ) (held : Counts) (r : Node) where
           ap (nodeOf p held) (after-take o ∙ taken-some p r (some o))
           ∙ take-some p held r (blockPlace p (byte p 2 + k .edge)) (r .t + r .d + k .ready) (k .end - k .ready) o (some o) refl refl refl
       go (choosing o) = ap (nodeOf p held) (after-choose o) ∙ choose-goes p held r (blockPlace p (r .location)) o refl
-      go (on o l) =
-          ap (nodeOf p held) (after-on l)
-          ∙ finish-on p held r (drop (r .pc) p) refl op refl l (statementLength (drop (r .pc) p)) refl (effect (drop (r .pc) p) held (onward p r))
-          (executes (drop (r .pc) p) held (onward p r) (o .fits) (omega (arith, o .first)))
+      go (on o a b) =
+          ap (nodeOf p held) (after-on (o .low) a b)
+          ∙ finish-on p held r (drop (r .pc) p) refl op refl (o .low) a b (statementLength (drop (r .pc) p)) refl (effect (drop (r .pc) p) held (onward p r))
+          (executes (drop (r .pc) p) held (onward p r) (o .fits) (omega (arith, o .first, o .low)) (λ e. a (sym (o .first) ∙ e)) (λ e. b (sym (o .first) ∙ e)))
 
   pub after-grows : r .n ≤ 65535 → r .d ≤ 65535 → r .kept .ready ≤ 65535 → Grown r (after p held r)
   after-grows n d k = go case-is
@@ -320,4 +327,4 @@ module _ (p : List ℕ) (held : Counts) (r : Node) where
       go (nowhere o) = rw (after-none o) (still r r refl refl refl)
       go (taking o) = rw (after-take o) (kept (r .kept .some))
       go (choosing o) = rw (after-choose o) (still r (blockChosen p r) refl refl refl)
-      go (on o l) = rw (after-on l) (moved-grown _ r _ (effect-grows (drop (r .pc) p) held (onward p r) n d))
+      go (on o a b) = rw (after-on (o .low) a b) (moved-grown _ r _ (effect-grows (drop (r .pc) p) held (onward p r) n d))

@@ -1,6 +1,8 @@
 -- The registers after the statement at the program counter: on to the next statement, to the edge's block, or to the location's. Assumes nothing.
 use mathlib.Core.Path.{_≡_, refl, ap, _∙_}
-use mathlib.Core.Bool.{true, false}
+use mathlib.Core.Bool.{Bool, true, false}
+use borrow.Author.Tests.{ltb-true, ltb-false}
+use lib.Dec.{ltb}
 use mathlib.Core.List.{List, [], _∷_}
 use mathlib.Core.Option.{Option, none, some}
 use Prim.Native.Nat.{ℕ, zero, suc, _+_, _-_, _≤_, _<_}
@@ -21,9 +23,17 @@ use Rattle.node.proofs.Held.{raise}
 pub inside : (p : List ℕ) (at k : ℕ) → Opens (drop at p) k → at + 4 ≤ length p
 inside p at k o = omega (arith, o .fits, length-drop at p)
 
--- an op that does not end its block is 15 at most
-pub below-ends : (bs : List ℕ) (k : ℕ) → Opens bs k → (k ≡ 16 → ⊥) → (k ≡ 17 → ⊥) → byte bs 0 ≤ 15
-below-ends bs k o a b = omega (arith, o .first, o .low)
+-- an op that does not end its block is 15 at most, or 18
+pub below-ends : (bs : List ℕ) (k : ℕ) → Opens bs k → (k ≡ 16 → ⊥) → (k ≡ 17 → ⊥) → 15 < byte bs 0 → byte bs 0 ≡ 18
+below-ends bs k o a b h = omega (arith, o .first, o .low)
+
+-- one that is neither keep nor budget is 14 at most
+pub below-keep : (k : ℕ) → (15 < k → k ≡ 18) → (k ≡ 15 → ⊥) → (k ≡ 18 → ⊥) → k ≤ 14
+below-keep k f a b = go (ltb 15 k) refl
+  where
+    go : (t : Bool) → ltb 15 k ≡ t → k ≤ 14
+    go true e = absurd (b (f (ltb-true 15 k e)))
+    go false e = omega (arith, ltb-false 15 k e)
 
 -- the list of decodings has a statement for each op but 6
 data Filled : ℕ → List (Option Statement) → Type 0 where
@@ -41,8 +51,8 @@ filled (gap f) (suc k) h n = filled f k (omega arith) (λ e. n (omega arith))
 pub known : (bs : List ℕ) (k : ℕ) → opIn bs ≡ k → (k ≡ 255 → ⊥) → (s : Statement) × (statementAt bs ≡ some s)
 known bs k o n =
     let w = opens bs k o n in
-    let eleven : Filled 7 (drop 7 (decodings bs)) = next (next (next (next (next (next (next (next (next (next (next over)))))))))) in
-    let all : Filled 0 (decodings bs) = next (next (next (next (next (next (gap eleven)))))) in
+    let twelve : Filled 7 (drop 7 (decodings bs)) = next (next (next (next (next (next (next (next (next (next (next (next over))))))))))) in
+    let all : Filled 0 (decodings bs) = next (next (next (next (next (next (gap twelve)))))) in
     let (s, e) = filled all k (w .low) (λ q. w .pairless (omega arith)) in
     (s, statement-op bs k o ∙ e)
 
@@ -52,12 +62,12 @@ module _ (p : List ℕ) (held : Counts) (r : Node) where
   finish-none o = rw (rest-none p (r .pc) (statement-op (drop (r .pc) p) 255 o))
 
   -- on to the next statement; h are the bytes from the program counter on
-  module _ (h : List ℕ) (there : h ≡ drop (r .pc) p) (k : ℕ) (o : opIn (drop (r .pc) p) ≡ k) (low : k < 16) (long : ℕ) (e : long ≡ statementLength h) where
+  module _ (h : List ℕ) (there : h ≡ drop (r .pc) p) (k : ℕ) (o : opIn (drop (r .pc) p) ≡ k) (low : k < 19) (notTake : k ≡ 16 → ⊥) (notChoose : k ≡ 17 → ⊥) (long : ℕ) (e : long ≡ statementLength h) where
     pub finish-on : (q : Node) → Executed h held (moved r (r .pc + long)) q → nodeOf p held q ≡ finish p (nodeOf p held r) (restAt p (r .pc))
     finish-on q f =
         let (s, g) = known (drop (r .pc) p) k o (λ z. omega arith) in
         let n : long ≡ statementLength (drop (r .pc) p) = e ∙ ap statementLength there in
-        f p s (ap statementAt there ∙ g) ∙ rw (rest-on p (r .pc) k o low g, n)
+        f p s (ap statementAt there ∙ g) ∙ rw (rest-on p (r .pc) k o low notTake notChoose g, n)
 
   -- take and choose end their block
   pub rest-take : opIn (drop (r .pc) p) ≡ 16 → restAt p (r .pc) ≡ takeEdge ∷ []

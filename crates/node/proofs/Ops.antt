@@ -22,7 +22,7 @@ use Rattle.node.proofs.Rest.{rest-is}
 pub record Opens (bs : List ℕ) (k : ℕ) : Type 0 where
   pub fits : 4 ≤ length bs
   pub first : byte bs 0 ≡ k
-  pub low : k < 18
+  pub low : k < 19
   pub pairless : k ≡ 6 → ⊥
 
 -- an op is there exactly if it is not 255
@@ -33,14 +33,14 @@ pub data Op (bs : List ℕ) : Type 0 where
 -- one of the two, always
 pub op-is : (bs : List ℕ) → Op bs
 unfolding statementAt
-op-is bs = go (leb 4 (length bs)) refl (ltb (byte bs 0) 18) refl (eqb (byte bs 0) 6) refl
+op-is bs = go (leb 4 (length bs)) refl (ltb (byte bs 0) 19) refl (eqb (byte bs 0) 6) refl
   where
-    go : (t : Bool) → leb 4 (length bs) ≡ t → (u : Bool) → ltb (byte bs 0) 18 ≡ u → (v : Bool) → eqb (byte bs 0) 6 ≡ v → Op bs
+    go : (t : Bool) → leb 4 (length bs) ≡ t → (u : Bool) → ltb (byte bs 0) 19 ≡ u → (v : Bool) → eqb (byte bs 0) 6 ≡ v → Op bs
     go false e u f v g = absent (rw e) (rw e)
-    go true e false f v g = absent (rw (e, f)) (rw e (List·getD-eq-default (decodings bs) none (ltb-false (byte bs 0) 18 f)))
+    go true e false f v g = absent (rw (e, f)) (rw e (List·getD-eq-default (decodings bs) none (ltb-false (byte bs 0) 19 f)))
     go true e true f true g = absent (rw (e, f, g)) (rw (e, eqb-true (byte bs 0) 6 g))
     go true e true f false g =
-        present (record { fits = leb-true 4 (length bs) e; first = refl; low = ltb-true (byte bs 0) 18 f; pairless = eqb-false (byte bs 0) 6 g }) (rw (e, f, g))
+        present (record { fits = leb-true 4 (length bs) e; first = refl; low = ltb-true (byte bs 0) 19 f; pairless = eqb-false (byte bs 0) 6 g }) (rw (e, f, g))
 
 -- the op that is known, in bytes
 pub opens : (bs : List ℕ) (k : ℕ) → opIn bs ≡ k → (k ≡ 255 → ⊥) → Opens bs k
@@ -53,7 +53,7 @@ opens bs k e n = go (op-is bs)
 -- and back
 pub op-of : (bs : List ℕ) (k : ℕ) → Opens bs k → opIn bs ≡ k
 op-of bs k o =
-    rw (le-leb 4 (length bs) (o .fits), o .first, lt-ltb k 18 (o .low), ne-eqb k 6 (o .pairless))
+    rw (le-leb 4 (length bs) (o .fits), o .first, lt-ltb k 19 (o .low), ne-eqb k 6 (o .pairless))
 
 either-way : (t : Bool) (n : ℕ) → cond t n n ≡ n
 either-way true n = refl
@@ -67,10 +67,10 @@ module _ (p : List ℕ) (at : ℕ) where
   pub op-pair : getD p at 0 ≡ 6 → opIn (drop at p) ≡ 255
   op-pair e = rw (first-of p at, e) (either-way (leb 4 (length (drop at p))) 255)
 
-  pub op-high : 18 ≤ getD p at 0 → opIn (drop at p) ≡ 255
-  op-high h = rw (first-of p at, le-ltb (getD p at 0) 18 h) (either-way (leb 4 (length (drop at p))) 255)
+  pub op-high : 19 ≤ getD p at 0 → opIn (drop at p) ≡ 255
+  op-high h = rw (first-of p at, le-ltb (getD p at 0) 19 h) (either-way (leb 4 (length (drop at p))) 255)
 
-  pub op-here : at + 4 ≤ length p → (getD p at 0 ≡ 6 → ⊥) → getD p at 0 < 18 → opIn (drop at p) ≡ getD p at 0
+  pub op-here : at + 4 ≤ length p → (getD p at 0 ≡ 6 → ⊥) → getD p at 0 < 19 → opIn (drop at p) ≡ getD p at 0
   op-here h n l =
       op-of (drop at p) (getD p at 0) (record { fits = simp length-drop (omega arith); first = first-of p at; low = l; pairless = n })
 
@@ -94,11 +94,11 @@ statement-op bs k e = statement-is bs ∙ ap (λ (n : ℕ). getD (decodings bs) 
 
 -- ## What stands behind it
 
--- an op below 16 does not end its block
-pub onward : (bs : List ℕ) (k : ℕ) → Opens bs k → k < 16 → endsBlock bs ≡ false
-onward bs k o h =
+-- an op that is neither take nor choose does not end its block
+pub onward : (bs : List ℕ) (k : ℕ) → Opens bs k → (k ≡ 16 → ⊥) → (k ≡ 17 → ⊥) → endsBlock bs ≡ false
+onward bs k o a c =
     let n : byte bs 0 ≡ k = o .first in
-    rw (ne-eqb (byte bs 0) 16 (λ e. omega arith), ne-eqb (byte bs 0) 17 (λ e. omega arith))
+    rw (ne-eqb (byte bs 0) 16 (λ e. a (sym n ∙ e)), ne-eqb (byte bs 0) 17 (λ e. c (sym n ∙ e)))
 
 module _ (p : List ℕ) (at : ℕ) where
   -- no statement, no rest
@@ -110,9 +110,9 @@ module _ (p : List ℕ) (at : ℕ) where
       → restAt p at ≡ s ∷ cond (endsBlock (drop at p)) [] (restAt p (at + statementLength (drop at p)))
   rest-some e = rest-is p at ∙ rw e
 
-  pub rest-on : (k : ℕ) {s : Statement} → opIn (drop at p) ≡ k → k < 16 → statementAt (drop at p) ≡ some s
+  pub rest-on : (k : ℕ) {s : Statement} → opIn (drop at p) ≡ k → k < 19 → (k ≡ 16 → ⊥) → (k ≡ 17 → ⊥) → statementAt (drop at p) ≡ some s
       → restAt p at ≡ s ∷ restAt p (at + statementLength (drop at p))
-  rest-on k {s} o h e = rest-some e ∙ rw (onward (drop at p) k (opens (drop at p) k o (λ q. omega arith)) h)
+  rest-on k {s} o h a c e = rest-some e ∙ rw (onward (drop at p) k (opens (drop at p) k o (λ q. omega arith)) a c)
 
 -- ## What a node stands at
 

@@ -14,9 +14,9 @@ use lib.ListN.{length, take, drop, getD, set}
 use lib.Seq.{take-set-lt, getD-take}
 use Rattle.model.specs.Reader.{byte, word, complement}
 use Rattle.model.specs.Window.{clockAt, valueAt, inRange}
-use Rattle.model.specs.Program.{Statement, sleep, setTo, addTo, done, send, listen, age, reset, enter, trial, low, high, dataLow, dataHigh, keep}
+use Rattle.model.specs.Program.{Statement, sleep, setTo, addTo, done, send, listen, age, reset, enter, trial, low, high, dataLow, dataHigh, keep, budget}
 use Rattle.model.specs.Places.{listAt}
-use Rattle.model.specs.Machine.{pairAt, decodings, statementAt, exec, noTrial, raised, lowered, met, keeps, withTrial}
+use Rattle.model.specs.Machine.{pairAt, decodings, statementAt, exec, noTrial, raised, lowered, met, spans, keeps, withTrial}
 use Rattle.node.specs.declared.Counts.{Counts}
 use Rattle.node.specs.declared.Trial.{Trial}
 use Rattle.node.specs.declared.Kept.{Kept}
@@ -180,6 +180,10 @@ module _ (h : List ℕ) (held : Counts) (r : Node) (fits : 4 ≤ length h) where
         → trialOf x ≡ met (trialOf (r .tried)) (leZ (valueAt (take (held .variables) (r .values)) (byte h 1)) (complement (word h 2))) → Tried h held r x
     unfolding exec
     trial-data-high e f = try-op 14 (dataHigh (byte h 1) (complement (word h 2))) x e refl (λ p. rw f)
+
+    pub trial-budget : byte h 0 ≡ 18 → trialOf x ≡ met (trialOf (r .tried)) (spans (trialOf (r .tried)) (word h 2) (trialOf (r .tried) .end)) → Tried h held r x
+    unfolding exec
+    trial-budget e f = try-op 18 (budget (word h 2)) x e refl (λ p. rw f)
 
   pub trial-kept : (k : Kept) → byte h 0 ≡ 15 → keptOf k ≡ keeps (trialOf (r .tried)) (byte h 3) (trialOf (r .tried) .end) (keptOf (r .kept))
       → Executed h held r (keeping r k)

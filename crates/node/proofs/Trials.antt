@@ -4,10 +4,10 @@ use mathlib.Core.Bool.{Bool, true, false, _&&_}
 use Prim.Native.Nat.{ℕ, _-_, _≤_, _<_}
 use borrow.Author.Tests.{leb-true, leb-false, lt-ltb, le-ltb}
 use lib.Dec.{leb, ltb}
-use Rattle.model.specs.Machine.{lowered, keeps}
+use Rattle.model.specs.Machine.{lowered, met, spans, keeps}
 use Rattle.node.specs.declared.Trial.{Trial}
 use Rattle.node.specs.declared.Kept.{Kept}
-use Rattle.node.specs.After.{loweredTo, keptBy}
+use Rattle.node.specs.After.{loweredTo, metBy, spansBy, keptBy}
 use Rattle.node.specs.Views.{trialOf, keptOf}
 
 -- the end lowered
@@ -15,6 +15,14 @@ pub lowered-is : (x : Trial) (k clock : ℕ) → trialOf (loweredTo x k clock) �
 lowered-is x k clock = go (x .ended) refl
   where
     go : (t : Bool) → x .ended ≡ t → trialOf (loweredTo x k clock) ≡ lowered (trialOf x) k clock
+    go true e = rw e
+    go false e = rw e
+
+-- a window that is too short
+pub spanned-is : (x : Trial) (k : ℕ) → trialOf (metBy x (spansBy x k)) ≡ met (trialOf x) (spans (trialOf x) k (trialOf x .end))
+spanned-is x k = go (x .ended) refl
+  where
+    go : (t : Bool) → x .ended ≡ t → trialOf (metBy x (spansBy x k)) ≡ met (trialOf x) (spans (trialOf x) k (trialOf x .end))
     go true e = rw e
     go false e = rw e
 

@@ -34,6 +34,10 @@ loweredTo x k clock =
 abbrev pub metBy : Trial → Bool → Trial
 metBy x b = record { ready = x .ready; ended = x .ended; end = x .end; good = x .good && b }
 
+-- "A new statement 12 .. fails the trial of a shorter window"
+abbrev pub spansBy : Trial → ℕ → Bool
+spansBy x k = cond (x .ended) (leb (x .ready + k) (x .end)) true
+
 -- "Keep applies the candidate rule": a candidate that is ready earlier than the edge kept takes its place
 abbrev pub keptBy : Trial → ℕ → Kept → Kept
 keptBy x edge k =
@@ -126,6 +130,10 @@ module _ (h : List ℕ) (held : Counts) (r : Node) where
       ∷ trying r (metBy (r .tried) (leZ z value))
       ∷ trying r (metBy (r .tried) (leZ value z))
       ∷ keeping r (keptBy (r .tried) (numberIn h) (r .kept))
+      -- 10 take and 11 choose lead to another place: below; 12 budget
+      ∷ r
+      ∷ r
+      ∷ trying r (metBy (r .tried) (spansBy (r .tried) (word h 2)))
       ∷ []
 
   abbrev pub effect : Node

@@ -60,7 +60,7 @@ pub record Within (m : ℕ) (r : Node) : Type 0 where
 -- the op of the statement at the front; 255 where there is none
 abbrev pub opIn : List ℕ → ℕ
 opIn bs =
-    let known = cond (ltb (byte bs 0) 18 && not (eqb (byte bs 0) 6)) (byte bs 0) 255 in
+    let known = cond (ltb (byte bs 0) 19 && not (eqb (byte bs 0) 6)) (byte bs 0) 255 in
     cond (leb 4 (length bs)) known 255
 
 -- an addition at the front stays in range

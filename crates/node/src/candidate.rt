@@ -2,7 +2,7 @@
 ghost use mathlib.Core.Path.{_≡_};
 ghost use mathlib.Core.Bool.{cond};
 ghost use Prim.Native.Nat.{_-_, min, max};
-ghost use Rattle.node.specs.After.{newTrial, raisedTo, loweredTo, metBy, keptBy};
+ghost use Rattle.node.specs.After.{newTrial, raisedTo, loweredTo, metBy, spansBy, keptBy};
 use crate::Kept;
 use crate::Trial;
 use crate::wide64;
@@ -87,6 +87,16 @@ pub fn met(trial: Trial, holds: bool) -> Trial
         end: trial.end,
         good: parts::both(trial.good, holds),
     }
+}
+
+// Whether the window so far is as long as the budget; one whose end was not lowered yet is.
+pub fn spans(trial: Trial, budget: u16) -> bool
+    ensures { λ r. ⌜ r ≡ spansBy trial budget ⌝ }
+{
+    if !trial.ended {
+        return true;
+    }
+    parts::word32(trial.ready) + parts::word32(budget) <= parts::word32(trial.end)
 }
 
 // Keep applies the candidate rule: the earlier ready delay, on a tie the edge kept before.

@@ -18,7 +18,7 @@ ghost use Rattle.node.specs.After.{trying, clockTried, valueTried, effec
 use model::op;
 
 // One past the last op, and what stands for the op where there is no statement to be carried out.
-pub const BEYOND: u8 = 0x12;
+pub const BEYOND: u8 = 0x13;
 
 pub const NOWHERE: u8 = 0xFF;
 
@@ -174,12 +174,19 @@ fn tried(statement: &[u8], held: Counts, registers: Node) -> Trial
     by_value(statement, trial, value_at(values, held.variables, a))
 }
 
-// A statement of a trial (0A to 0F).
+// A statement of a trial (0A to 0F, and 12).
 fn try_statement(statement: &[u8], held: Counts, registers: Node) -> Node
-    requires { ⌜ (4 ≤ length (now statement)) × (10 ≤ byte (now statement) 0) × (byte (now statement) 0 ≤ 15) × Held held ⌝ }
+    requires { ⌜ (4 ≤ length (now statement)) × (10 ≤ byte (now statement) 0) × (15 < byte (now statement) 0 → byte (now statement) 0 ≡ 18) × Held held ⌝ }
     ensures { λ next. ⌜ next ≡ effect (now (statement .entry)) held registers ⌝ }
 {
     let mut next = registers;
+    if statement[0] == op::BUDGET {
+        let budget = parts::word_at(statement, 2);
+        let trial = registers.tried;
+        let met = candidate::met(trial, candidate::spans(trial, budget));
+        next.tried = met;
+        return next;
+    }
     if statement[0] == op::KEEP {
         let kept = candidate::keeps(registers.tried, statement[3], registers.kept);
         next.kept = kept;

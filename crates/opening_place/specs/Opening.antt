@@ -69,7 +69,7 @@ scheduleStop limit T H =
 -- ## Why: 8, "Is there a candidate?"
 
 -- the edges that leave the location entered; of these are counted those whose data bounds fail (`blocked`), and those of the rest with no window of at
--- least one tick's length (`windowless`)
+-- least one tick's length, and of the budget's (`windowless`)
 abbrev pub leaving : Component → Entry → List Arc
 leaving C at = only (λ a. eqb (a .edge .source) (at .location)) (C .arcs)
 

@@ -17,7 +17,7 @@ entryWords o = field "Component " (o .component) ++ field ", passage " (o .passa
 abbrev pub edgesWords : RefusedOpening → List ℕ
 edgesWords o =
     cond (eqb (o .leaving) 0) (ascii ", which no edge leaves.\n")
-    (field ". Edges that leave it: " (o .leaving) ++ field "; with a data bound that fails: " (o .blocked) ++ field "; of the others without a window of one tick's length: " (o .windowless) ++ ascii ".\n")
+    (field ". Edges that leave it: " (o .leaving) ++ field "; with a data bound that fails: " (o .blocked) ++ field "; of the others without a window of one tick's length, or of their budget: " (o .windowless) ++ ascii ".\n")
 
 -- 9: the edge taken, and its first update that leaves the range
 abbrev pub updateWords : RefusedOpening → List ℕ

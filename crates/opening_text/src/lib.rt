@@ -35,8 +35,8 @@ fn put_entry(out: &mut [u8], at: usize, opening: RefusedOpening) -> usize
 
 // Why no edge is taken.
 fn put_edges(out: &mut [u8], at: usize, opening: RefusedOpening) -> usize
-    requires { ⌜ at + 150 ≤ length (now out) ⌝ }
-    ensures { λ r. ⌜ Added (now (out .entry)) at (edgesWords opening) (now (out .exit)) r × (r ≤ at + 150) ⌝ }
+    requires { ⌜ at + 170 ≤ length (now out) ⌝ }
+    ensures { λ r. ⌜ Added (now (out .entry)) at (edgesWords opening) (now (out .exit)) r × (r ≤ at + 170) ⌝ }
 {
     if opening.leaving == 0 {
         return put(out, at, b", which no edge leaves.\n");
@@ -51,7 +51,7 @@ fn put_edges(out: &mut [u8], at: usize, opening: RefusedOpening) -> usize
     let stop = put_field(
         out,
         windowless,
-        b"; of the others without a window of one tick's length: ",
+        b"; of the others without a window of one tick's length, or of their budget: ",
         opening.windowless as u32,
     );
     put(out, stop, b".\n")
@@ -69,8 +69,8 @@ fn put_update(out: &mut [u8], at: usize, opening: RefusedOpening) -> usize
 
 // Why it is refused.
 fn put_reason(out: &mut [u8], at: usize, opening: RefusedOpening) -> usize
-    requires { ⌜ at + 150 ≤ length (now out) ⌝ }
-    ensures { λ r. ⌜ Added (now (out .entry)) at (reasonWords opening) (now (out .exit)) r × (r ≤ at + 150) ⌝ }
+    requires { ⌜ at + 170 ≤ length (now out) ⌝ }
+    ensures { λ r. ⌜ Added (now (out .entry)) at (reasonWords opening) (now (out .exit)) r × (r ≤ at + 170) ⌝ }
 {
     if opening.number == 8 {
         return put_edges(out, at, opening);
@@ -83,8 +83,8 @@ fn put_reason(out: &mut [u8], at: usize, opening: RefusedOpening) -> usize
 
 // The whole line.
 pub fn put_opening_text(out: &mut [u8], at: usize, opening: RefusedOpening) -> usize
-    requires { ⌜ at + 260 ≤ length (now out) ⌝ }
-    ensures { λ r. ⌜ Added (now (out .entry)) at (openingText opening) (now (out .exit)) r × (r ≤ at + 260) ⌝ }
+    requires { ⌜ at + 280 ≤ length (now out) ⌝ }
+    ensures { λ r. ⌜ Added (now (out .entry)) at (openingText opening) (now (out .exit)) r × (r ≤ at + 280) ⌝ }
 {
     let reason = put_entry(out, at, opening);
     put_reason(out, reason, opening)

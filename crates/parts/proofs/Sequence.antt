@@ -1,6 +1,9 @@
 -- Parts after parts: an edge, from where its parts end. Assumes nothing.
-use mathlib.Core.Path.{_≡_, _∙_}
-use mathlib.Core.Bool.{true, false}
+use mathlib.Core.Path.{_≡_, refl, _∙_}
+use mathlib.Core.Option.{Option, none}
+use Rattle.model.specs.declared.ClockGuard.{ClockGuard}
+use Rattle.model.specs.declared.DataGuard.{DataGuard}
+use mathlib.Core.Bool.{Bool, true, false}
 use mathlib.Core.List.{List}
 use Prim.Native.Nat.{ℕ, _+_, _-_, _≤_, _<_}
 use native.Mathlib.Omega.{arith}
@@ -8,11 +11,12 @@ use borrow.Author.Tests.{le-leb, lt-leb}
 use lib.ListN.{length, drop, length-drop}
 use lib.Seq.{drop-drop}
 use Rattle.model.specs.declared.Sizes.{Sizes}
-use Rattle.model.specs.Reader.{byte, Parsed, many, clockGuardFine, clockGuardAt, dataGuardFine, dataGuardAt, locationFine, locationAt, readClockGuard, readDataGuard, readLocation, readItems, arcWith, edgeFine, readArcBody, readArc}
+use Rattle.model.specs.Reader.{word, Parsed, ok, fault, _then_, Items, readBudget, readArcParts, byte, many, clockGuardFine, clockGuardAt, dataGuardFine, dataGuardAt, locationFine, locationAt, readClockGuard, readDataGuard, readLocation, readItems, arcWith, edgeFine, readArcBody, readArc}
 use Rattle.parts.specs.declared.Kind.the-variants.{Locations, ClockGuards, DataGuards}
 use Rattle.parts.specs.declared.Next.{Next}
 use Rattle.parts.specs.declared.Next.the-variants.{At, Fault}
 use Rattle.parts.specs.Place.{left, failed, skim, Passed, passes}
+use Rattle.model.proofs.Basics.Walk.{word-drop}
 use Rattle.parts.proofs.Skim.{was-left, was-failed, keeps}
 use Rattle.parts.proofs.EdgeItems.{same-many}
 
@@ -38,21 +42,63 @@ module _ (s : Sizes) (n : ℕ) (bs : List ℕ) where
 
 -- ## An edge after its 7 bytes
 
-module _ (s : Sizes) (h r : List ℕ) where
-  pub guards-fail : {n : ℕ} → skim (many (passes ClockGuards s) (byte h 4) r) ≡ failed n → skim (readArcBody s h r) ≡ failed n
+module _ (s : Sizes) (h : List ℕ) (b : Option ℕ) (r : List ℕ) where
+  pub guards-fail : {n : ℕ} → skim (many (passes ClockGuards s) (byte h 4) r) ≡ failed n → skim (readArcParts s h b r) ≡ failed n
   guards-fail e = rw (was-failed (many (readClockGuard s) (byte h 4) r) (clock-guards s (byte h 4) r ∙ e))
 
   module _ (r₁ : List ℕ) (e : skim (many (passes ClockGuards s) (byte h 4) r) ≡ left r₁) where
-    pub data-fail : {n : ℕ} → skim (many (passes DataGuards s) (byte h 5) r₁) ≡ failed n → skim (readArcBody s h r) ≡ failed n
+    pub data-fail : {n : ℕ} → skim (many (passes DataGuards s) (byte h 5) r₁) ≡ failed n → skim (readArcParts s h b r) ≡ failed n
     data-fail f =
         let (cs, q) = was-left (many (readClockGuard s) (byte h 4) r) (clock-guards s (byte h 4) r ∙ e) in
         rw (q, was-failed (many (readDataGuard s) (byte h 5) r₁) (data-guards s (byte h 5) r₁ ∙ f))
 
-    pub guards-pass : (r₂ : List ℕ) → skim (many (passes DataGuards s) (byte h 5) r₁) ≡ left r₂ → skim (readArcBody s h r) ≡ skim (readItems s (byte h 0) (byte h 6) r₂)
+    pub guards-pass : (r₂ : List ℕ) → skim (many (passes DataGuards s) (byte h 5) r₁) ≡ left r₂ → skim (readArcParts s h b r) ≡ skim (readItems s (byte h 0) (byte h 6) r₂)
     guards-pass r₂ f =
         let (cs, q) = was-left (many (readClockGuard s) (byte h 4) r) (clock-guards s (byte h 4) r ∙ e) in
         let (ds, t) = was-left (many (readDataGuard s) (byte h 5) r₁) (data-guards s (byte h 5) r₁ ∙ f) in
-        rw (q, t) (keeps (readItems s (byte h 0) (byte h 6) r₂) (arcWith h cs ds))
+        rw (q, t) (keeps (readItems s (byte h 0) (byte h 6) r₂) (arcWith h b cs ds))
+
+-- ## The budget
+
+module _ (b : Bool) (p : List ℕ) (at : ℕ) where
+  pub no-budget : b ≡ false → skim (readBudget b (drop at p)) ≡ left (drop at p)
+  no-budget e = rw e
+
+  pub budget-short : b ≡ true → length p - at < 2 → skim (readBudget b (drop at p)) ≡ failed 4
+  budget-short e h = rw (e, lt-leb 2 (length (drop at p)) (simp length-drop (omega arith)))
+
+  pub budget-bad : b ≡ true → at + 2 ≤ length p → 60000 < word p at → skim (readBudget b (drop at p)) ≡ failed 5
+  budget-bad e h w = rw (e, le-leb 2 (length (drop at p)) (simp length-drop (omega arith)), ← word-drop p at, lt-leb (word p at) 60000 w)
+
+  pub budget-good : b ≡ true → at + 2 ≤ length p → word p at ≤ 60000 → skim (readBudget b (drop at p)) ≡ left (drop (at + 2) p)
+  budget-good e h w = rw (e, le-leb 2 (length (drop at p)) (simp length-drop (omega arith)), ← word-drop p at, le-leb (word p at) 60000 w, ← drop-drop 2 at p)
+
+-- what is left does not hang on the budget
+module _ (s : Sizes) (h : List ℕ) (b : Option ℕ) where
+  after-items : (cs : List ClockGuard) (ds : List DataGuard) (m : Parsed Items) → skim (m then λ i r. ok (arcWith h b cs ds i) r) ≡ skim (m then λ i r. ok (arcWith h none cs ds i) r)
+  after-items cs ds (ok i r) = refl
+  after-items cs ds (fault n) = refl
+
+  after-data : (cs : List ClockGuard) (m : Parsed (List DataGuard))
+      → skim (m then λ ds r₂. readItems s (byte h 0) (byte h 6) r₂ then λ i r₃. ok (arcWith h b cs ds i) r₃) ≡ skim (m then λ ds r₂. readItems s (byte h 0) (byte h 6) r₂ then λ i r₃. ok (arcWith h none cs ds i) r₃)
+  after-data cs (ok ds r) = after-items cs ds (readItems s (byte h 0) (byte h 6) r)
+  after-data cs (fault n) = refl
+
+  after-clocks : (m : Parsed (List ClockGuard))
+      → skim (m then λ cs r₁. many (readDataGuard s) (byte h 5) r₁ then λ ds r₂. readItems s (byte h 0) (byte h 6) r₂ then λ i r₃. ok (arcWith h b cs ds i) r₃)
+      ≡ skim (m then λ cs r₁. many (readDataGuard s) (byte h 5) r₁ then λ ds r₂. readItems s (byte h 0) (byte h 6) r₂ then λ i r₃. ok (arcWith h none cs ds i) r₃)
+  after-clocks (ok cs r) = after-data cs (many (readDataGuard s) (byte h 5) r)
+  after-clocks (fault n) = refl
+
+  pub parts-any : (r : List ℕ) → skim (readArcParts s h b r) ≡ skim (readArcParts s h none r)
+  parts-any r = after-clocks (many (readClockGuard s) (byte h 4) r)
+
+module _ (s : Sizes) (h r : List ℕ) where
+  pub budget-fail : {n : ℕ} → skim (readBudget (s .budgets) r) ≡ failed n → skim (readArcBody s h r) ≡ failed n
+  budget-fail e = rw (was-failed (readBudget (s .budgets) r) e)
+
+  pub budget-pass : (r₁ : List ℕ) → skim (readBudget (s .budgets) r) ≡ left r₁ → skim (readArcBody s h r) ≡ skim (readArcParts s h none r₁)
+  budget-pass r₁ e = let (b, q) = was-left (readBudget (s .budgets) r) e in rw q (parts-any s h b r₁)
 
 -- ## An edge
 

@@ -2,9 +2,10 @@
 ghost use mathlib.Core.Path.{_≡_};
 ghost use mathlib.Core.Bool.{_&&_, _||_};
 ghost use mathlib.Core.List.{[]};
+ghost use mathlib.Core.Option.{none};
 ghost use Prim.Native.Nat.{ℕ, _+_, _*_, _^_, _≤_, _<_, min};
 ghost use lib.ListN.{length, drop};
-ghost use Rattle.model.specs.Reader.{word, many, locationFine, clockGuardFine, dataGuardFine, updateFine, pairFine, countsFine, edgeFine, readChannel, readPairs, readItems, readArcBody, readArc, listed};
+ghost use Rattle.model.specs.Reader.{word, many, locationFine, clockGuardFine, dataGuardFine, updateFine, pairFine, countsFine, edgeFine, readChannel, readPairs, readItems, readBudget, readArcParts, readArcBody, readArc, listed};
 ghost use Rattle.parts.specs.Place.{Passed, widthOf, fineOf, passes, channelsBefore};
 use model::Sizes;
 use model::layout;
@@ -282,14 +283,31 @@ fn edge_fine(bytes: &[u8], sizes: Sizes) -> bool
     )
 }
 
-// What follows the 7 bytes of the edge at a place: clock bounds, data bounds, items.
-fn arc_body(component: &[u8], at: usize, sizes: Sizes) -> Next
-    requires { ⌜ at + 7 ≤ length (now component) ⌝ }
-    ensures { λ r. ⌜ Passed (now (component .entry)) (at + 7) r (readArcBody sizes (drop at (now (component .entry))) (drop (at + 7) (now (component .entry)))) ⌝ }
+// The budget of an edge, where edges have one.
+fn budget(component: &[u8], at: usize, sizes: Sizes) -> Next
+    requires { ⌜ at ≤ length (now component) ⌝ }
+    ensures { λ r. ⌜ Passed (now (component .entry)) at r (readBudget (sizes .budgets) (drop at (now (component .entry)))) ⌝ }
+{
+    if !sizes.budgets {
+        return Next::At(at);
+    }
+    if component.len() - at < layout::BUDGET_WIDTH {
+        return Next::Fault(4);
+    }
+    if layout::MOST_BUDGET < word_at(component, at) {
+        return Next::Fault(5);
+    }
+    Next::At(at + layout::BUDGET_WIDTH)
+}
+
+// What follows the 7 bytes of the edge at a place and its budget: clock bounds, data bounds, items.
+fn arc_parts(component: &[u8], at: usize, from: usize, sizes: Sizes) -> Next
+    requires { ⌜ (at + 7 ≤ length (now component)) × (from ≤ length (now component)) ⌝ }
+    ensures { λ r. ⌜ Passed (now (component .entry)) from r (readArcParts sizes (drop at (now (component .entry))) none (drop from (now (component .entry)))) ⌝ }
 {
     let c = parts(
         component,
-        at + layout::EDGE_HEADER,
+        from,
         component[at + layout::EDGE_CLOCK_GUARDS],
         Kind::ClockGuards,
         sizes,
@@ -315,6 +333,18 @@ fn arc_body(component: &[u8], at: usize, sizes: Sizes) -> Next
                 ),
             }
         }
+    }
+}
+
+// What follows the 7 bytes of the edge at a place.
+fn arc_body(component: &[u8], at: usize, sizes: Sizes) -> Next
+    requires { ⌜ at + 7 ≤ length (now component) ⌝ }
+    ensures { λ r. ⌜ Passed (now (component .entry)) (at + 7) r (readArcBody sizes (drop at (now (component .entry))) (drop (at + 7) (now (component .entry)))) ⌝ }
+{
+    let b = budget(component, at + layout::EDGE_HEADER, sizes);
+    match b {
+        Next::Fault(k) => Next::Fault(k),
+        Next::At(from) => arc_parts(component, at, from, sizes),
     }
 }
 

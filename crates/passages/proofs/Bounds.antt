@@ -10,6 +10,7 @@ use Rattle.model.specs.declared.Action.{Action}
 use Rattle.model.specs.declared.Action.the-variants.{Internal, Send, Receive}
 use Rattle.model.specs.declared.Sizes.{Sizes}
 use Rattle.model.specs.Lists.{All, empty, more, orElse, accepted, _after_, Bytes}
+use Rattle.model.specs.declared.TableHeader.{TableHeader}
 use Rattle.model.specs.Table.{Arc, Component, Read, noArc, noComponent, size, sizesOf, componentOf, arcOf}
 use Rattle.model.specs.Limits.{ActionIn, ArcIn, ComponentIn, InLimits}
 use Rattle.model.specs.Reader.{readTable}
@@ -63,7 +64,7 @@ arcs-send few (more {x = x} h a) = more {x = x} (sends-in {a = x} few h) (arcs-s
 abbrev AllSend : Component → Type 0
 AllSend C = (e : ℕ) → Sends (arcOf C e)
 
-components-send : {channels : ℕ} {Cs : List Component} → channels ≤ 16 → All (ComponentIn channels) Cs → All AllSend Cs
+components-send : {header : TableHeader} {Cs : List Component} → header .channels ≤ 16 → All (ComponentIn header) Cs → All AllSend Cs
 components-send few empty = empty
 components-send few (more {x = C} h a) =
     more {x = C} (any-at Sends noArc tt (arcs-send few (h .arcs))) (components-send few a)

@@ -98,18 +98,19 @@ rest-part (suc (suc (suc (suc (suc (suc (suc (suc zero)))))))) offset d0 d1 d2 d
 rest-part (suc (suc (suc (suc (suc (suc (suc (suc (suc zero))))))))) offset d0 d1 d2 d3 d4 d5 d6 d7 = absurd (d7 refl)
 rest-part (suc (suc (suc (suc (suc (suc (suc (suc (suc (suc n)))))))))) offset d0 d1 d2 d3 d4 d5 d6 d7 = refl
 
-pub rest-name : (n : ℕ) → (n ≡ 1 → ⊥) → (n ≡ 2 → ⊥) → (n ≡ 3 → ⊥) → (n ≡ 5 → ⊥) → (n ≡ 6 → ⊥) → (n ≡ 7 → ⊥) → (n ≡ 8 → ⊥) → (n ≡ 9 → ⊥) → (n ≡ 10 → ⊥) → (n ≡ 11 → ⊥) → partName n ≡ []
+pub rest-name : (n : ℕ) → (n ≡ 1 → ⊥) → (n ≡ 2 → ⊥) → (n ≡ 3 → ⊥) → (n ≡ 5 → ⊥) → (n ≡ 6 → ⊥) → (n ≡ 7 → ⊥) → (n ≡ 8 → ⊥) → (n ≡ 9 → ⊥) → (n ≡ 10 → ⊥) → (n ≡ 11 → ⊥) → (n ≡ 12 → ⊥) → partName n ≡ []
 unfolding partName
-rest-name zero d0 d1 d2 d3 d4 d5 d6 d7 d8 d9 = refl
-rest-name (suc zero) d0 d1 d2 d3 d4 d5 d6 d7 d8 d9 = absurd (d0 refl)
-rest-name (suc (suc zero)) d0 d1 d2 d3 d4 d5 d6 d7 d8 d9 = absurd (d1 refl)
-rest-name (suc (suc (suc zero))) d0 d1 d2 d3 d4 d5 d6 d7 d8 d9 = absurd (d2 refl)
-rest-name (suc (suc (suc (suc zero)))) d0 d1 d2 d3 d4 d5 d6 d7 d8 d9 = refl
-rest-name (suc (suc (suc (suc (suc zero))))) d0 d1 d2 d3 d4 d5 d6 d7 d8 d9 = absurd (d3 refl)
-rest-name (suc (suc (suc (suc (suc (suc zero)))))) d0 d1 d2 d3 d4 d5 d6 d7 d8 d9 = absurd (d4 refl)
-rest-name (suc (suc (suc (suc (suc (suc (suc zero))))))) d0 d1 d2 d3 d4 d5 d6 d7 d8 d9 = absurd (d5 refl)
-rest-name (suc (suc (suc (suc (suc (suc (suc (suc zero)))))))) d0 d1 d2 d3 d4 d5 d6 d7 d8 d9 = absurd (d6 refl)
-rest-name (suc (suc (suc (suc (suc (suc (suc (suc (suc zero))))))))) d0 d1 d2 d3 d4 d5 d6 d7 d8 d9 = absurd (d7 refl)
-rest-name (suc (suc (suc (suc (suc (suc (suc (suc (suc (suc zero)))))))))) d0 d1 d2 d3 d4 d5 d6 d7 d8 d9 = absurd (d8 refl)
-rest-name (suc (suc (suc (suc (suc (suc (suc (suc (suc (suc (suc zero))))))))))) d0 d1 d2 d3 d4 d5 d6 d7 d8 d9 = absurd (d9 refl)
-rest-name (suc (suc (suc (suc (suc (suc (suc (suc (suc (suc (suc (suc n)))))))))))) d0 d1 d2 d3 d4 d5 d6 d7 d8 d9 = refl
+rest-name zero d0 d1 d2 d3 d4 d5 d6 d7 d8 d9 d10 = refl
+rest-name (suc zero) d0 d1 d2 d3 d4 d5 d6 d7 d8 d9 d10 = absurd (d0 refl)
+rest-name (suc (suc zero)) d0 d1 d2 d3 d4 d5 d6 d7 d8 d9 d10 = absurd (d1 refl)
+rest-name (suc (suc (suc zero))) d0 d1 d2 d3 d4 d5 d6 d7 d8 d9 d10 = absurd (d2 refl)
+rest-name (suc (suc (suc (suc zero)))) d0 d1 d2 d3 d4 d5 d6 d7 d8 d9 d10 = refl
+rest-name (suc (suc (suc (suc (suc zero))))) d0 d1 d2 d3 d4 d5 d6 d7 d8 d9 d10 = absurd (d3 refl)
+rest-name (suc (suc (suc (suc (suc (suc zero)))))) d0 d1 d2 d3 d4 d5 d6 d7 d8 d9 d10 = absurd (d4 refl)
+rest-name (suc (suc (suc (suc (suc (suc (suc zero))))))) d0 d1 d2 d3 d4 d5 d6 d7 d8 d9 d10 = absurd (d5 refl)
+rest-name (suc (suc (suc (suc (suc (suc (suc (suc zero)))))))) d0 d1 d2 d3 d4 d5 d6 d7 d8 d9 d10 = absurd (d6 refl)
+rest-name (suc (suc (suc (suc (suc (suc (suc (suc (suc zero))))))))) d0 d1 d2 d3 d4 d5 d6 d7 d8 d9 d10 = absurd (d7 refl)
+rest-name (suc (suc (suc (suc (suc (suc (suc (suc (suc (suc zero)))))))))) d0 d1 d2 d3 d4 d5 d6 d7 d8 d9 d10 = absurd (d8 refl)
+rest-name (suc (suc (suc (suc (suc (suc (suc (suc (suc (suc (suc zero))))))))))) d0 d1 d2 d3 d4 d5 d6 d7 d8 d9 d10 = absurd (d9 refl)
+rest-name (suc (suc (suc (suc (suc (suc (suc (suc (suc (suc (suc (suc zero)))))))))))) d0 d1 d2 d3 d4 d5 d6 d7 d8 d9 d10 = absurd (d10 refl)
+rest-name (suc (suc (suc (suc (suc (suc (suc (suc (suc (suc (suc (suc (suc n))))))))))))) d0 d1 d2 d3 d4 d5 d6 d7 d8 d9 d10 = refl

@@ -68,3 +68,12 @@ a-component-more = refl
 pub channel-twice : placeText (place 6 1 9 0 1 75 0 1 0 0 1 false) ≡ ascii "Component 1, edge 0, its pair 1 (byte 75): channel 0 is listed before.\n"
 unfolding placeText
 channel-twice = refl
+
+-- document 02, wish 8: "a 2-byte budget (0 to 60,000), a part of its own, after each edge's 7 bytes"
+pub a-budget : placeText (place 5 0 12 0 255 27 0 2 60001 0 60001 false) ≡ ascii "Component 0, edge 0, its budget (byte 27): it is 60001, allowed are 0 to 60000.\n"
+unfolding placeText
+a-budget = refl
+
+pub a-budget-cut : placeText (place 4 1 12 2 255 96 0 0 1 2 8193 false) ≡ ascii "Component 1, edge 2, its budget (byte 96): bytes needed: 2, there: 1.\n"
+unfolding placeText
+a-budget-cut = refl

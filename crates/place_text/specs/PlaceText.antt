@@ -56,6 +56,7 @@ partNames =
     ∷ ascii ", its pair "
     ∷ ascii ", its end"
     ∷ ascii ", behind it"
+    ∷ ascii ", its budget"
     ∷ []
 
 unfoldable pub partName : ℕ → List ℕ

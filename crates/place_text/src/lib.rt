@@ -45,6 +45,7 @@ fn put_part_name(out: &mut [u8], at: usize, part: u8) -> usize
         9 => put(out, at, b", its pair "),
         10 => put(out, at, b", its end"),
         11 => put(out, at, b", behind it"),
+        12 => put(out, at, b", its budget"),
         _ => put(out, at, b""),
     }
 }

@@ -1,10 +1,12 @@
--- The words of a reason: its data bound is there; where a bound stands; and the clocks and variables that a component lacks change nothing.
--- Assumes nothing.
+-- The words of a reason: its data bound is there; which words a window gets; where a bound stands; and the clocks and variables that a
+-- component lacks change nothing. Assumes nothing.
 use mathlib.Core.Path.{_≡_, refl, sym, ap, ap₂, _∙_}
 use mathlib.Core.Bool.{Bool, true, false, cond, _&&_, not}
 use mathlib.Core.List.{List, [], _∷_, _++_}
-use Prim.Native.Nat.{ℕ, suc, _+_, _-_, _*_, _≤_, _<_}
+use mathlib.Core.Option.{Option, none, some}
+use Prim.Native.Nat.{ℕ, suc, pred, _+_, _-_, _*_, _≤_, _<_}
 use native.Mathlib.Omega.{arith}
+use borrow.Author.Tests.{ltb-false, lt-ltb, le-ltb}
 use lib.Dec.{ltb, eqb}
 use lib.IntN.{ℤ, pos}
 use lib.ListN.{length, getD, take, drop}
@@ -14,11 +16,11 @@ use Rattle.model.specs.declared.DataGuard.{DataGuard}
 use Rattle.model.specs.declared.Location.{Location}
 use Rattle.model.specs.declared.Reason.{Reason}
 use Rattle.model.specs.declared.Reason.the-variants.{Taken, DataBound, NoWindow, ReadyLater, HigherNumber}
-use Rattle.model.specs.Lists.{All, empty, more, placeOf}
+use Rattle.model.specs.Lists.{All, empty, more, placeOf, orElse}
 use Rattle.model.specs.Table.{Arc, Component}
 use Rattle.model.specs.Reader.{byte, clockGuardAt, dataGuardAt}
-use Rattle.model.specs.Places.{listAt, arcAt}
-use Rattle.model.specs.Window.{Entry, readyOf, pastOf, dataHolds, firstFailing, longEnough}
+use Rattle.model.specs.Places.{listAt, arcHeadLength, arcAt}
+use Rattle.model.specs.Window.{Entry, readyOf, pastOf, dataHolds, firstFailing, meetsBudget, longEnough}
 use Rattle.model.specs.Reasons.{reasonBy, noBound}
 use Rattle.model.proofs.Basics.Walk.{all-at, list-part}
 use Rattle.model.proofs.Window.Interval.{fails-there}
@@ -27,7 +29,7 @@ use Rattle.decoder.proofs.Found.{found}
 use Rattle.window.proofs.Fronts.{data-count}
 use Rattle.schedule.specs.Going.{cut}
 use Rattle.schedule.proofs.Cut.{ready-cut, past-cut}
-use Rattle.reason_text.specs.ReasonText.{wider, byWords, reasonWords}
+use Rattle.reason_text.specs.ReasonText.{wider, byWords, noWindowWords, shortWindowWords, windowWords, reasonWords}
 
 -- ## The data bound
 
@@ -53,20 +55,66 @@ bound-there l at taken ready e a j =
     go false true h true true q = absurd (omega (arith, ap number q))
     go false true h true false q = absurd (omega (arith, ap number q))
 
--- where it stands in the bytes of the edge
-pub bound-at : (h : List ℕ) (i at : ℕ) {g : DataGuard} → i < length (arcAt h .dataGuards) → at ≡ 7 + (byte h 4 + i) * 5 → g ≡ dataGuardAt (take (length h - at) (drop at h))
-    → g ≡ getD (arcAt h .dataGuards) i noBound
+-- ## The window
+
+-- With a tick's length it is the budget that an edge without a window misses: "its window length, end − ready", is below it.
+pub budget-missed : (l : Location) (at : Entry) (taken ready e : ℕ) (a : Arc) → reasonBy l at taken ready e a ≡ NoWindow
+    → suc (readyOf (a .clockGuards) (at .clocks)) < pastOf l (a .clockGuards) (at .clocks)
+    → (b : ℕ) × (a .budget ≡ some b) × (pred (pastOf l (a .clockGuards) (at .clocks)) - readyOf (a .clockGuards) (at .clocks) < b)
+budget-missed l at taken ready e a q k =
+    let r = readyOf (a .clockGuards) (at .clocks) in
+    let p = pastOf l (a .clockGuards) (at .clocks) in
+    go r p k (a .budget) refl (eqb e taken) (dataHolds (a .dataGuards) (at .values)) (ltb (suc r) p) (lt-ltb (suc r) p k) (ltb ready (at .tick + r)) q
+  where
+    -- reasons apart
+    number : Reason → ℕ
+    number NoWindow = 1
+    number (DataBound i) = 0
+    number Taken = 0
+    number ReadyLater = 0
+    number HigherNumber = 0
+
+    clash : false ≡ true → ⊥
+    clash e = let z : _≡_ {A = ℕ} 0 1 = cc in omega arith
+
+    short : (r p b : ℕ) → suc r < p → (m : Bool) → ltb (r + b) p ≡ m → (s : Bool) → cond (not m) NoWindow (cond s ReadyLater HigherNumber) ≡ NoWindow → pred p - r < b
+    short r p b k false e s q = omega (arith, ltb-false (r + b) p e)
+    short r p b k true e true q = absurd (omega (arith, ap number q))
+    short r p b k true e false q = absurd (omega (arith, ap number q))
+
+    go : (r p : ℕ) → suc r < p → (o : Option ℕ) → a .budget ≡ o → (t d w : Bool) → w ≡ true → (s : Bool)
+        → cond t Taken (cond (not d) (DataBound (firstFailing (a .dataGuards) (at .values))) (cond (d && not (w && meetsBudget o r p)) NoWindow (cond s ReadyLater HigherNumber))) ≡ NoWindow
+        → (b : ℕ) × (a .budget ≡ some b) × (pred p - r < b)
+    go r p k o z true d w h s q = absurd (omega (arith, ap number q))
+    go r p k o z false false w h s q = absurd (omega (arith, ap number q))
+    go r p k o z false true false h s q = absurd (clash h)
+    go r p k none z false true true h true q = absurd (omega (arith, ap number q))
+    go r p k none z false true true h false q = absurd (omega (arith, ap number q))
+    go r p k (some b) z false true true h s q = (b, z, short r p b k (ltb (r + b) p) refl s q)
+
+-- the words, by whether it has a tick's length
+module _ (l : Location) (at : Entry) (a : Arc) {gs : List ClockGuard} (e : gs ≡ a .clockGuards) where
+  pub short-words : {budget : ℕ} → suc (readyOf (a .clockGuards) (at .clocks)) < pastOf l (a .clockGuards) (at .clocks) → budget ≡ orElse (a .budget) 0
+      → shortWindowWords budget l at gs ≡ windowWords l at a
+  short-words k b = rw (e, b, lt-ltb (suc (readyOf (a .clockGuards) (at .clocks))) (pastOf l (a .clockGuards) (at .clocks)) k)
+
+  pub no-words : pastOf l (a .clockGuards) (at .clocks) ≤ suc (readyOf (a .clockGuards) (at .clocks)) → noWindowWords l at gs ≡ windowWords l at a
+  no-words k = rw (e, le-ltb (suc (readyOf (a .clockGuards) (at .clocks))) (pastOf l (a .clockGuards) (at .clocks)) k)
+
+-- where a data bound stands in the bytes of the edge
+pub bound-at : (b : Bool) (h : List ℕ) (i at : ℕ) {g : DataGuard} → i < length (arcAt b h .dataGuards) → at ≡ arcHeadLength b + (byte h 4 + i) * 5 → g ≡ dataGuardAt (take (length h - at) (drop at h))
+    → g ≡ getD (arcAt b h .dataGuards) i noBound
 unfolding arcAt
-bound-at h i at k e q =
-    let n : i < byte h 5 = omega (arith, k, data-count h) in
-    let z : 7 + byte h 4 * 5 + i * 5 ≡ 7 + (byte h 4 + i) * 5 = omega arith in
-    found dataGuardAt h at (7 + (byte h 4 + i) * 5) e q
-    ∙ sym (list-part dataGuardAt 5 (byte h 5) (drop (7 + byte h 4 * 5) h) noBound i n ∙ ap dataGuardAt (drop-drop (i * 5) (7 + byte h 4 * 5) h) ∙ ap (λ k. dataGuardAt (drop k h)) z)
+bound-at b h i at k e q =
+    let n : i < byte h 5 = omega (arith, k, data-count b h) in
+    let z : arcHeadLength b + byte h 4 * 5 + i * 5 ≡ arcHeadLength b + (byte h 4 + i) * 5 = omega arith in
+    found dataGuardAt h at (arcHeadLength b + (byte h 4 + i) * 5) e q
+    ∙ sym (list-part dataGuardAt 5 (byte h 5) (drop (arcHeadLength b + byte h 4 * 5) h) noBound i n ∙ ap dataGuardAt (drop-drop (i * 5) (arcHeadLength b + byte h 4 * 5) h) ∙ ap (λ k. dataGuardAt (drop k h)) z)
 
 -- the clock bounds of the edge at the front of bytes
-pub clock-guards : (h : List ℕ) → listAt clockGuardAt 5 (byte h 4) (take (length h - 7) (drop 7 h)) ≡ arcAt h .clockGuards
+pub clock-guards : (b : Bool) (h : List ℕ) (at : ℕ) → at ≡ arcHeadLength b → listAt clockGuardAt 5 (byte h 4) (take (length h - at) (drop at h)) ≡ arcAt b h .clockGuards
 unfolding arcAt
-clock-guards h = ap (listAt clockGuardAt 5 (byte h 4)) (tail h 7)
+clock-guards b h at e = ap (listAt clockGuardAt 5 (byte h 4)) (tail h at ∙ ap (λ k. drop k h) e)
 
 -- ## What a component lacks
 

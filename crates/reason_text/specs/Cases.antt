@@ -8,7 +8,7 @@ use Rattle.model.specs.declared.ClockGuard.{ClockGuard}
 use Rattle.model.specs.declared.DataGuard.{DataGuard}
 use Rattle.model.specs.Table.{Arc}
 use Rattle.model.specs.Bytes.{tableBytes}
-use Rattle.model.specs.Build.{location, clockGuard, arc, component, network}
+use Rattle.model.specs.Build.{location, clockGuard, arc, component, network, budgeted, withBudgets}
 use Rattle.model.specs.Cases.{workedBytes}
 use Rattle.text.specs.Words.{ascii}
 use Rattle.reason_text.specs.ReasonText.{printedReasons}
@@ -27,7 +27,7 @@ pub no-tick : printedReasons workedBytes 0 20 ≡ ascii "refused 21 255\nThe ans
 unfolding printedReasons
 no-tick = refl
 
-pub no-table : printedReasons [] 0 0 ≡ ascii "refused 1 255\nThe answer is no: Is the first byte 1 or 2?\nNo single component is concerned.\n"
+pub no-table : printedReasons [] 0 0 ≡ ascii "refused 1 255\nThe answer is no: Is the first byte 1, 2 or 3?\nNo single component is concerned.\n"
 unfolding printedReasons
 no-table = refl
 
@@ -64,3 +64,24 @@ pub later-on : printedReasons everyReason 0 7
     ≡ ascii "passage 1\nc e l entry ready end msg\n0 0 0 7 10 14 -\nedge 0: taken, ticks 10 to 14\nedge 1: ready later, at tick 16\nedge 2: ready together with edge 0, numbered higher\nedge 3: data bound 1 fails: v1 is 0, allowed -5 to -1\nedge 4: ready together with edge 0, numbered higher\nedge 5: no window of at least one tick: ready at tick 13 by clock bound 0, over from tick 7 on by clock bound 1\nedge 6: no window of at least one tick: ready at tick 7, over from tick 7 on by clock bound 0\n"
 unfolding printedReasons tableBytes
 later-on = refl
+
+-- ## Budgets
+
+-- Each passage enters with x0 = 0 and x0 ≤ 10: a window from 4 to 10 for a budget of 5; 3 to 5 for 3; 0 to 10 for 11; 10 to 10 for 4;
+-- 9 to 10 for 1.
+abbrev withBudget : List ℕ
+withBudget =
+    tableBytes
+    (withBudgets [] 12
+    (component 0 1 0 (location 0 10 ∷ [])
+    (budgeted 5 (leaving (clockGuard 0 4 65535 ∷ []) [])
+    ∷ budgeted 3 (leaving (clockGuard 0 3 5 ∷ []) [])
+    ∷ budgeted 11 (leaving [] [])
+    ∷ budgeted 4 (leaving (clockGuard 0 10 65535 ∷ []) [])
+    ∷ budgeted 1 (leaving (clockGuard 0 9 65535 ∷ []) [])
+    ∷ []) ∷ []))
+
+pub short-windows : printedReasons withBudget 0 11
+    ≡ ascii "passage 1\nc e l entry ready end msg\n0 0 0 10 14 20 -\nedge 0: taken, ticks 14 to 20\nedge 1: window shorter than its budget of 3: ready at tick 13 by clock bound 0, end at tick 15 by clock bound 0\nedge 2: window shorter than its budget of 11: ready at tick 10, end at tick 20 by the invariant\nedge 3: no window of at least one tick: ready at tick 20 by clock bound 0, over from tick 21 on by the invariant\nedge 4: ready later, at tick 19\n"
+unfolding printedReasons tableBytes
+short-windows = refl

@@ -1,3 +1,4 @@
 pub mod ReasonText
 pub mod Lines
+pub mod Bounds
 pub mod Cases

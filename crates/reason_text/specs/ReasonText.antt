@@ -1,7 +1,7 @@
 -- Document 02, wish 7, "Why this edge", in words: the passage, then a line an edge from its location with its reason and the numbers that make it so.
 use mathlib.Core.Bool.{Bool, true, false, cond, not}
 use mathlib.Core.List.{List, [], _∷_, _++_}
-use Prim.Native.Nat.{ℕ, suc, _+_}
+use Prim.Native.Nat.{ℕ, suc, pred, _+_}
 use lib.Dec.{ltb}
 use lib.IntN.{ℤ, pos, negsuc}
 use lib.ListN.{getD}
@@ -10,7 +10,7 @@ use Rattle.model.specs.declared.DataGuard.{DataGuard}
 use Rattle.model.specs.declared.Location.{Location}
 use Rattle.model.specs.declared.Reason.{Reason}
 use Rattle.model.specs.declared.Reason.the-variants.{Taken, DataBound, NoWindow, ReadyLater, HigherNumber}
-use Rattle.model.specs.Lists.{Answer, accepted, refused, placeOf, each}
+use Rattle.model.specs.Lists.{Answer, accepted, refused, placeOf, orElse, each}
 use Rattle.model.specs.Table.{Arc, Component, locationOf, arcOf}
 use Rattle.model.specs.Window.{Entry, valueAt, readyOf, pastOf}
 use Rattle.model.specs.Schedule.{Passage}
@@ -39,17 +39,35 @@ abbrev pub byWords : List ℕ → Bool → Location → List ClockGuard → List
 byWords otherwise over l gs xs =
     cond (wider over l gs xs []) (field " by clock bound " (placeOf (λ g. not (wider over l gs xs (g ∷ []))) gs)) otherwise
 
--- the first tick that all lows allow, and the first that invariant and highs do not
-abbrev pub windowWords : Location → Entry → List ClockGuard → List ℕ
-windowWords l at gs =
-    field "no window of at least one tick: ready at tick " (at .tick + readyOf gs (at .clocks)) ++ byWords [] false l gs (at .clocks)
-    ++ field ", over from tick " (at .tick + pastOf l gs (at .clocks)) ++ ascii " on" ++ byWords (ascii " by the invariant") true l gs (at .clocks)
+-- the first tick that all lows allow
+abbrev pub readyWords : Location → Entry → List ClockGuard → List ℕ
+readyWords l at gs = field ": ready at tick " (at .tick + readyOf gs (at .clocks)) ++ byWords [] false l gs (at .clocks)
+
+-- no window of at least one tick's length: that tick, and the first that invariant and highs do not allow
+abbrev pub noWindowWords : Location → Entry → List ClockGuard → List ℕ
+noWindowWords l at gs =
+    ascii "no window of at least one tick" ++ readyWords l at gs ++ field ", over from tick " (at .tick + pastOf l gs (at .clocks)) ++ ascii " on"
+    ++ byWords (ascii " by the invariant") true l gs (at .clocks)
+
+-- a window, and a budget that it is too short for (document 02, wish 8): "its window length, end − ready", as the two ticks
+abbrev pub shortWindowWords : ℕ → Location → Entry → List ClockGuard → List ℕ
+shortWindowWords budget l at gs =
+    field "window shorter than its budget of " budget ++ readyWords l at gs ++ field ", end at tick " (at .tick + pred (pastOf l gs (at .clocks)))
+    ++ byWords (ascii " by the invariant") true l gs (at .clocks)
+
+-- of an edge that the window keeps from being a candidate; the law `budget-missed` in proofs/Wording: with a tick's length it is the budget
+-- that is missed
+abbrev pub windowWords : Location → Entry → Arc → List ℕ
+windowWords l at a =
+    cond (ltb (suc (readyOf (a .clockGuards) (at .clocks))) (pastOf l (a .clockGuards) (at .clocks)))
+    (shortWindowWords (orElse (a .budget) 0) l at (a .clockGuards))
+    (noWindowWords l at (a .clockGuards))
 
 -- of an edge, which is a, where edge `taken` was taken, with its window
 abbrev pub reasonWords : Location → Entry → ℕ → ℕ → ℕ → Arc → Reason → List ℕ
 reasonWords l at taken ready end a Taken = field "taken, ticks " ready ++ field " to " end
 reasonWords l at taken ready end a (DataBound j) = let g = getD (a .dataGuards) j noBound in boundWords j g (valueAt (at .values) (g .variable))
-reasonWords l at taken ready end a NoWindow = windowWords l at (a .clockGuards)
+reasonWords l at taken ready end a NoWindow = windowWords l at a
 reasonWords l at taken ready end a ReadyLater = field "ready later, at tick " (at .tick + readyOf (a .clockGuards) (at .clocks))
 reasonWords l at taken ready end a HigherNumber = field "ready together with edge " taken ++ ascii ", numbered higher"
 

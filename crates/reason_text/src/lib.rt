@@ -7,7 +7,7 @@ ghost use Prim.Native.Nat.{ℕ, _+_, _*_, _≤_, _<_};
 ghost use lib.ListN.{length};
 ghost use Rattle.model.specs.Lists.{accepted, each};
 ghost use Rattle.model.specs.Table.{size};
-ghost use Rattle.model.specs.Places.{arcAt, startOf, Valid, readOf, componentIn};
+ghost use Rattle.model.specs.Places.{arcAt, budgeted, startOf, Valid, readOf, componentIn};
 ghost use Rattle.model.specs.Reasons.{edgesFrom};
 ghost use Rattle.window.specs.Views.{entryOf, ArcReady};
 ghost use Rattle.reasons.specs.Stays.{namedBy, Present};
@@ -34,18 +34,30 @@ fn put_edge(
     taken: u8,
     ready: u32,
     end: u32,
+    budgets: bool,
 ) -> usize
-    requires { ⌜ (at + 180 ≤ length (now out)) × ArcReady (now edge) × (location .clock < 4) × (entry .tick ≤ 60000) ⌝ }
-    ensures { λ r. ⌜ Added (now (out .entry)) at (lineIfHere location (entryOf entry) taken ready end e (arcAt (now (edge .entry)))) (now (out .exit)) r × (r ≤ at + 180) ⌝ }
+    requires { ⌜ (at + 180 ≤ length (now out)) × ArcReady budgets (now edge) × (location .clock < 4) × (entry .tick ≤ 60000) ⌝ }
+    ensures { λ r. ⌜ Added (now (out .entry)) at (lineIfHere location (entryOf entry) taken ready end e (arcAt budgets (now (edge .entry)))) (now (out .exit)) r × (r ≤ at + 180) ⌝ }
 {
-    let standing = window::judge(edge, location, entry);
+    let standing = window::judge(edge, location, entry, budgets);
     if reasons::telling::elsewhere(standing) {
         return at;
     }
     let reason = reasons::telling::reason_from(standing, e, taken, entry.tick, ready);
     let colon = put_field(out, at, b"edge ", e as u32);
     let words = put(out, colon, b": ");
-    let line = words::put_reason(out, words, edge, location, entry, taken, ready, end, reason);
+    let line = words::put_reason(
+        out,
+        words,
+        edge,
+        location,
+        entry,
+        taken,
+        ready,
+        end,
+        reason,
+        budgets,
+    );
     put(out, line, b"\n")
 }
 
@@ -60,8 +72,9 @@ fn put_edges(
     taken: u8,
     ready: u32,
     end: u32,
+    budgets: bool,
 ) -> usize
-    requires { ⌜ (from + 5760 ≤ length (now out)) × Valid (now table) × (c < size (readOf (now table) .table)) × (start ≡ startOf (now table) c) × (entry .location < length (componentIn (now table) c .locations)) × (entry .tick ≤ 60000) ⌝ }
+    requires { ⌜ (from + 5760 ≤ length (now out)) × Valid (now table) × (c < size (readOf (now table) .table)) × (start ≡ startOf (now table) c) × (entry .location < length (componentIn (now table) c .locations)) × (entry .tick ≤ 60000) × (budgets ≡ budgeted (now table)) ⌝ }
     ensures { λ r. ⌜ Added (now (out .entry)) from (linesAt (componentIn (now (table .entry)) c) (entryOf entry) taken ready end) (now (out .exit)) r × (r ≤ from + 5760) ⌝ }
 {
     let count = parts::wide(table[start + layout::COMPONENT_EDGES]);
@@ -85,8 +98,9 @@ fn put_edges(
             taken,
             ready,
             end,
+            budgets,
         );
-        place += decoder::arc_length(&table[place..]);
+        place += decoder::arc_length(&table[place..], budgets);
         e += 1;
     }
     at
@@ -118,6 +132,7 @@ pub fn put_reasons_text(out: &mut [u8], table: &[u8], asked: Asked) -> usize
         end: asked.end,
     };
     let lines = put_head(out, 0, asked.number, passage);
+    let budgets = decoder::budgeted(table);
     put_edges(
         out,
         lines,
@@ -128,5 +143,6 @@ pub fn put_reasons_text(out: &mut [u8], table: &[u8], asked: Asked) -> usize
         asked.edge,
         asked.ready,
         asked.end,
+        budgets,
     )
 }

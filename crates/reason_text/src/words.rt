@@ -6,14 +6,14 @@ ghost use Prim.Native.Nat.{ℕ, _+_, _*_, _≤_, _<_};
 ghost use lib.Dec.{ltb};
 ghost use lib.ListN.{length, getD};
 ghost use Rattle.model.specs.declared.Reason.the-variants.{DataBound};
-ghost use Rattle.model.specs.Lists.{All, placeOf};
-ghost use Rattle.model.specs.Reader.{clockGuardAt};
-ghost use Rattle.model.specs.Places.{listAt, arcAt};
-ghost use Rattle.model.specs.Window.{valueAt, readyOf, pastOf};
+ghost use Rattle.model.specs.Lists.{placeOf};
+ghost use Rattle.model.specs.Places.{arcAt};
+ghost use Rattle.model.specs.Window.{valueAt, readyOf};
 ghost use Rattle.model.specs.Reasons.{noBound};
 ghost use Rattle.window.specs.Views.{entryOf, ArcReady};
-ghost use Rattle.text.specs.Words.{Added};
-ghost use Rattle.reason_text.specs.ReasonText.{signed, allowedWords, boundWords, wider, byWords, windowWords, reasonWords};
+ghost use Rattle.text.specs.Words.{Added, field};
+ghost use Rattle.reason_text.specs.Bounds.{boundsAt, BoundsLeave};
+ghost use Rattle.reason_text.specs.ReasonText.{signed, allowedWords, boundWords, wider, byWords, readyWords, noWindowWords, shortWindowWords, windowWords, reasonWords};
 use model::DataGuard;
 use model::Location;
 use model::Reason;
@@ -60,11 +60,18 @@ fn put_fails(out: &mut [u8], at: usize, number: u8, guard: DataGuard, value: i16
 }
 
 // Data bound number j of the edge at the front of the bytes.
-fn put_bound(out: &mut [u8], at: usize, edge: &[u8], number: u8, values: [i16; 4]) -> usize
-    requires { ⌜ (at + 91 ≤ length (now out)) × ArcReady (now edge) × (number < length (arcAt (now edge) .dataGuards)) ⌝ }
-    ensures { λ r. ⌜ Added (now (out .entry)) at (let g = getD (arcAt (now (edge .entry)) .dataGuards) number noBound in boundWords number g (valueAt values (g .variable))) (now (out .exit)) r × (r ≤ at + 91) ⌝ }
+fn put_bound(
+    out: &mut [u8],
+    at: usize,
+    edge: &[u8],
+    number: u8,
+    values: [i16; 4],
+    budgets: bool,
+) -> usize
+    requires { ⌜ (at + 91 ≤ length (now out)) × ArcReady budgets (now edge) × (number < length (arcAt budgets (now edge) .dataGuards)) ⌝ }
+    ensures { λ r. ⌜ Added (now (out .entry)) at (let g = getD (arcAt budgets (now (edge .entry)) .dataGuards) number noBound in boundWords number g (valueAt values (g .variable))) (now (out .exit)) r × (r ≤ at + 91) ⌝ }
 {
-    let first = layout::EDGE_HEADER
+    let first = decoder::head_length(budgets)
         + (parts::wide(edge[layout::EDGE_CLOCK_GUARDS]) + parts::wide(number))
             * layout::GUARD_WIDTH;
     let guard = decoder::data_guard_at(&edge[first..]);
@@ -92,8 +99,8 @@ fn deciding(
     over: bool,
     all: Delays,
 ) -> u8
-    requires { ⌜ (count * 5 ≤ length (now guards)) × (location .clock < 4) × All (λ g. g .clock < 4) (listAt clockGuardAt 5 count (now guards)) × (all .ready ≡ readyOf (listAt clockGuardAt 5 count (now guards)) clocks) × (all .past ≡ pastOf location (listAt clockGuardAt 5 count (now guards)) clocks) ⌝ }
-    ensures { λ r. ⌜ r ≡ placeOf (λ g. not (wider over location (listAt clockGuardAt 5 count (now (guards .entry))) clocks (g ∷ []))) (listAt clockGuardAt 5 count (now (guards .entry))) ⌝ }
+    requires { ⌜ BoundsLeave (now guards) count location clocks all ⌝ }
+    ensures { λ r. ⌜ r ≡ placeOf (λ g. not (wider over location (boundsAt count (now (guards .entry))) clocks (g ∷ []))) (boundsAt count (now (guards .entry))) ⌝ }
 {
     let mut at: usize = 0;
     let mut k = count;
@@ -120,8 +127,8 @@ fn put_by(
     over: bool,
     all: Delays,
 ) -> usize
-    requires { ⌜ (at + length (now otherwise) + 26 ≤ length (now out)) × (count * 5 ≤ length (now guards)) × (location .clock < 4) × All (λ g. g .clock < 4) (listAt clockGuardAt 5 count (now guards)) × (all .ready ≡ readyOf (listAt clockGuardAt 5 count (now guards)) clocks) × (all .past ≡ pastOf location (listAt clockGuardAt 5 count (now guards)) clocks) ⌝ }
-    ensures { λ r. ⌜ Added (now (out .entry)) at (byWords (now (otherwise .entry)) over location (listAt clockGuardAt 5 count (now (guards .entry))) clocks) (now (out .exit)) r × (r ≤ at + length (now (otherwise .entry)) + 26) ⌝ }
+    requires { ⌜ (at + 26 ≤ length (now out)) × (length (now otherwise) ≤ 26) × BoundsLeave (now guards) count location clocks all ⌝ }
+    ensures { λ r. ⌜ Added (now (out .entry)) at (byWords (now (otherwise .entry)) over location (boundsAt count (now (guards .entry))) clocks) (now (out .exit)) r × (r ≤ at + 26) ⌝ }
 {
     let none = window::window(guards, 0, location, clocks);
     if is_wider(over, none, all) {
@@ -131,27 +138,40 @@ fn put_by(
     put(out, at, otherwise)
 }
 
-// The window of an edge, which has `count` clock bounds, where it is too short.
-fn put_window(
+// From which tick on the lows of an edge's `count` clock bounds allow it.
+fn put_ready(
     out: &mut [u8],
     at: usize,
     guards: &[u8],
     count: u8,
     location: Location,
     entry: Entry,
+    all: Delays,
 ) -> usize
-    requires { ⌜ (at + 160 ≤ length (now out)) × (count * 5 ≤ length (now guards)) × (location .clock < 4) × All (λ g. g .clock < 4) (listAt clockGuardAt 5 count (now guards)) × (entry .tick ≤ 60000) ⌝ }
-    ensures { λ r. ⌜ Added (now (out .entry)) at (windowWords location (entryOf entry) (listAt clockGuardAt 5 count (now (guards .entry)))) (now (out .exit)) r × (r ≤ at + 160) ⌝ }
+    requires { ⌜ (at + 52 ≤ length (now out)) × (entry .tick ≤ 60000) × BoundsLeave (now guards) count location (entry .clocks) all ⌝ }
+    ensures { λ r. ⌜ Added (now (out .entry)) at (readyWords location (entryOf entry) (boundsAt count (now (guards .entry)))) (now (out .exit)) r × (r ≤ at + 52) ⌝ }
 {
     let clocks = entry.clocks;
-    let all = window::window(guards, count, location, clocks);
-    let by = put_field(
-        out,
-        at,
-        b"no window of at least one tick: ready at tick ",
-        entry.tick + all.ready,
-    );
-    let comma = put_by(out, by, b"", guards, count, location, clocks, false, all);
+    let by = put_field(out, at, b": ready at tick ", entry.tick + all.ready);
+    put_by(out, by, b"", guards, count, location, clocks, false, all)
+}
+
+// An edge without a window of at least one tick's length.
+fn put_no_window(
+    out: &mut [u8],
+    at: usize,
+    guards: &[u8],
+    count: u8,
+    location: Location,
+    entry: Entry,
+    all: Delays,
+) -> usize
+    requires { ⌜ (at + 160 ≤ length (now out)) × (entry .tick ≤ 60000) × BoundsLeave (now guards) count location (entry .clocks) all ⌝ }
+    ensures { λ r. ⌜ Added (now (out .entry)) at (noWindowWords location (entryOf entry) (boundsAt count (now (guards .entry)))) (now (out .exit)) r × (r ≤ at + 160) ⌝ }
+{
+    let clocks = entry.clocks;
+    let ready = put(out, at, b"no window of at least one tick");
+    let comma = put_ready(out, ready, guards, count, location, entry, all);
     let on = put_field(out, comma, b", over from tick ", entry.tick + all.past);
     let until = put(out, on, b" on");
     put_by(
@@ -167,6 +187,88 @@ fn put_window(
     )
 }
 
+// An edge whose window is shorter than its budget.
+fn put_short_window(
+    out: &mut [u8],
+    at: usize,
+    budget: u16,
+    guards: &[u8],
+    count: u8,
+    location: Location,
+    entry: Entry,
+    all: Delays,
+) -> usize
+    requires { ⌜ (at + 160 ≤ length (now out)) × (entry .tick ≤ 60000) × BoundsLeave (now guards) count location (entry .clocks) all × (1 ≤ all .past) ⌝ }
+    ensures { λ r. ⌜ Added (now (out .entry)) at (shortWindowWords budget location (entryOf entry) (boundsAt count (now (guards .entry)))) (now (out .exit)) r × (r ≤ at + 160) ⌝ }
+{
+    let clocks = entry.clocks;
+    let ready = put_field(
+        out,
+        at,
+        b"window shorter than its budget of ",
+        parts::word32(budget),
+    );
+    let comma = put_ready(out, ready, guards, count, location, entry, all);
+    let until = put_field(out, comma, b", end at tick ", entry.tick + (all.past - 1));
+    put_by(
+        out,
+        until,
+        b" by the invariant",
+        guards,
+        count,
+        location,
+        clocks,
+        true,
+        all,
+    )
+}
+
+// The window of the edge at the front of the bytes, where it keeps the edge from being a candidate.
+fn put_window(
+    out: &mut [u8],
+    at: usize,
+    edge: &[u8],
+    location: Location,
+    entry: Entry,
+    budgets: bool,
+) -> usize
+    requires { ⌜ (at + 160 ≤ length (now out)) × ArcReady budgets (now edge) × (location .clock < 4) × (entry .tick ≤ 60000) ⌝ }
+    ensures { λ r. ⌜ Added (now (out .entry)) at (windowWords location (entryOf entry) (arcAt budgets (now (edge .entry)))) (now (out .exit)) r × (r ≤ at + 160) ⌝ }
+{
+    let head = decoder::head_length(budgets);
+    let count = edge[layout::EDGE_CLOCK_GUARDS];
+    let clocks = entry.clocks;
+    let all = window::window(&edge[head..], count, location, clocks);
+    if all.ready + 1 < all.past {
+        let budget = decoder::budget_at(edge, budgets);
+        return put_short_window(out, at, budget, &edge[head..], count, location, entry, all);
+    }
+    put_no_window(out, at, &edge[head..], count, location, entry, all)
+}
+
+// When the edge at the front of the bytes is ready, which is later than the one taken.
+fn put_later(
+    out: &mut [u8],
+    at: usize,
+    edge: &[u8],
+    location: Location,
+    entry: Entry,
+    budgets: bool,
+) -> usize
+    requires { ⌜ (at + 31 ≤ length (now out)) × ArcReady budgets (now edge) × (location .clock < 4) × (entry .tick ≤ 60000) ⌝ }
+    ensures { λ r. ⌜ Added (now (out .entry)) at (field "ready later, at tick " (entry .tick + readyOf (arcAt budgets (now (edge .entry)) .clockGuards) (entry .clocks))) (now (out .exit)) r × (r ≤ at + 31) ⌝ }
+{
+    let head = decoder::head_length(budgets);
+    let clocks = entry.clocks;
+    let delays = window::window(
+        &edge[head..],
+        edge[layout::EDGE_CLOCK_GUARDS],
+        location,
+        clocks,
+    );
+    put_field(out, at, b"ready later, at tick ", entry.tick + delays.ready)
+}
+
 // The reason of the edge at the front of the bytes, where another was taken or this one.
 pub fn put_reason(
     out: &mut [u8],
@@ -178,9 +280,10 @@ pub fn put_reason(
     ready: u32,
     end: u32,
     reason: Reason,
+    budgets: bool,
 ) -> usize
-    requires { ⌜ (at + 160 ≤ length (now out)) × ArcReady (now edge) × (location .clock < 4) × (entry .tick ≤ 60000) × ((j : ℕ) → reason ≡ DataBound j → j < length (arcAt (now edge) .dataGuards)) ⌝ }
-    ensures { λ r. ⌜ Added (now (out .entry)) at (reasonWords location (entryOf entry) taken ready end (arcAt (now (edge .entry))) reason) (now (out .exit)) r × (r ≤ at + 160) ⌝ }
+    requires { ⌜ (at + 160 ≤ length (now out)) × ArcReady budgets (now edge) × (location .clock < 4) × (entry .tick ≤ 60000) × ((j : ℕ) → reason ≡ DataBound j → j < length (arcAt budgets (now edge) .dataGuards)) ⌝ }
+    ensures { λ r. ⌜ Added (now (out .entry)) at (reasonWords location (entryOf entry) taken ready end (arcAt budgets (now (edge .entry))) reason) (now (out .exit)) r × (r ≤ at + 160) ⌝ }
 {
     match reason {
         Reason::Taken => {
@@ -189,26 +292,10 @@ pub fn put_reason(
         }
         Reason::DataBound(number) => {
             let values = entry.values;
-            put_bound(out, at, edge, number, values)
+            put_bound(out, at, edge, number, values, budgets)
         }
-        Reason::NoWindow => put_window(
-            out,
-            at,
-            &edge[layout::EDGE_HEADER..],
-            edge[layout::EDGE_CLOCK_GUARDS],
-            location,
-            entry,
-        ),
-        Reason::ReadyLater => {
-            let clocks = entry.clocks;
-            let delays = window::window(
-                &edge[layout::EDGE_HEADER..],
-                edge[layout::EDGE_CLOCK_GUARDS],
-                location,
-                clocks,
-            );
-            put_field(out, at, b"ready later, at tick ", entry.tick + delays.ready)
-        }
+        Reason::NoWindow => put_window(out, at, edge, location, entry, budgets),
+        Reason::ReadyLater => put_later(out, at, edge, location, entry, budgets),
         Reason::HigherNumber => {
             let higher = put_field(out, at, b"ready together with edge ", taken as u32);
             put(out, higher, b", numbered higher")

@@ -12,7 +12,7 @@ use Rattle.model.specs.declared.Location.{Location}
 use Rattle.model.specs.declared.Verdict.{Verdict}
 use Rattle.model.specs.declared.Verdict.the-variants.{Accepted, Refused}
 use Rattle.model.specs.Lists.{_∈_, here, there, each, Answer, accepted, refused}
-use Rattle.model.specs.Table.{Component, noLocation, sizesOf, locationOf, arcOf}
+use Rattle.model.specs.Table.{Component, noLocation, headerOf, sizesOf, locationOf, arcOf}
 use Rattle.model.specs.Limits.{ArcIn, ComponentIn}
 use Rattle.model.specs.Places.{readOf, componentIn}
 use Rattle.model.specs.Schedule.{Passage}
@@ -47,14 +47,14 @@ module _ (bs : List ℕ) (b : (j : ℕ) → Fits w8 (getD bs j 0)) (r : Asked) (
   abbrev l : Location
   l = locationOf C (r .at .location)
 
-  pub in-limits : ComponentIn (readOf bs .table .channels) C
+  pub in-limits : ComponentIn (headerOf (readOf bs)) C
   in-limits = limits-of bs b (p .valid) (r .component) (p .present)
 
   pub clock-there : l .clock < C .clocks
   clock-there = all-at noLocation (in-limits .locations) (r .at .location) (p .location) .clock
 
-  pub edge-in : (e : ℕ) → e < length (C .arcs) → ArcIn (sizesOf (readOf bs .table .channels) C) (arcOf C e)
-  edge-in = arc-in (readOf bs .table .channels) C in-limits
+  pub edge-in : (e : ℕ) → e < length (C .arcs) → ArcIn (sizesOf (headerOf (readOf bs)) C) (arcOf C e)
+  edge-in = arc-in (headerOf (readOf bs)) C in-limits
 
   -- with all four clocks and variables the reason is the same
   pub same-reason : (e : ℕ) → e < length (C .arcs) → reasonBy l (entryOf (r .at)) (r .edge) (r .ready) e (arcOf C e) ≡ reasonOf C v e

@@ -11,7 +11,7 @@ use lib.ListN.{replicate}
 use mir.Syntax.{w8}
 use mir.Val.{Fits}
 use Rattle.model.specs.Lists.{All, Bytes, accepted}
-use Rattle.model.specs.Table.{Arc, Table, size, sizesOf, componentOf, arcOf}
+use Rattle.model.specs.Table.{Arc, Table, headerOf, size, sizesOf, componentOf, arcOf}
 use Rattle.model.specs.Window.{leadsTo, leaves}
 use Rattle.model.specs.Reader.{byte}
 use Rattle.model.specs.Places.{readOf, componentIn, startOf, Valid}
@@ -143,8 +143,8 @@ module _ (bs l : List ℕ) (n c tick i : ℕ) (at : Entry) (o : On bs l n c tick
           let row = o .walked .placed .row i h in
           let C = componentIn bs (num l i 0) in
           let k = limits-of bs b (o .walked .placed .valid) (num l i 0) (row .present) in
-          let channels = readOf bs .table .channels in
-          let q = leads-in (sizesOf channels C) (arcOf C (num l i 1)) (messageOf (num l i 6)) (arc-in channels C k (num l i 1) (row .there)) in
+          let header = headerOf (readOf bs) in
+          let q = leads-in (sizesOf header C) (arcOf C (num l i 1)) (messageOf (num l i 6)) (arc-in header C k (num l i 1) (row .there)) in
           subst (λ (m : ℕ). leadsTo arc (messageOf (num l i 6)) < length (componentIn bs m .locations)) mine q
 
       pub on-next : On bs l n c tick (suc i) next
@@ -160,7 +160,7 @@ module _ (bs l : List ℕ) (n c tick i : ℕ) (at : Entry) (o : On bs l n c tick
           let from = relocated (o .here) (entryOf at) in
           let a = ahead-next H c C S i _ here (o .ahead) its (omega (arith, end, o .walked .below)) in
           let there : num l i 1 < length (C .arcs) = subst (λ k. num l i 1 < length (componentIn bs k .arcs)) mine (row .there) in
-          let cutting = leaves-cut (readOf bs .table .channels) C (valid-in bs (known-bytes bs b) (o .walked .placed .valid) c (o .walked .present)) (v .edge) (subst (λ k. k < length (C .arcs)) edge there) (v .message) (v .end) from in
+          let cutting = leaves-cut (headerOf (readOf bs)) C (valid-in bs (known-bytes bs b) (o .walked .placed .valid) c (o .walked .present)) (v .edge) (subst (λ k. k < length (C .arcs)) edge there) (v .message) (v .end) from in
           let is-arc : arc ≡ arcOf C (v .edge) = ap₂ (λ k e. arcOf (componentIn bs k) e) mine edge in
           let step : leaves (arcOf C (v .edge)) (v .message) (v .end) from ≡ relocated (leadsTo arc (messageOf (num l i 6))) (entryOf next) = rw (← is-arc, ← m, ← end) (sym (grown .leads (messageOf (num l i 6)))) in
           record {
@@ -184,7 +184,7 @@ on-start bs l n c tick start b w s at p q x y =
     let C = componentIn bs c in
     let law = schedule-at 0 (readOf bs .table) (readOf bs .horizon) limit (w .passages) (w .acceptedSchedule) .0 in
     let i = valid-in bs (known-bytes bs b) (w .placed .valid) c (w .present) in
-    let e : startEntry C ≡ cut C (entryOf at) = start-cut (readOf bs .table .channels) C i (entryOf at) (initial-read bs b (w .placed .valid) c start (w .present) s p) q x y in
+    let e : startEntry C ≡ cut C (entryOf at) = start-cut (headerOf (readOf bs)) C i (entryOf at) (initial-read bs b (w .placed .valid) c start (w .present) s p) q x y in
     record {
       walked = w;
       here = at .location;

@@ -9,7 +9,7 @@ ghost use Rattle.model.specs.declared.Verdict.the-variants.{Refused};
 ghost use Rattle.model.specs.Lists.{All, accepted};
 ghost use Rattle.model.specs.Schedule.{passageArc};
 ghost use Rattle.model.specs.Reader.{byte};
-ghost use Rattle.model.specs.Places.{readOf, startOf, Valid};
+ghost use Rattle.model.specs.Places.{budgeted, readOf, startOf, Valid};
 ghost use Rattle.model.specs.Reasons.{asked, reasonsCall, ReasonsTrue};
 ghost use Rattle.model.specs.Reasons.{told as toldOf};
 ghost use Rattle.table.specs.Directory.{startsOf};
@@ -50,17 +50,17 @@ pub struct Told {
 
 // Clocks and variables after the passage of row i, from those at its entry; the location stays. The parts of `window::leave`, which is made for its
 // one caller, the schedule: with a second one the compiler would no longer put it there.
-fn grown(table: &[u8], rows: &[u32], i: usize, at: Entry) -> Entry
-    requires { ⌜ RowKnown (now table) (now rows) i × (at .tick ≤ num (now rows) i 5) × All (λ x. x ≤ at .tick) (at .clocks) ⌝ }
+fn grown(table: &[u8], rows: &[u32], i: usize, at: Entry, budgets: bool) -> Entry
+    requires { ⌜ RowKnown (now table) (now rows) i × (at .tick ≤ num (now rows) i 5) × All (λ x. x ≤ at .tick) (at .clocks) × (budgets ≡ budgeted (now table)) ⌝ }
     ensures { λ r. ⌜ Grown (passageArc (readOf (now (table .entry)) .table) (rowPassage (now (rows .entry)) i)) (num (now (rows .entry)) i 5) at r ⌝ }
 {
     let place = rows::index(rows, i, rows::PLACE);
     let end = rows::number(rows, i, rows::END);
     let before = at.values;
-    let after = window::updates::edge_update(&table[place..], before);
+    let after = window::updates::edge_update(&table[place..], before, budgets);
     let values = window::kept_values(after, before);
     let young = at.clocks;
-    let edge = decoder::edge_at(&table[place..]);
+    let edge = decoder::edge_at(&table[place..], budgets);
     let clocks = window::age(edge.mask, end - at.tick, young);
     Entry {
         location: at.location,
@@ -89,8 +89,16 @@ fn stay_in(rows: &[u32], i: usize, at: Entry) -> Stay
 }
 
 // The passage of component c, which starts there in the table, at the tick, among the rows.
-fn stay_at(table: &[u8], start: usize, rows: &[u32], count: usize, c: u8, tick: u32) -> Stay
-    requires { ⌜ Walked (now table) (now rows) count c tick × (start ≡ startOf (now table) c) ⌝ }
+fn stay_at(
+    table: &[u8],
+    start: usize,
+    rows: &[u32],
+    count: usize,
+    c: u8,
+    tick: u32,
+    budgets: bool,
+) -> Stay
+    requires { ⌜ Walked (now table) (now rows) count c tick × (start ≡ startOf (now table) c) × (budgets ≡ budgeted (now table)) ⌝ }
     ensures { λ r. ⌜ Stayed (now (table .entry)) (now (rows .entry)) count c tick r ⌝ }
 {
     let mut at = schedule::start_entry(table, start);
@@ -100,7 +108,7 @@ fn stay_at(table: &[u8], start: usize, rows: &[u32], count: usize, c: u8, tick: 
             if tick < rows::number(rows, i, rows::END) {
                 return stay_in(rows, i, at);
             }
-            at = grown(table, rows, i, at);
+            at = grown(table, rows, i, at, budgets);
         }
         i += 1;
     }
@@ -108,11 +116,19 @@ fn stay_at(table: &[u8], start: usize, rows: &[u32], count: usize, c: u8, tick: 
 }
 
 // The passage of component c, which starts there in the table, at the tick, with its fields.
-fn named(table: &[u8], start: usize, rows: &[u32], count: usize, c: u8, tick: u32) -> Asked
-    requires { ⌜ Walked (now table) (now rows) count c tick × (start ≡ startOf (now table) c) ⌝ }
+fn named(
+    table: &[u8],
+    start: usize,
+    rows: &[u32],
+    count: usize,
+    c: u8,
+    tick: u32,
+    budgets: bool,
+) -> Asked
+    requires { ⌜ Walked (now table) (now rows) count c tick × (start ≡ startOf (now table) c) × (budgets ≡ budgeted (now table)) ⌝ }
     ensures { λ r. ⌜ Answers (now (table .entry)) (asked (now (table .entry)) c tick) r ⌝ }
 {
-    let stay = stay_at(table, start, rows, count, c, tick);
+    let stay = stay_at(table, start, rows, count, c, tick, budgets);
     let i = stay.row;
     let at = stay.at;
     Asked {
@@ -171,7 +187,8 @@ fn ask_read(table: &[u8], starts: [u16; 8], component: u32, tick: u32) -> Asked
             }
             let c = component as u8;
             let start = parts::word_place(starts[parts::wide(c)]);
-            named(table, start, &rows, planned.count, c, tick)
+            let budgets = decoder::budgeted(table);
+            named(table, start, &rows, planned.count, c, tick, budgets)
         }
     }
 }
@@ -207,7 +224,8 @@ fn tell(table: &[u8], asked: Asked, told: &mut [u8]) -> Told
     ensures { λ r. ⌜ Tells (toldOf (now (told .entry)) (accepted (namedBy (now (table .entry)) asked))) r (now (told .exit)) × (r .passage ≤ 1024) × (r .size ≤ 32) ⌝ }
 {
     let at = asked.at;
-    let size = telling::count_edges(table, asked.start, asked.component, at.location);
+    let budgets = decoder::budgeted(table);
+    let size = telling::count_edges(table, asked.start, asked.component, at.location, budgets);
     if told.len() / 3 < size {
         return refused(13, 255);
     }
@@ -219,6 +237,7 @@ fn tell(table: &[u8], asked: Asked, told: &mut [u8]) -> Told
         asked.edge,
         asked.ready,
         told,
+        budgets,
     );
     Told {
         verdict: Verdict::Accepted,

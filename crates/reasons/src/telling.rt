@@ -6,7 +6,7 @@ ghost use lib.ListN.{length, drop};
 ghost use lib.Seq.{sets};
 ghost use Rattle.model.specs.Lists.{each};
 ghost use Rattle.model.specs.Table.{size};
-ghost use Rattle.model.specs.Places.{arcAt, startOf, Valid, readOf, componentIn};
+ghost use Rattle.model.specs.Places.{arcAt, budgeted, startOf, Valid, readOf, componentIn};
 ghost use Rattle.model.specs.Reasons.{edgesFrom, reasonNumber, reasonBound};
 ghost use Rattle.window.specs.Views.{entryOf, ArcReady, SmallDelays};
 ghost use Rattle.reasons.specs.Telling.{isElsewhere, reasonFrom, one, EdgePut, edgeBytes};
@@ -94,11 +94,12 @@ fn put_edge(
     ready: u32,
     told: &mut [u8],
     k: usize,
+    budgets: bool,
 ) -> usize
-    requires { ⌜ ArcReady (now edge) × (location .clock < 4) × (at .tick ≤ 1000000) × (k ≤ 32) × (arcAt (now edge) .edge .source ≡ at .location → k * 3 + 3 ≤ length (now told)) ⌝ }
-    ensures { λ r. ⌜ EdgePut location (entryOf at) taken ready e (arcAt (now (edge .entry))) k (now (told .entry)) r (now (told .exit)) ⌝ }
+    requires { ⌜ ArcReady budgets (now edge) × (location .clock < 4) × (at .tick ≤ 1000000) × (k ≤ 32) × (arcAt budgets (now edge) .edge .source ≡ at .location → k * 3 + 3 ≤ length (now told)) ⌝ }
+    ensures { λ r. ⌜ EdgePut location (entryOf at) taken ready e (arcAt budgets (now (edge .entry))) k (now (told .entry)) r (now (told .exit)) ⌝ }
 {
-    let standing = window::judge(edge, location, at);
+    let standing = window::judge(edge, location, at, budgets);
     if elsewhere(standing) {
         return k;
     }
@@ -108,8 +109,8 @@ fn put_edge(
 }
 
 // How many edges of component c, which starts there in the table, leave the location.
-pub fn count_edges(table: &[u8], start: usize, c: u8, here: u8) -> usize
-    requires { ⌜ Valid (now table) × (c < size (readOf (now table) .table)) × (start ≡ startOf (now table) c) ⌝ }
+pub fn count_edges(table: &[u8], start: usize, c: u8, here: u8, budgets: bool) -> usize
+    requires { ⌜ Valid (now table) × (c < size (readOf (now table) .table)) × (start ≡ startOf (now table) c) × (budgets ≡ budgeted (now table)) ⌝ }
     ensures { λ r. ⌜ (r ≡ length (edgesFrom (componentIn (now (table .entry)) c) here)) × (r ≤ 32) ⌝ }
 {
     let count = parts::wide(table[start + layout::COMPONENT_EDGES]);
@@ -120,7 +121,7 @@ pub fn count_edges(table: &[u8], start: usize, c: u8, here: u8) -> usize
     let mut e: usize = 0;
     while e < count {
         k += counted(table[place + layout::EDGE_SOURCE], here);
-        place += decoder::arc_length(&table[place..]);
+        place += decoder::arc_length(&table[place..], budgets);
         e += 1;
     }
     k
@@ -141,8 +142,9 @@ pub fn put_reasons(
     taken: u8,
     ready: u32,
     told: &mut [u8],
+    budgets: bool,
 )
-    requires { ⌜ Valid (now table) × (c < size (readOf (now table) .table)) × (start ≡ startOf (now table) c) × (at .location < length (componentIn (now table) c .locations)) × (at .tick ≤ 1000000) × (length (edgesFrom (componentIn (now table) c) (at .location)) * 3 ≤ length (now told)) ⌝ }
+    requires { ⌜ Valid (now table) × (c < size (readOf (now table) .table)) × (start ≡ startOf (now table) c) × (at .location < length (componentIn (now table) c .locations)) × (at .tick ≤ 1000000) × (length (edgesFrom (componentIn (now table) c) (at .location)) * 3 ≤ length (now told)) × (budgets ≡ budgeted (now table)) ⌝ }
     ensures { λ _. ⌜ now (told .exit) ≡ each (edgeBytes (componentIn (now (table .entry)) c) (entryOf at) taken ready) (edgesFrom (componentIn (now (table .entry)) c) (at .location)) ++ drop (length (edgesFrom (componentIn (now (table .entry)) c) (at .location)) * 3) (now (told .entry)) ⌝ }
 {
     let count = parts::wide(table[start + layout::COMPONENT_EDGES]);
@@ -165,8 +167,9 @@ pub fn put_reasons(
             ready,
             told,
             k,
+            budgets,
         );
-        place += decoder::arc_length(&table[place..]);
+        place += decoder::arc_length(&table[place..], budgets);
         e += 1;
     }
 }

@@ -9,16 +9,17 @@ use borrow.Author.Needs.{needs}
 use lib.Dec.{eqb}
 use lib.ListN.{length, drop}
 use Rattle.model.specs.declared.Sizes.{Sizes}
+use Rattle.model.specs.declared.TableHeader.{TableHeader}
 use Rattle.model.specs.Lists.{Bytes}
-use Rattle.model.specs.Reader.{byte, word, listed, bodyStart}
+use Rattle.model.specs.Reader.{byte, word, listed, bodyStart, headerAt}
 use Rattle.model.proofs.Basics.Words.{byte-small}
 use Rattle.parts.specs.Place.{channelsBefore}
 use Rattle.table.specs.Directory.{headerOf}
 use Rattle.refusal_place.specs.Ranges.{bytesField, wordField, channelField, allowed, numberAt, dataLimit, itemLeast, itemLimit, fieldsOf, widthOf}
-use Rattle.refusal_place.specs.Walk.{nowhere, going, stopsIf, fits, once, ends, ranged, contents, passed, inside, onePart, onePair, counted, numbered, ofComponent, ofEdge, several, items, edgeFrom, edge, edges, sizesFrom, endFrom, lengthStated, bodyFrom, componentFrom, component, components, placeOf}
+use Rattle.refusal_place.specs.Walk.{nowhere, going, stopsIf, fits, once, ends, ranged, contents, passed, inside, onePart, onePair, counted, numbered, ofComponent, ofEdge, several, items, budgetPart, edgeFrom, edge, edges, sizesFrom, endFrom, lengthStated, bodyFrom, componentFrom, component, components, placeOf}
 use Rattle.refusal_place.specs.Told.{Bounded}
 use Rattle.refusal_place.specs.declared.Part.{Part}
-use Rattle.refusal_place.specs.declared.Part.the-variants.{ComponentLength, ComponentHead, Location, EdgeHead, ClockBound, DataBound, Update, Channel, Pair, ComponentEnd, TableEnd}
+use Rattle.refusal_place.specs.declared.Part.the-variants.{ComponentLength, ComponentHead, Location, EdgeHead, ClockBound, DataBound, Update, Channel, Pair, ComponentEnd, TableEnd, Budget}
 use Rattle.refusal_place.specs.declared.Subject.{Subject}
 use Rattle.refusal_place.specs.declared.Field.{Field}
 use Rattle.refusal_place.specs.declared.Walk.{Walk}
@@ -66,6 +67,7 @@ width-in Channel = omega arith
 width-in Pair = omega arith
 width-in ComponentEnd = omega arith
 width-in TableEnd = omega arith
+width-in Budget = omega arith
 
 module _ (bs : List ℕ) (known : Bytes bs) where
   fields-in : (part : Part) (s : Sizes) (at : ℕ) → SizesIn s → FieldsIn (fieldsOf part s bs at)
@@ -84,6 +86,7 @@ module _ (bs : List ℕ) (known : Bytes bs) where
   fields-in Pair s at i = let channels = i .channels in let locations = i .locations in search needs
   fields-in ComponentEnd s at i = tt
   fields-in TableEnd s at i = tt
+  fields-in Budget s at i = ((omega arith, omega arith, omega arith, omega arith), tt)
 
   -- ## One test
 
@@ -187,12 +190,20 @@ module _ (bs : List ℕ) (known : Bytes bs) where
     items-kept c e (suc (suc kind)) n w k =
         counted-kept end (λ j. onePair bs end (w .at) s (numbered (ofEdge c e Pair) j)) (λ j. pair-kept (numbered (ofEdge c e Pair) j) (w .at)) 0 n w k
 
+    budget-kept : (c e : ℕ) (w : Walk) → Kept end w → Kept end (budgetPart bs end s c e w)
+    unfolding budgetPart
+    budget-kept c e w k = go (s .budgets)
+      where
+        go : (t : Bool) → Kept end (cond t (onePart bs end s (ofEdge c e Budget) w) w)
+        go true = part-kept (ofEdge c e Budget) w k
+        go false = k
+
     edge-kept : (c e : ℕ) (w : Walk) → Kept end w → Kept end (edge bs end s c e w)
     unfolding edge edgeFrom
     edge-kept c e w k = go (going w)
       where
         head : Walk
-        head = onePart bs end s (ofEdge c e EdgeHead) w
+        head = budgetPart bs end s c e (onePart bs end s (ofEdge c e EdgeHead) w)
 
         clocks : Walk
         clocks = several bs end s (ofEdge c e ClockBound) (byte bs (w .at + 4)) head
@@ -201,7 +212,7 @@ module _ (bs : List ℕ) (known : Bytes bs) where
         go true =
             items-kept c e (byte bs (w .at)) (byte bs (w .at + 6)) (several bs end s (ofEdge c e DataBound) (byte bs (w .at + 5)) clocks)
             (several-kept (ofEdge c e DataBound) (byte bs (w .at + 5)) clocks
-            (several-kept (ofEdge c e ClockBound) (byte bs (w .at + 4)) head (part-kept (ofEdge c e EdgeHead) w k)))
+            (several-kept (ofEdge c e ClockBound) (byte bs (w .at + 4)) head (budget-kept c e (onePart bs end s (ofEdge c e EdgeHead) w) (part-kept (ofEdge c e EdgeHead) w k))))
         go false = k
 
     body-kept : (c from : ℕ) (w : Walk) → Kept end w → Kept end (bodyFrom bs end s c from w)
@@ -227,15 +238,15 @@ module _ (bs : List ℕ) (known : Bytes bs) where
               _,
         )
 
-    component-kept : (channels : ℕ) → channels < 256 → (c : ℕ) (w : Walk) → Kept (length bs) w → Kept (length bs) (component bs channels c w)
+    component-kept : (header : TableHeader) → header .channels < 256 → (c : ℕ) (w : Walk) → Kept (length bs) w → Kept (length bs) (component bs header c w)
     unfolding component componentFrom
-    component-kept channels h c w (k, b) = go (going w)
+    component-kept header h c w (k, b) = go (going w)
       where
         end : ℕ
         end = endFrom bs (w .at)
 
         s : Sizes
-        s = sizesFrom bs channels (w .at)
+        s = sizesFrom bs header (w .at)
 
         within : (w .at ≤ end) × (end ≤ length bs)
         within = (omega arith, omega arith)
@@ -246,20 +257,20 @@ module _ (bs : List ℕ) (known : Bytes bs) where
         stated : Kept end (lengthStated bs c w)
         stated = let t = length-kept c w (k, b) in (rw (t .0) (within .0), t .1)
 
-        whole : Kept end (componentFrom bs channels c (w .at) w)
+        whole : Kept end (componentFrom bs header c (w .at) w)
         whole =
             body-kept end (omega (arith, within .1)) s bytes c (w .at) (onePart bs end s (ofComponent c ComponentHead) (lengthStated bs c w))
             (part-kept end (omega (arith, within .1)) s bytes (ofComponent c ComponentHead) (lengthStated bs c w) stated)
 
-        go : (t : Bool) → Kept (length bs) (cond t (componentFrom bs channels c (w .at) w) w)
+        go : (t : Bool) → Kept (length bs) (cond t (componentFrom bs header c (w .at) w) w)
         go true = (omega (arith, whole .0, within .1), whole .1)
         go false = (k, b)
 
     components-kept : (w : Walk) → Kept (length bs) w → Kept (length bs) (components bs w)
     unfolding components
     components-kept w k =
-        ends-kept (length bs) near (ofComponent (pred (byte bs 3)) TableEnd) (counted (component bs (byte bs 4)) 0 (byte bs 3) w)
-        (counted-kept (length bs) (component bs (byte bs 4)) (component-kept (byte bs 4) (byte-small known 4)) 0 (byte bs 3) w k)
+        ends-kept (length bs) near (ofComponent (pred (byte bs 3)) TableEnd) (counted (component bs (headerAt bs)) 0 (byte bs 3) w)
+        (counted-kept (length bs) (component bs (headerAt bs)) (component-kept (headerAt bs) (byte-small known 4)) 0 (byte bs 3) w k)
 
   -- ## The table
 

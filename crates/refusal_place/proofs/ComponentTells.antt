@@ -9,6 +9,7 @@ use lib.Dec.{leb, leb·zero}
 use lib.ListN.{length}
 use lib.Seq.{drop-cons}
 use Rattle.model.proofs.Basics.Bools.{clash}
+use Rattle.model.specs.declared.TableHeader.{TableHeader}
 use Rattle.model.specs.declared.Sizes.{Sizes}
 use Rattle.model.specs.Table.{Component}
 use Rattle.model.specs.Reader.{byte, ok, fault, _then_, part, many, readLocation, readArc, headFine, sizesAt, componentWith, finished, readBody, readComponent}
@@ -125,17 +126,17 @@ module _ (bs : List ℕ) (end : ℕ) (h : end ≤ length bs) (small : end ≤ 81
 
   -- ## A component
 
-  pub component-tells : (channels : ℕ) (w : Walk) → going w ≡ true → w .at ≤ end
-      → Tells bs end c (readComponent channels (rest bs end (w .at)))
-      (bodyWalk bs end c (sizesFrom bs channels (w .at)) (byte bs (w .at + 2)) (byte bs (w .at + 6)) (onePart bs end (sizesFrom bs channels (w .at)) (ofComponent c ComponentHead) w))
+  pub component-tells : (header : TableHeader) (w : Walk) → going w ≡ true → w .at ≤ end
+      → Tells bs end c (readComponent header (rest bs end (w .at)))
+      (bodyWalk bs end c (sizesFrom bs header (w .at)) (byte bs (w .at + 2)) (byte bs (w .at + 6)) (onePart bs end (sizesFrom bs header (w .at)) (ofComponent c ComponentHead) w))
   unfolding readComponent onePart inside
-  component-tells channels w on k =
-      go (inside bs end (sizesFrom bs channels (w .at)) (ofComponent c ComponentHead) w)
+  component-tells header w on k =
+      go (inside bs end (sizesFrom bs header (w .at)) (ofComponent c ComponentHead) w)
       (outcome bs end h small c (λ l. l) 7 (headFields (byte bs (w .at + 2))) headFine (ofComponent c ComponentHead) refl refl w on k (head-fine bs end h (w .at)))
     where
       go : (w′ : Walk) → Outcome bs end h small c (λ l. l) 7 headFine w w′
-          → Tells bs end c (part 7 headFine (λ l. l) (rest bs end (w .at)) then readBody channels)
-          (bodyWalk bs end c (sizesFrom bs channels (w .at)) (byte bs (w .at + 2)) (byte bs (w .at + 6)) (passed 7 w′))
+          → Tells bs end c (part 7 headFine (λ l. l) (rest bs end (w .at)) then readBody header)
+          (bodyWalk bs end c (sizesFrom bs header (w .at)) (byte bs (w .at + 2)) (byte bs (w .at + 6)) (passed 7 w′))
       go w′ (fine-there d l g) =
           let head = rest bs end (w .at) in
           let read : part 7 headFine (λ l. l) head ≡ ok head (rest bs end (w .at + 7)) =
@@ -149,7 +150,7 @@ module _ (bs : List ℕ) (end : ℕ) (h : end ≤ length bs) (small : end ≤ 81
             ← byte-rest bs end h (w .at) 5 (omega arith),
             ← byte-rest bs end h (w .at) 6 (omega arith),
           )
-          (body-tells (sizesAt channels head) (few-clocks head g) head (byte head 2) (byte head 6) (record { at = w .at + 7; place = w .place }) on l)
+          (body-tells (sizesAt header head) (few-clocks head g) head (byte head 2) (byte head 6) (record { at = w .at + 7; place = w .place }) on l)
       go w′ (stops-there j reads d a b f) =
-          rw (reads, passed-stays 7 w′ d, body-stays bs end c (sizesFrom bs channels (w .at)) (byte bs (w .at + 2)) (byte bs (w .at + 6)) w′ d)
+          rw (reads, passed-stays 7 w′ d, body-stays bs end c (sizesFrom bs header (w .at)) (byte bs (w .at + 2)) (byte bs (w .at + 6)) w′ d)
           (stopped bs end c j w′ d a (rw b k) f)

@@ -1,6 +1,7 @@
 -- The walk and the reader tell the same of an edge: its items, and the whole of it. Assumes nothing.
 use mathlib.Core.Path.{_≡_, refl, sym, ap, _∙_}
 use mathlib.Core.Bool.{Bool, true, false, cond, _||_}
+use mathlib.Core.Option.{Option, none, some}
 use mathlib.Core.List.{List, [], _∷_}
 use Prim.Native.Nat.{ℕ, zero, suc, _+_, _-_, _*_, _≤_, _<_}
 use native.Mathlib.Omega.{arith}
@@ -9,18 +10,18 @@ use lib.Dec.{eqb}
 use lib.ListN.{length, drop}
 use lib.Seq.{getD-drop}
 use Rattle.model.specs.declared.Sizes.{Sizes}
-use Rattle.model.specs.Reader.{byte, ok, fault, _then_, part, many, listed, locationFine, locationAt, readLocation, clockGuardFine, clockGuardAt, readClockGuard, dataGuardFine, dataGuardAt, readDataGuard, updateFine, updateAt, readUpdate, channelFine, readChannel, pairFine, pairAt, readPair, readPairs, readItems, edgeFine, arcWith, readArcBody, readArc}
+use Rattle.model.specs.Reader.{byte, word, budgetFine, readBudget, readArcParts, ok, fault, _then_, part, many, listed, locationFine, locationAt, readLocation, clockGuardFine, clockGuardAt, readClockGuard, dataGuardFine, dataGuardAt, readDataGuard, updateFine, updateAt, readUpdate, channelFine, readChannel, pairFine, pairAt, readPair, readPairs, readItems, edgeFine, arcWith, readArcBody, readArc}
 use Rattle.parts.specs.Place.{channelsBefore}
 use Rattle.refusal_place.specs.Ranges.{fieldsOf, widthOf, channelField, pairFields, edgeFields}
-use Rattle.refusal_place.specs.Walk.{going, once, passed, inside, onePart, onePair, counted, numbered, ofComponent, ofEdge, several, items, edgeFrom, edge}
+use Rattle.refusal_place.specs.Walk.{going, once, passed, inside, onePart, onePair, counted, numbered, ofComponent, ofEdge, several, items, budgetPart, edgeFrom, edge}
 use Rattle.refusal_place.specs.declared.Part.{Part}
-use Rattle.refusal_place.specs.declared.Part.the-variants.{Location, EdgeHead, ClockBound, DataBound, Update, Channel, Pair}
+use Rattle.refusal_place.specs.declared.Part.the-variants.{Location, EdgeHead, Budget, ClockBound, DataBound, Update, Channel, Pair}
 use Rattle.refusal_place.specs.declared.Subject.{Subject}
 use Rattle.refusal_place.specs.declared.Walk.{Walk}
 use Rattle.refusal_place.specs.Told.{Fault}
 use Rattle.refusal_place.proofs.Rests.{rest, length-rest, byte-rest, drop-rest}
 use Rattle.refusal_place.proofs.OneTest.{asked, stop, no-fault, a-fault, stays, passed-stays, passes-on, part-stays, pair-stays, counted-stays}
-use Rattle.refusal_place.proofs.Fine.{location-fine, clock-bound-fine, data-bound-fine, update-fine, channel-fine, pair-fine, edge-fine}
+use Rattle.refusal_place.proofs.Fine.{location-fine, clock-bound-fine, budget-fine, data-bound-fine, update-fine, channel-fine, pair-fine, edge-fine}
 use Rattle.refusal_place.proofs.Tells.{Tells, goes, stopped, maps, chain, many-tell}
 use Rattle.refusal_place.proofs.OnePart.{holds, Outcome, fine-there, stops-there, outcome, part-tells}
 
@@ -175,26 +176,60 @@ module _ (bs : List ℕ) (end : ℕ) (h : end ≤ length bs) (small : end ≤ 81
     -- ## The edge
 
     -- after its 7 bytes
-    body-tells : (head : List ℕ) (kind n m l : ℕ) (w : Walk) → going w ≡ true → w .at ≤ end
+    body-tells : (head : List ℕ) (o : Option ℕ) (kind n m l : ℕ) (w : Walk) → going w ≡ true → w .at ≤ end
         → Tells bs end c
         (many (readClockGuard s) n (rest bs end (w .at)) then λ cs r₁.
-        many (readDataGuard s) m r₁ then λ ds r₂. readItems s kind l r₂ then λ i r₃. ok (arcWith head cs ds i) r₃)
+        many (readDataGuard s) m r₁ then λ ds r₂. readItems s kind l r₂ then λ i r₃. ok (arcWith head o cs ds i) r₃)
         (items bs end s c e kind l (several bs end s (ofEdge c e DataBound) m (several bs end s (ofEdge c e ClockBound) n w)))
-    body-tells head kind n m l w on k =
+    body-tells head o kind n m l w on k =
         let w₁ = several bs end s (ofEdge c e ClockBound) n w in
         let w₂ = several bs end s (ofEdge c e DataBound) m w₁ in
         let t₁ = clock-bounds-tell n w on k in
         chain bs end c (many (readClockGuard s) n (rest bs end (w .at)))
-        (λ cs r₁. many (readDataGuard s) m r₁ then λ ds r₂. readItems s kind l r₂ then λ i r₃. ok (arcWith head cs ds i) r₃)
+        (λ cs r₁. many (readDataGuard s) m r₁ then λ ds r₂. readItems s kind l r₂ then λ i r₃. ok (arcWith head o cs ds i) r₃)
         w₁
         (λ v. items bs end s c e kind l (several bs end s (ofEdge c e DataBound) m v))
         t₁
         (λ cs on₁.
         let t₂ = data-bounds-tell m w₁ on₁ (t₁ .within) in
-        chain bs end c (many (readDataGuard s) m (rest bs end (w₁ .at))) (λ ds r₂. readItems s kind l r₂ then λ i r₃. ok (arcWith head cs ds i) r₃) w₂ (items bs end s c e kind l) t₂
-        (λ ds on₂. maps bs end c (readItems s kind l (rest bs end (w₂ .at))) (arcWith head cs ds) (items bs end s c e kind l w₂) (items-tell kind l w₂ on₂ (t₂ .within)))
+        chain bs end c (many (readDataGuard s) m (rest bs end (w₁ .at))) (λ ds r₂. readItems s kind l r₂ then λ i r₃. ok (arcWith head o cs ds i) r₃) w₂ (items bs end s c e kind l) t₂
+        (λ ds on₂. maps bs end c (readItems s kind l (rest bs end (w₂ .at))) (arcWith head o cs ds) (items bs end s c e kind l w₂) (items-tell kind l w₂ on₂ (t₂ .within)))
         (items-stay kind l w₂))
         (λ d. rw (several-stay DataBound m w₁ d) (items-stay kind l w₁ d))
+
+    -- the budget, where edges have one
+    budget-tells : (b : Bool) (w : Walk) → going w ≡ true → w .at ≤ end → Tells bs end c (readBudget b (rest bs end (w .at))) (cond b (onePart bs end s (ofEdge c e Budget) w) w)
+    unfolding onePart inside
+    budget-tells true w on k =
+        maps bs end c (part 2 budgetFine (λ r. word r 0) (rest bs end (w .at))) (λ x. some x) (onePart bs end s (ofEdge c e Budget) w)
+        (part-tells bs end h small c (λ r. word r 0) 2 (fieldsOf Budget s bs (w .at)) budgetFine (ofEdge c e Budget) refl refl w on k (budget-fine bs end h (w .at)))
+    budget-tells false w on k = goes bs end c none w on k
+
+    budget-stays : (w : Walk) → going w ≡ false → budgetPart bs end s c e w ≡ w
+    unfolding budgetPart
+    budget-stays w d = go (s .budgets)
+      where
+        go : (b : Bool) → cond b (onePart bs end s (ofEdge c e Budget) w) w ≡ w
+        go true = part-stays bs end s (ofEdge c e Budget) w d
+        go false = refl
+
+    abbrev bodyWalk : ℕ → ℕ → ℕ → ℕ → Walk → Walk
+    bodyWalk kind n m l v = items bs end s c e kind l (several bs end s (ofEdge c e DataBound) m (several bs end s (ofEdge c e ClockBound) n v))
+
+    body-stays : (kind n m l : ℕ) (w : Walk) → going w ≡ false → bodyWalk kind n m l w ≡ w
+    body-stays kind n m l w d = rw (several-stay ClockBound n w d, several-stay DataBound m w d) (items-stay kind l w d)
+
+    -- with its budget
+    whole-tells : (head : List ℕ) (w : Walk) → going w ≡ true → w .at ≤ end
+        → Tells bs end c (readBudget (s .budgets) (rest bs end (w .at)) then readArcParts s head)
+        (bodyWalk (byte head 0) (byte head 4) (byte head 5) (byte head 6) (budgetPart bs end s c e w))
+    unfolding budgetPart
+    whole-tells head w on k =
+        let v = cond (s .budgets) (onePart bs end s (ofEdge c e Budget) w) w in
+        let t = budget-tells (s .budgets) w on k in
+        chain bs end c (readBudget (s .budgets) (rest bs end (w .at))) (readArcParts s head) v (bodyWalk (byte head 0) (byte head 4) (byte head 5) (byte head 6)) t
+        (λ o on₁. body-tells head o (byte head 0) (byte head 4) (byte head 5) (byte head 6) v on₁ (t .within))
+        (body-stays (byte head 0) (byte head 4) (byte head 5) (byte head 6) v)
 
     pub edge-tells : s .clocks ≤ 4 → (w : Walk) → going w ≡ true → w .at ≤ end → Tells bs end c (readArc s (rest bs end (w .at))) (edge bs end s c e w)
     unfolding readArc edge edgeFrom onePart inside
@@ -203,7 +238,7 @@ module _ (bs : List ℕ) (end : ℕ) (h : end ≤ length bs) (small : end ≤ 81
         go : (w′ : Walk) → Outcome bs end h small c (λ l. l) 7 (edgeFine s) w w′
             → Tells bs end c (part 7 (edgeFine s) (λ l. l) (rest bs end (w .at)) then readArcBody s)
             (items bs end s c e (byte bs (w .at)) (byte bs (w .at + 6))
-            (several bs end s (ofEdge c e DataBound) (byte bs (w .at + 5)) (several bs end s (ofEdge c e ClockBound) (byte bs (w .at + 4)) (passed 7 w′))))
+            (several bs end s (ofEdge c e DataBound) (byte bs (w .at + 5)) (several bs end s (ofEdge c e ClockBound) (byte bs (w .at + 4)) (budgetPart bs end s c e (passed 7 w′)))))
         go w′ (fine-there d l g) =
             let z : w .at + 0 ≡ w .at = omega arith in
             let head = rest bs end (w .at) in
@@ -219,7 +254,7 @@ module _ (bs : List ℕ) (end : ℕ) (h : end ≤ length bs) (small : end ≤ 81
               ← byte-rest bs end h (w .at) 5 (omega arith),
               ← byte-rest bs end h (w .at) 6 (omega arith),
             )
-            (body-tells head (byte head 0) (byte head 4) (byte head 5) (byte head 6) (record { at = w .at + 7; place = w .place }) on l)
+            (whole-tells head (record { at = w .at + 7; place = w .place }) on l)
         go w′ (stops-there j reads d a b f) =
-            rw (reads, passed-stays 7 w′ d, several-stay ClockBound (byte bs (w .at + 4)) w′ d, several-stay DataBound (byte bs (w .at + 5)) w′ d, items-stay (byte bs (w .at)) (byte bs (w .at + 6)) w′ d)
+            rw (reads, passed-stays 7 w′ d, budget-stays w′ d, several-stay ClockBound (byte bs (w .at + 4)) w′ d, several-stay DataBound (byte bs (w .at + 5)) w′ d, items-stay (byte bs (w .at)) (byte bs (w .at + 6)) w′ d)
             (stopped bs end c j w′ d a (rw b k) f)

@@ -8,8 +8,8 @@ use borrow.Author.Tests.{leb-true, eqb-true, eqb-false, le-leb, lt-ltb, le-ltb}
 use lib.Dec.{leb, ltb, eqb, leb·zero, leb·suc-suc}
 use lib.ListN.{length}
 use Rattle.model.specs.declared.Sizes.{Sizes}
-use Rattle.model.specs.Reader.{byte, word, locationFine, clockGuardFine, dataGuardFine, updateFine, channelFine, pairFine, countsFine, edgeFine, headFine}
-use Rattle.refusal_place.specs.Ranges.{headFields, locationFields, byteField, edgeFields, dataLimit, itemLeast, itemLimit, clockBoundFields, dataBoundFields, updateFields, channelFields, pairFields}
+use Rattle.model.specs.Reader.{byte, word, locationFine, clockGuardFine, budgetFine, dataGuardFine, updateFine, channelFine, pairFine, countsFine, edgeFine, headFine}
+use Rattle.refusal_place.specs.Ranges.{headFields, locationFields, byteField, edgeFields, dataLimit, itemLeast, itemLimit, budgetFields, clockBoundFields, dataBoundFields, updateFields, channelFields, pairFields}
 use Rattle.refusal_place.proofs.Rests.{rest, byte-rest, word-rest}
 use Rattle.refusal_place.proofs.OneTest.{asked}
 
@@ -77,6 +77,9 @@ module _ (bs : List ℕ) (end : ℕ) (h : end ≤ length bs) (at : ℕ) where
         or-turn (leb (word bs (at + 3)) 60000) (eqb (word bs (at + 3)) 65535),
       )
       (simp and-turn)
+
+  pub budget-fine : 2 ≤ end - at → budgetFine there ≡ asked bs at budgetFields
+  budget-fine k = rw (word-rest bs end h at 0 (omega arith), upto (word bs (at + 0)) 60000, and-yes)
 
   pub data-bound-fine : (s : Sizes) → 5 ≤ end - at → dataGuardFine s there ≡ asked bs at (dataBoundFields s)
   data-bound-fine s k = rw (byte-rest bs end h at 0 (omega arith), below (byte bs (at + 0)) (s .variables), and-yes)

@@ -14,10 +14,10 @@ use Rattle.parts.specs.declared.Kind.the-variants.{Locations}
 use Rattle.parts.specs.Place.{left, failed, skim, Passed, passes}
 use Rattle.parts.proofs.Sequence.{locations-as}
 use Rattle.refusal_place.specs.Ranges.{allowed, numberAt, fieldsOf, widthOf, bytesField, channelField}
-use Rattle.refusal_place.specs.Walk.{going, stopsIf, ranged, contents, fits, once, passed, inside, onePart, onePair, counted, numbered, ofComponent, ofEdge, several, pairs, items, edgeFrom, edge}
+use Rattle.refusal_place.specs.Walk.{going, stopsIf, ranged, contents, fits, once, passed, inside, onePart, onePair, counted, numbered, ofComponent, ofEdge, several, pairs, items, budgetPart, edgeFrom, edge}
 use Rattle.refusal_place.specs.Passing.{EdgeFine}
 use Rattle.refusal_place.specs.declared.Part.{Part}
-use Rattle.refusal_place.specs.declared.Part.the-variants.{Location, EdgeHead, ClockBound, DataBound, Update, Channel, Pair}
+use Rattle.refusal_place.specs.declared.Part.the-variants.{Location, EdgeHead, Budget, ClockBound, DataBound, Update, Channel, Pair}
 use Rattle.refusal_place.specs.declared.Subject.{Subject}
 use Rattle.refusal_place.specs.declared.Field.{Field}
 use Rattle.refusal_place.specs.declared.Walk.{Walk}
@@ -90,6 +90,14 @@ module _ (bs : List ℕ) (end : ℕ) (s : Sizes) where
   items-kept c e (suc zero) n w = part-kept (numbered (ofEdge c e Channel) 0) w
   items-kept c e (suc (suc kind)) n w = counted-kept (λ i. onePair bs end (w .at) s (numbered (ofEdge c e Pair) i)) (λ i. pair-kept (w .at) (numbered (ofEdge c e Pair) i)) 0 n w
 
+  budget-kept : (c e : ℕ) (w : Walk) → Kept w (budgetPart bs end s c e w)
+  unfolding budgetPart
+  budget-kept c e w = go (s .budgets)
+    where
+      go : (b : Bool) → Kept w (cond b (onePart bs end s (ofEdge c e Budget) w) w)
+      go true = part-kept (ofEdge c e Budget) w
+      go false = λ e. (e, refl)
+
   edge-kept : (c e : ℕ) (w : Walk) → Kept w (edge bs end s c e w)
   unfolding edge edgeFrom
   edge-kept c e w = go (going w) refl
@@ -97,12 +105,14 @@ module _ (bs : List ℕ) (end : ℕ) (s : Sizes) where
       from : Kept w (edgeFrom bs end s c e (w .at) w)
       from =
           let head = onePart bs end s (ofEdge c e EdgeHead) w in
-          let clocks = several bs end s (ofEdge c e ClockBound) (byte bs (w .at + 4)) head in
+          let budget = budgetPart bs end s c e head in
+          let clocks = several bs end s (ofEdge c e ClockBound) (byte bs (w .at + 4)) budget in
           let guards = several bs end s (ofEdge c e DataBound) (byte bs (w .at + 5)) clocks in
           let all = items bs end s c e (byte bs (w .at)) (byte bs (w .at + 6)) guards in
           then-kept w head all (part-kept (ofEdge c e EdgeHead) w)
-          (then-kept head clocks all (several-kept (ofEdge c e ClockBound) (byte bs (w .at + 4)) head)
-          (then-kept clocks guards all (several-kept (ofEdge c e DataBound) (byte bs (w .at + 5)) clocks) (items-kept c e (byte bs (w .at)) (byte bs (w .at + 6)) guards)))
+          (then-kept head budget all (budget-kept c e head)
+          (then-kept budget clocks all (several-kept (ofEdge c e ClockBound) (byte bs (w .at + 4)) budget)
+          (then-kept clocks guards all (several-kept (ofEdge c e DataBound) (byte bs (w .at + 5)) clocks) (items-kept c e (byte bs (w .at)) (byte bs (w .at + 6)) guards))))
 
       go : (b : Bool) → going w ≡ b → Kept w (cond b (edgeFrom bs end s c e (w .at) w) w)
       go true q = from

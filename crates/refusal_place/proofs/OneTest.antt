@@ -5,6 +5,7 @@ use mathlib.Core.List.{List, [], _∷_}
 use Prim.Native.Nat.{ℕ, zero, suc, _+_}
 use Rattle.model.specs.Lists.{all}
 use Rattle.model.specs.declared.Sizes.{Sizes}
+use Rattle.model.specs.declared.TableHeader.{TableHeader}
 use Rattle.refusal_place.specs.Ranges.{allowed, numberAt, fieldsOf, widthOf}
 use Rattle.refusal_place.specs.Walk.{going, placeAt, stopsIf, judged, ranged, contents, passed, inside, onePart, onePair, counted, edge, component}
 use Rattle.refusal_place.specs.declared.Subject.{Subject}
@@ -102,6 +103,6 @@ pub edge-stays : (bs : List ℕ) (end : ℕ) (s : Sizes) (c e : ℕ) (w : Walk) 
 unfolding edge
 edge-stays bs end s c e w h = rw h
 
-pub component-stays : (bs : List ℕ) (channels c : ℕ) (w : Walk) → going w ≡ false → component bs channels c w ≡ w
+pub component-stays : (bs : List ℕ) (header : TableHeader) (c : ℕ) (w : Walk) → going w ≡ false → component bs header c w ≡ w
 unfolding component
-component-stays bs channels c w h = rw h
+component-stays bs header c w h = rw h

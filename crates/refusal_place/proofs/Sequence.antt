@@ -1,15 +1,17 @@
 -- The parts of an edge and of a component one after the other, and the components, as the code walks them. Assumes nothing.
-use mathlib.Core.Path.{_≡_, refl}
+use mathlib.Core.Path.{_≡_, refl, sym, ap, _∙_}
+use mathlib.Core.Bool.{Bool, true, false, cond}
 use mathlib.Core.List.{List}
 use Prim.Native.Nat.{ℕ, zero, suc, pred, _+_, _-_, _≤_}
 use native.Mathlib.Omega.{arith}
 use native.Mathlib.Numerals.{add-one}
 use lib.ListN.{length}
 use Rattle.model.specs.declared.Sizes.{Sizes}
-use Rattle.model.specs.Reader.{byte, word}
+use Rattle.model.specs.declared.TableHeader.{TableHeader}
+use Rattle.model.specs.Reader.{byte, word, headerAt}
 use Rattle.refusal_place.specs.Ranges.{wordField}
-use Rattle.refusal_place.specs.Walk.{judged, fits, ends, onePart, counted, ofComponent, ofEdge, several, pairs, items, edgeFrom, sizesFrom, endFrom, lengthStated, bodyFrom, componentFrom, component, components}
-use Rattle.refusal_place.specs.declared.Part.the-variants.{ComponentLength, ComponentHead, EdgeHead, ClockBound, DataBound, Pair, TableEnd}
+use Rattle.refusal_place.specs.Walk.{judged, fits, ends, onePart, counted, ofComponent, ofEdge, several, pairs, items, budgetPart, edgeFrom, sizesFrom, endFrom, lengthStated, bodyFrom, componentFrom, component, components}
+use Rattle.refusal_place.specs.declared.Part.the-variants.{ComponentLength, ComponentHead, EdgeHead, Budget, ClockBound, DataBound, Pair, TableEnd}
 use Rattle.refusal_place.specs.declared.Subject.{Subject}
 use Rattle.refusal_place.specs.declared.Walk.{Walk}
 
@@ -19,12 +21,22 @@ module _ (bs : List ℕ) (end : ℕ) (s : Sizes) (c e : ℕ) where
   items-receive (suc zero) n w h = absurd (omega arith)
   items-receive (suc (suc kind)) n w h = refl
 
-  pub edge-is : (from kind n m l : ℕ) (u₁ u₂ u₃ : Subject) (w w₁ w₂ w₃ w₄ : Walk) → kind ≡ byte bs from → n ≡ byte bs (from + 4) → m ≡ byte bs (from + 5)
+  pub edge-is : (from kind n m l : ℕ) (u₁ u₂ u₃ : Subject) (w w₁ wᵇ w₂ w₃ w₄ : Walk) → kind ≡ byte bs from → n ≡ byte bs (from + 4) → m ≡ byte bs (from + 5)
       → l ≡ byte bs (from + 6)
-      → u₁ ≡ ofEdge c e EdgeHead → u₂ ≡ ofEdge c e ClockBound → u₃ ≡ ofEdge c e DataBound → w₁ ≡ onePart bs end s u₁ w → w₂ ≡ several bs end s u₂ n w₁
+      → u₁ ≡ ofEdge c e EdgeHead → u₂ ≡ ofEdge c e ClockBound → u₃ ≡ ofEdge c e DataBound → w₁ ≡ onePart bs end s u₁ w → wᵇ ≡ budgetPart bs end s c e w₁ → w₂ ≡ several bs end s u₂ n wᵇ
       → w₃ ≡ several bs end s u₃ m w₂ → w₄ ≡ items bs end s c e kind l w₃ → w₄ ≡ edgeFrom bs end s c e from w
   unfolding edgeFrom
-  edge-is from kind n m l u₁ u₂ u₃ w w₁ w₂ w₃ w₄ a b d f g h i p q r t = rw (t, r, q, p, g, h, i, a, b, d, f)
+  edge-is from kind n m l u₁ u₂ u₃ w w₁ wᵇ w₂ w₃ w₄ a b d f g h i p j q r t = rw (t, r, q, j, p, g, h, i, a, b, d, f)
+
+  -- the budget: a part of its own where edges have one, else nothing
+  pub budget-told : (u : Subject) (w r : Walk) → s .budgets ≡ true → u ≡ ofEdge c e Budget → r ≡ onePart bs end s u w → r ≡ budgetPart bs end s c e w
+  unfolding budgetPart
+  budget-told u w r q a t =
+      t ∙ ap (λ (x : Subject). onePart bs end s x w) a ∙ sym (ap (λ (b : Bool). cond b (onePart bs end s (ofEdge c e Budget) w) w) q)
+
+  pub budget-passed : (w : Walk) → s .budgets ≡ false → w ≡ budgetPart bs end s c e w
+  unfolding budgetPart
+  budget-passed w q = sym (ap (λ (b : Bool). cond b (onePart bs end s (ofEdge c e Budget) w) w) q)
 
 -- ## Components
 
@@ -34,17 +46,17 @@ module _ (bs : List ℕ) (c : ℕ) (w : Walk) where
   unfolding lengthStated
   stated-is limit value who two r a b d e f = rw (f, e, d, b, a, add-one (length bs - w .at))
 
-  pub component-is : (channels end : ℕ) (s : Sizes) (who : Subject) (known head r : Walk) → end ≡ endFrom bs (w .at) → s ≡ sizesFrom bs channels (w .at)
+  pub component-is : (header : TableHeader) (end : ℕ) (s : Sizes) (who : Subject) (known head r : Walk) → end ≡ endFrom bs (w .at) → s ≡ sizesFrom bs header (w .at)
       → known ≡ lengthStated bs c w → who ≡ ofComponent c ComponentHead → head ≡ onePart bs end s who known
       → r ≡ bodyFrom bs end s c (w .at) head
-      → r ≡ componentFrom bs channels c (w .at) w
+      → r ≡ componentFrom bs header c (w .at) w
   unfolding componentFrom
-  component-is channels end s who known head r a b d e f g = rw (g, f, e, d, b, a)
+  component-is header end s who known head r a b d e f g = rw (g, f, e, d, b, a)
 
-pub components-is : (bs : List ℕ) (count channels : ℕ) (who : Subject) (w walk r : Walk) → 1 ≤ count → count ≡ byte bs 3 → channels ≡ byte bs 4
-    → who ≡ ofComponent (count - 1) TableEnd → walk ≡ counted (component bs channels) 0 count w → r ≡ ends (length bs) who walk → r ≡ components bs w
+pub components-is : (bs : List ℕ) (count : ℕ) (header : TableHeader) (who : Subject) (w walk r : Walk) → 1 ≤ count → count ≡ byte bs 3 → header ≡ headerAt bs
+    → who ≡ ofComponent (count - 1) TableEnd → walk ≡ counted (component bs header) 0 count w → r ≡ ends (length bs) who walk → r ≡ components bs w
 unfolding components
-components-is bs count channels who w walk r h a b d e f =
+components-is bs count header who w walk r h a b d e f =
     let z : count - 1 ≡ pred count = less count h in
     rw (f, d, z, e, a, b)
   where

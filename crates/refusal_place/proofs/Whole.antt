@@ -10,11 +10,12 @@ use lib.Dec.{leb, eqb}
 use lib.ListN.{length, take, drop, drop-of-length-le}
 use lib.Seq.{drop-cons}
 use Rattle.model.proofs.Basics.Bools.{clash}
+use Rattle.model.specs.declared.TableHeader.{TableHeader}
 use Rattle.model.specs.declared.Verdict.{Verdict}
 use Rattle.model.specs.declared.Verdict.the-variants.{Accepted, Refused}
 use Rattle.model.specs.Lists.{Answer, accepted, refused, _after_}
 use Rattle.model.specs.Table.{Component}
-use Rattle.model.specs.Reader.{byte, word, Parsed, ok, fault, readComponent, about, atEnd, readComponents, bodyStart, versionFine, lengthFine, countFine, bandsFine, readTable}
+use Rattle.model.specs.Reader.{byte, word, Parsed, ok, fault, readComponent, about, atEnd, readComponents, bodyStart, headerAt, versionFine, lengthFine, countFine, bandsFine, readTable}
 use Rattle.model.specs.Calls.{verdictOf, checkCall}
 use Rattle.parts.specs.Place.{left, failed, skim}
 use Rattle.table.specs.declared.Reading.{Reading}
@@ -44,7 +45,7 @@ keeps : {A B : Type 0} (a : Answer A) (f : A → B) → verdictOf (a after λ x.
 keeps (accepted x) f = refl
 keeps (refused n c) f = refl
 
-module _ (bs : List ℕ) (small : length bs ≤ 8192) (channels last : ℕ) where
+module _ (bs : List ℕ) (small : length bs ≤ 8192) (header : TableHeader) (last : ℕ) where
   pub record Ended (v : Verdict) (w : Walk) : Type 0 where
     pub says : v ≡ verdictAt (w .place)
     pub faulty : going w ≡ false → Fault bs (w .place .component) (w .place)
@@ -72,21 +73,21 @@ module _ (bs : List ℕ) (small : length bs ≤ 8192) (channels last : ℕ) wher
           (halted 4 last (stop 4 (ofComponent last TableEnd) (bytesField 0 1) (length bs - w .at) w) refl refl (fault-over bs (length bs) (ofComponent last TableEnd) w (omega arith) l))
 
   -- a walk that has stopped stays to the end
-  rest-stays : (n c : ℕ) (w : Walk) → going w ≡ false → finish (counted (component bs channels) c n w) ≡ w
+  rest-stays : (n c : ℕ) (w : Walk) → going w ≡ false → finish (counted (component bs header) c n w) ≡ w
   rest-stays n c w d =
-      rw (counted-stays (component bs channels) (component-stays bs channels) c n w d) (over-stays bs (length bs) (ofComponent last TableEnd) w d)
+      rw (counted-stays (component bs header) (component-stays bs header) c n w d) (over-stays bs (length bs) (ofComponent last TableEnd) w d)
 
   -- a component, and those after it
   module _ (n c : ℕ) (w : Walk) (on : going w ≡ true) (k : w .at ≤ length bs) where
     -- what a component was read as decides
     read-as : (m : Parsed Component) (w′ : Walk) → Tells bs (endFrom bs (w .at)) c m w′ → (going w′ ≡ true → w′ .at ≡ endFrom bs (w .at))
-        → (going w′ ≡ true → Ended (verdictOf (readComponents channels n (suc c) (drop (w′ .at) bs))) (finish (counted (component bs channels) (suc c) n w′)))
-        → Ended (verdictOf (about c m after λ C. readComponents channels n (suc c) (drop (endFrom bs (w .at)) bs) after λ l. accepted (C ∷ l))) (finish (counted (component bs channels) (suc c) n w′))
+        → (going w′ ≡ true → Ended (verdictOf (readComponents header n (suc c) (drop (w′ .at) bs))) (finish (counted (component bs header) (suc c) n w′)))
+        → Ended (verdictOf (about c m after λ C. readComponents header n (suc c) (drop (endFrom bs (w .at)) bs) after λ l. accepted (C ∷ l))) (finish (counted (component bs header) (suc c) n w′))
     read-as m w′ t there later = go m (going w′) refl (t .says)
       where
         go : (m : Parsed Component) (b : Bool) → going w′ ≡ b → skim m ≡ view bs (endFrom bs (w .at)) c w′
-            → Ended (verdictOf (about c m after λ C. readComponents channels n (suc c) (drop (endFrom bs (w .at)) bs) after λ l. accepted (C ∷ l))) (finish (counted (component bs channels) (suc c) n w′))
-        go (ok C r) true e q = rw (keeps (readComponents channels n (suc c) (drop (endFrom bs (w .at)) bs)) (λ l. C ∷ l), ← there e) (later e)
+            → Ended (verdictOf (about c m after λ C. readComponents header n (suc c) (drop (endFrom bs (w .at)) bs) after λ l. accepted (C ∷ l))) (finish (counted (component bs header) (suc c) n w′))
+        go (ok C r) true e q = rw (keeps (readComponents header n (suc c) (drop (endFrom bs (w .at)) bs)) (λ l. C ∷ l), ← there e) (later e)
         go (ok C r) false e q = let z : left r ≡ failed (w′ .place .number) = q ∙ rw e in let y : _≡_ {A = ℕ} 0 1 = cc in absurd (omega arith)
         go (fault j) true e q = let z : failed j ≡ left (rest bs (endFrom bs (w .at)) (w′ .at)) = q ∙ rw e in let y : _≡_ {A = ℕ} 0 1 = cc in absurd (omega arith)
         go (fault j) false e q =
@@ -94,22 +95,22 @@ module _ (bs : List ℕ) (small : length bs ≤ 8192) (channels last : ℕ) wher
             let y : w′ .place .number ≡ j = cc in
             rw (rest-stays n (suc c) w′ e) (halted j c w′ e y (t .faulty e))
 
-    one-more : (w′ : Walk) → Read bs c w on k small channels w′
-        → (going w′ ≡ true → w′ .at ≤ length bs → Ended (verdictOf (readComponents channels n (suc c) (drop (w′ .at) bs))) (finish (counted (component bs channels) (suc c) n w′)))
-        → Ended (verdictOf (readComponents channels (suc n) c (drop (w .at) bs))) (finish (counted (component bs channels) (suc c) n w′))
+    one-more : (w′ : Walk) → Read bs c w on k small header w′
+        → (going w′ ≡ true → w′ .at ≤ length bs → Ended (verdictOf (readComponents header n (suc c) (drop (w′ .at) bs))) (finish (counted (component bs header) (suc c) n w′)))
+        → Ended (verdictOf (readComponents header (suc n) c (drop (w .at) bs))) (finish (counted (component bs header) (suc c) n w′))
     unfolding readComponents
     one-more w′ (length-stops f d e t) later = rw (f, rest-stays n (suc c) w′ d) (halted 4 c w′ d e t)
     one-more w′ (is-read f l o t there) later =
-        rw (f, o) (read-as (readComponent channels (take (word (drop (w .at) bs) 0) (drop (w .at) bs))) w′ t there (λ g. later g (rw (there g) l)))
+        rw (f, o) (read-as (readComponent header (take (word (drop (w .at) bs) 0) (drop (w .at) bs))) w′ t there (λ g. later g (rw (there g) l)))
 
   pub components-tell : (n c : ℕ) → pred (c + n) ≡ last → (w : Walk) → going w ≡ true → w .at ≤ length bs
-      → Ended (verdictOf (readComponents channels n c (drop (w .at) bs))) (finish (counted (component bs channels) c n w))
+      → Ended (verdictOf (readComponents header n c (drop (w .at) bs))) (finish (counted (component bs header) c n w))
   unfolding readComponents counted
   components-tell zero c q w on k = let z : c + 0 ≡ c = omega arith in let e : pred c ≡ last = rw z at q in rw e (at-last w on k)
   components-tell (suc n) c q w on k =
       let z : c + suc n ≡ suc c + n = omega arith in
-      one-more n c w on k (component bs channels c w) (reads bs c w on k small channels)
-      (λ g l. components-tell n (suc c) (rw z at q) (component bs channels c w) g l)
+      one-more n c w on k (component bs header c w) (reads bs c w on k small header)
+      (λ g l. components-tell n (suc c) (rw z at q) (component bs header c w) g l)
 
 -- ## The table
 
@@ -150,11 +151,11 @@ module _ (bs : List ℕ) where
     pub walk-starts : (bodyStart bs ≤ length bs) × (length bs ≤ 8192) × (1 ≤ byte bs 3)
     walk-starts = (bands-fit bs (tests .3), small, its-count bs (tests .2) .0)
 
-    ended : Ended bs small (byte bs 4) (pred (byte bs 3)) (verdictOf (readComponents (byte bs 4) (byte bs 3) 0 (drop (bodyStart bs) bs))) walked
+    ended : Ended bs small (headerAt bs) (pred (byte bs 3)) (verdictOf (readComponents (headerAt bs) (byte bs 3) 0 (drop (bodyStart bs) bs))) walked
     unfolding components
     ended =
         let q : 0 + byte bs 3 ≡ byte bs 3 = omega arith in
-        components-tell bs small (byte bs 4) (pred (byte bs 3)) (byte bs 3) 0 (rw q) (record { at = bodyStart bs; place = nowhere }) refl (bands-fit bs (tests .3))
+        components-tell bs small (headerAt bs) (pred (byte bs 3)) (byte bs 3) 0 (rw q) (record { at = bodyStart bs; place = nowhere }) refl (bands-fit bs (tests .3))
 
     -- the verdict of the reader is that of the place
     pub says : verdictOf (readTable bs) ≡ verdictAt (placeOf bs)

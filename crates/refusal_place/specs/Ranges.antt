@@ -7,7 +7,7 @@ use lib.Dec.{leb, ltb, eqb}
 use Rattle.model.specs.declared.Sizes.{Sizes}
 use Rattle.model.specs.Reader.{byte, word}
 use Rattle.refusal_place.specs.declared.Part.{Part}
-use Rattle.refusal_place.specs.declared.Part.the-variants.{ComponentLength, ComponentHead, Location, EdgeHead, ClockBound, DataBound, Update, Channel, Pair, ComponentEnd, TableEnd}
+use Rattle.refusal_place.specs.declared.Part.the-variants.{ComponentLength, ComponentHead, Location, EdgeHead, ClockBound, DataBound, Update, Channel, Pair, ComponentEnd, TableEnd, Budget}
 use Rattle.refusal_place.specs.declared.Field.{Field}
 
 -- a number of one byte, and one of two, that stands there in its part: from `least` up to, and without, `limit`
@@ -69,6 +69,10 @@ edgeFields s kind =
     ∷ byteField 6 (itemLeast kind) (itemLimit kind)
     ∷ []
 
+-- "a 2-byte budget (0 to 60,000), a part of its own, after each edge's 7 bytes"
+abbrev pub budgetFields : List Field
+budgetFields = ticksField 0 false ∷ []
+
 -- "Clock bound, 5 bytes: clock, low (0 to 60,000), high (0 to 60,000, or 65,535 for none)."
 abbrev pub clockBoundFields : Sizes → List Field
 clockBoundFields s = byteField 0 0 (s .clocks) ∷ ticksField 1 false ∷ ticksField 3 true ∷ []
@@ -104,6 +108,7 @@ fieldsOf Channel s bs at = channelFields s
 fieldsOf Pair s bs at = pairFields s
 fieldsOf ComponentEnd s bs at = []
 fieldsOf TableEnd s bs at = []
+fieldsOf Budget s bs at = budgetFields
 
 -- how many bytes it has
 abbrev pub widthOf : Part → ℕ
@@ -118,6 +123,7 @@ widthOf Channel = 1
 widthOf Pair = 2
 widthOf ComponentEnd = 0
 widthOf TableEnd = 0
+widthOf Budget = 2
 
 -- its number, where an enum cannot go; 0 is no part
 abbrev pub partNumber : Part → ℕ
@@ -132,3 +138,4 @@ partNumber Channel = 8
 partNumber Pair = 9
 partNumber ComponentEnd = 10
 partNumber TableEnd = 11
+partNumber Budget = 12

@@ -6,12 +6,13 @@ use Prim.Native.Nat.{ℕ, zero, suc, pred, _+_, _-_, min}
 use lib.Dec.{eqb}
 use lib.ListN.{length, drop}
 use Rattle.model.specs.declared.Sizes.{Sizes}
-use Rattle.model.specs.Reader.{byte, word, listed, bodyStart}
+use Rattle.model.specs.declared.TableHeader.{TableHeader}
+use Rattle.model.specs.Reader.{byte, word, listed, bodyStart, headerAt}
 use Rattle.parts.specs.Place.{channelsBefore}
 use Rattle.table.specs.Directory.{headerOf}
 use Rattle.refusal_place.specs.Ranges.{bytesField, wordField, channelField, allowed, numberAt, fieldsOf, widthOf, partNumber}
 use Rattle.refusal_place.specs.declared.Part.{Part}
-use Rattle.refusal_place.specs.declared.Part.the-variants.{ComponentLength, ComponentHead, Location, EdgeHead, ClockBound, DataBound, Update, Channel, Pair, ComponentEnd, TableEnd}
+use Rattle.refusal_place.specs.declared.Part.the-variants.{ComponentLength, ComponentHead, Location, EdgeHead, ClockBound, DataBound, Update, Channel, Pair, ComponentEnd, TableEnd, Budget}
 use Rattle.refusal_place.specs.declared.Subject.{Subject}
 use Rattle.refusal_place.specs.declared.Field.{Field}
 use Rattle.refusal_place.specs.declared.Place.{Place}
@@ -132,12 +133,16 @@ items bs end s c e zero n w = several bs end s (ofEdge c e Update) n w
 items bs end s c e (suc zero) n w = onePart bs end s (numbered (ofEdge c e Channel) 0) w
 items bs end s c e (suc (suc kind)) n w = pairs bs end s (ofEdge c e Pair) n w
 
--- "The 7 bytes", then clock bounds, data bounds, items: the edge starts at `from`
+-- the budget of edge e, where edges have one
+unfoldable pub budgetPart : List ℕ → ℕ → Sizes → ℕ → ℕ → Walk → Walk
+budgetPart bs end s c e w = cond (s .budgets) (onePart bs end s (ofEdge c e Budget) w) w
+
+-- "The 7 bytes", the budget, then clock bounds, data bounds, items: the edge starts at `from`
 unfoldable pub edgeFrom : List ℕ → ℕ → Sizes → ℕ → ℕ → ℕ → Walk → Walk
 edgeFrom bs end s c e from w =
     items bs end s c e (byte bs from) (byte bs (from + 6))
     (several bs end s (ofEdge c e DataBound) (byte bs (from + 5))
-    (several bs end s (ofEdge c e ClockBound) (byte bs (from + 4)) (onePart bs end s (ofEdge c e EdgeHead) w)))
+    (several bs end s (ofEdge c e ClockBound) (byte bs (from + 4)) (budgetPart bs end s c e (onePart bs end s (ofEdge c e EdgeHead) w))))
 
 unfoldable pub edge : List ℕ → ℕ → Sizes → ℕ → ℕ → Walk → Walk
 edge bs end s c e w = cond (going w) (edgeFrom bs end s c e (w .at) w) w
@@ -149,9 +154,9 @@ edges bs end s c n w = counted (edge bs end s c) 0 n w
 -- ## Components
 
 -- what the ranges of the component that starts there depend on
-abbrev pub sizesFrom : List ℕ → ℕ → ℕ → Sizes
-sizesFrom bs channels from =
-    record { channels = channels; locations = byte bs (from + 2); clocks = byte bs (from + 4); variables = byte bs (from + 5) }
+abbrev pub sizesFrom : List ℕ → TableHeader → ℕ → Sizes
+sizesFrom bs header from =
+    record { channels = header .channels; locations = byte bs (from + 2); clocks = byte bs (from + 4); variables = byte bs (from + 5); budgets = header .budgets }
 
 -- where its own bytes end: at its stated length, if the table has as many
 abbrev pub endFrom : List ℕ → ℕ → ℕ
@@ -169,19 +174,19 @@ bodyFrom bs end s c from w =
     ends end (ofComponent c ComponentEnd)
     (edges bs end s c (byte bs (from + 6)) (several bs end s (ofComponent c Location) (byte bs (from + 2)) w))
 
-unfoldable pub componentFrom : List ℕ → ℕ → ℕ → ℕ → Walk → Walk
-componentFrom bs channels c from w =
+unfoldable pub componentFrom : List ℕ → TableHeader → ℕ → ℕ → Walk → Walk
+componentFrom bs header c from w =
     let end = endFrom bs from in
-    let s = sizesFrom bs channels from in
+    let s = sizesFrom bs header from in
     bodyFrom bs end s c from (onePart bs end s (ofComponent c ComponentHead) (lengthStated bs c w))
 
-unfoldable pub component : List ℕ → ℕ → ℕ → Walk → Walk
-component bs channels c w = cond (going w) (componentFrom bs channels c (w .at) w) w
+unfoldable pub component : List ℕ → TableHeader → ℕ → Walk → Walk
+component bs header c w = cond (going w) (componentFrom bs header c (w .at) w) w
 
 -- the components, "and the last component at the table's end"
 unfoldable pub components : List ℕ → Walk → Walk
 components bs w =
-    ends (length bs) (ofComponent (pred (byte bs 3)) TableEnd) (counted (component bs (byte bs 4)) 0 (byte bs 3) w)
+    ends (length bs) (ofComponent (pred (byte bs 3)) TableEnd) (counted (component bs (headerAt bs)) 0 (byte bs 3) w)
 
 -- Where checks 4 to 6 stop; nowhere where they do not, and where checks 1 to 3 refuse.
 unfoldable pub placeOf : List ℕ → Place

@@ -3,7 +3,7 @@ ghost use mathlib.Core.Path.{_≡_};
 ghost use mathlib.Core.List.{[], _∷_};
 ghost use Prim.Native.Nat.{_+_, _≤_};
 ghost use Rattle.model.specs.Reader.{byte};
-ghost use Rattle.refusal_place.specs.Ranges.{headFields, locationFields, edgeFields, dataLimit, itemLeast, itemLimit, clockBoundFields, dataBoundFields, updateFields, channelFields, pairFields, byteField, ticksField};
+ghost use Rattle.refusal_place.specs.Ranges.{headFields, locationFields, edgeFields, dataLimit, itemLeast, itemLimit, budgetFields, clockBoundFields, dataBoundFields, updateFields, channelFields, pairFields, byteField, ticksField};
 ghost use Rattle.refusal_place.specs.Walk.{ranged, contents};
 use crate::Field;
 use crate::Subject;
@@ -137,6 +137,14 @@ pub fn edge_head(table: &[u8], who: Subject, sizes: Sizes, w: Walk) -> Walk
     let destination = byte_range(table, who, layout::EDGE_DESTINATION, 0, n, source);
     let mask = byte_range(table, who, layout::EDGE_MASK, 0, limit, destination);
     edge_counts(table, who, own, mask)
+}
+
+// An edge's budget.
+pub fn budget(table: &[u8], who: Subject, w: Walk) -> Walk
+    requires { ⌜ w .at ≤ 8192 ⌝ }
+    ensures { λ r. ⌜ (r ≡ contents (now (table .entry)) who budgetFields w) × (r .at ≡ w .at) ⌝ }
+{
+    bound_range(table, who, 0, false, w)
 }
 
 pub fn clock_bound(table: &[u8], who: Subject, sizes: Sizes, w: Walk) -> Walk

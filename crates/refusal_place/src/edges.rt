@@ -7,7 +7,7 @@ ghost use Rattle.refusal_place.specs.declared.Part.the-variants.{Locatio
 ghost use Rattle.parts.specs.declared.Next.the-variants.{At};
 ghost use Rattle.refusal_place.specs.Ranges.{widthOf};
 ghost use Rattle.refusal_place.specs.Passing.{EdgeFine};
-ghost use Rattle.refusal_place.specs.Walk.{going, inside, onePart, onePair, numbered, ofComponent, ofEdge, several, pairs, items, edgeFrom, edge, edges};
+ghost use Rattle.refusal_place.specs.Walk.{going, inside, onePart, onePair, numbered, ofComponent, ofEdge, several, pairs, items, budgetPart, edgeFrom, edge, edges};
 use crate::Field;
 use crate::Part;
 use crate::Subject;
@@ -40,6 +40,7 @@ pub fn width(part: Part) -> usize
         Part::Pair => layout::PAIR_WIDTH,
         Part::ComponentEnd => 0,
         Part::TableEnd => 0,
+        Part::Budget => layout::BUDGET_WIDTH,
     }
 }
 
@@ -62,6 +63,7 @@ pub fn inside(table: &[u8], end: usize, sizes: Sizes, who: Subject, w: Walk) -> 
         Part::Pair => contents::pair(table, who, sizes, fit),
         Part::ComponentEnd => fit,
         Part::TableEnd => fit,
+        Part::Budget => contents::budget(table, who, fit),
     }
 }
 
@@ -192,7 +194,18 @@ pub fn items(
     pairs(table, end, sizes, of_edge(c, e, Part::Pair), count, w)
 }
 
-// The edge that starts here: its 7 bytes, then clock bounds, data bounds, items.
+// The budget of an edge, where edges have one.
+fn budget_part(table: &[u8], end: usize, sizes: Sizes, c: u8, e: u8, w: Walk) -> Walk
+    requires { ⌜ (w .at ≤ end) × (end ≤ 8192) ⌝ }
+    ensures { λ r. ⌜ (r ≡ budgetPart (now (table .entry)) end sizes c e w) × (r .at ≤ end) ⌝ }
+{
+    if sizes.budgets {
+        return one_part(table, end, sizes, of_edge(c, e, Part::Budget), w);
+    }
+    w
+}
+
+// The edge that starts here: its 7 bytes, its budget, then clock bounds, data bounds, items.
 pub fn edge_from(table: &[u8], end: usize, sizes: Sizes, c: u8, e: u8, w: Walk) -> Walk
     requires { ⌜ (w .at ≤ end) × (end ≤ length (now table)) × (length (now table) ≤ 8192) ⌝ }
     ensures { λ r. ⌜ (r ≡ edgeFrom (now (table .entry)) end sizes c e (w .at) w) × (r .at ≤ end) ⌝ }
@@ -203,13 +216,14 @@ pub fn edge_from(table: &[u8], end: usize, sizes: Sizes, c: u8, e: u8, w: Walk) 
     let data_bounds = byte_at(table, from + layout::EDGE_DATA_GUARDS);
     let count = byte_at(table, from + layout::EDGE_ITEMS);
     let head = one_part(table, end, sizes, of_edge(c, e, Part::EdgeHead), w);
+    let budget = budget_part(table, end, sizes, c, e, head);
     let clocks = several(
         table,
         end,
         sizes,
         of_edge(c, e, Part::ClockBound),
         clock_bounds,
-        head,
+        budget,
     );
     let data = several(
         table,

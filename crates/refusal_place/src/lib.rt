@@ -7,7 +7,7 @@ mod steps;
 ghost use mathlib.Core.Path.{_≡_};
 ghost use Prim.Native.Nat.{_+_, min, _≤_, _<_};
 ghost use lib.ListN.{length};
-ghost use Rattle.model.specs.Reader.{byte};
+ghost use Rattle.model.specs.Reader.{byte, headerAt};
 ghost use Rattle.refusal_place.specs.Walk.{nowhere, sizesFrom, lengthStated, bodyFrom, componentFrom, component, components, placeOf};
 use crate::edges::edges;
 use crate::edges::locations;
@@ -20,6 +20,7 @@ use crate::steps::going;
 use crate::steps::judged;
 use crate::steps::number_at;
 use model::Sizes;
+use model::TableHeader;
 use model::layout;
 
 // The parts of a table, in document 01's words: "each part (component, its first 7 bytes, location, edge's 7 bytes, bound, item)". A component begins
@@ -36,6 +37,7 @@ pub enum Part {
     Pair,
     ComponentEnd,
     TableEnd,
+    Budget,
 }
 
 // A part by its numbers; 255 where it has none.
@@ -117,26 +119,27 @@ fn body(table: &[u8], end: usize, sizes: Sizes, c: u8, from: usize, w: Walk) -> 
     ends(end, of_component(c, Part::ComponentEnd), all)
 }
 
-fn sizes_from(table: &[u8], channels: u8, from: usize) -> Sizes
+fn sizes_from(table: &[u8], header: TableHeader, from: usize) -> Sizes
     requires { ⌜ from ≤ 8192 ⌝ }
-    ensures { λ r. ⌜ r ≡ sizesFrom (now (table .entry)) channels from ⌝ }
+    ensures { λ r. ⌜ r ≡ sizesFrom (now (table .entry)) header from ⌝ }
 {
     Sizes {
-        channels,
+        channels: header.channels,
         locations: byte_at(table, from + layout::COMPONENT_LOCATIONS),
         clocks: byte_at(table, from + layout::COMPONENT_CLOCKS),
         variables: byte_at(table, from + layout::COMPONENT_VARIABLES),
+        budgets: header.budgets,
     }
 }
 
 // The component that starts here.
-fn component_from(table: &[u8], channels: u8, c: u8, w: Walk) -> Walk
+fn component_from(table: &[u8], header: TableHeader, c: u8, w: Walk) -> Walk
     requires { ⌜ (w .at ≤ length (now table)) × (length (now table) ≤ 8192) ⌝ }
-    ensures { λ r. ⌜ (r ≡ componentFrom (now (table .entry)) channels c (w .at) w) × (r .at ≤ length (now (table .entry))) ⌝ }
+    ensures { λ r. ⌜ (r ≡ componentFrom (now (table .entry)) header c (w .at) w) × (r .at ≤ length (now (table .entry))) ⌝ }
 {
     let from = w.at;
     let end = from + lesser(number_at(table, from, 2), table.len() - from);
-    let sizes = sizes_from(table, channels, from);
+    let sizes = sizes_from(table, header, from);
     let known = length_stated(table, c, w);
     let head = one_part(
         table,
@@ -148,25 +151,25 @@ fn component_from(table: &[u8], channels: u8, c: u8, w: Walk) -> Walk
     body(table, end, sizes, c, from, head)
 }
 
-fn component(table: &[u8], channels: u8, c: u8, w: Walk) -> Walk
+fn component(table: &[u8], header: TableHeader, c: u8, w: Walk) -> Walk
     requires { ⌜ (w .at ≤ length (now table)) × (length (now table) ≤ 8192) ⌝ }
-    ensures { λ r. ⌜ (r ≡ component (now (table .entry)) channels c w) × (r .at ≤ length (now (table .entry))) ⌝ }
+    ensures { λ r. ⌜ (r ≡ component (now (table .entry)) header c w) × (r .at ≤ length (now (table .entry))) ⌝ }
 {
     if going(w) {
-        return component_from(table, channels, c, w);
+        return component_from(table, header, c, w);
     }
     w
 }
 
 // The components, to the table's end.
-fn components(table: &[u8], count: u8, channels: u8, w: Walk) -> Walk
-    requires { ⌜ (w .at ≤ length (now table)) × (length (now table) ≤ 8192) × (1 ≤ count) × (count ≡ byte (now table) 3) × (channels ≡ byte (now table) 4) ⌝ }
+fn components(table: &[u8], count: u8, header: TableHeader, w: Walk) -> Walk
+    requires { ⌜ (w .at ≤ length (now table)) × (length (now table) ≤ 8192) × (1 ≤ count) × (count ≡ byte (now table) 3) × (header ≡ headerAt (now table)) ⌝ }
     ensures { λ r. ⌜ r ≡ components (now (table .entry)) w ⌝ }
 {
     let mut walk = w;
     let mut c: u8 = 0;
     while c < count {
-        walk = component(table, channels, c, walk);
+        walk = component(table, header, c, walk);
         c += 1;
     }
     ends(table.len(), of_component(count - 1, Part::TableEnd), walk)
@@ -193,6 +196,18 @@ fn nowhere() -> Place
     }
 }
 
+// What the components' reader has to know of the header.
+fn heading(table: &[u8]) -> TableHeader
+    ensures { λ r. ⌜ r ≡ headerAt (now (table .entry)) ⌝ }
+{
+    let channels = byte_at(table, layout::TABLE_CHANNELS);
+    let version = byte_at(table, layout::TABLE_VERSION);
+    TableHeader {
+        channels,
+        budgets: layout::BUDGET_VERSION <= version,
+    }
+}
+
 // The place of a refusal with 4, 5 or 6; number 0 for any other table.
 pub fn locate(table: &[u8]) -> Place
     ensures { λ r. ⌜ r ≡ placeOf (now (table .entry)) ⌝ }
@@ -206,7 +221,7 @@ pub fn locate(table: &[u8]) -> Place
         place: nowhere(),
     };
     let count = byte_at(table, layout::TABLE_COMPONENTS);
-    let channels = byte_at(table, layout::TABLE_CHANNELS);
-    let walked = components(table, count, channels, start);
+    let header = heading(table);
+    let walked = components(table, count, header, start);
     walked.place
 }

@@ -69,6 +69,7 @@ pub fn part_number(part: Part) -> u8
         Part::Pair => 9,
         Part::ComponentEnd => 10,
         Part::TableEnd => 11,
+        Part::Budget => 12,
     }
 }
 

@@ -16,7 +16,7 @@ fn put_question_on_bytes(out: &mut [u8], at: usize, number: u8) -> usize
 {
     match number {
         0 => put(out, at, b"Does a question have this number?\n"),
-        1 => put(out, at, b"Is the first byte 1 or 2?\n"),
+        1 => put(out, at, b"Is the first byte 1, 2 or 3?\n"),
         2 => put(
             out,
             at,
@@ -55,7 +55,7 @@ fn put_question_on_time(out: &mut [u8], at: usize, number: u8) -> usize
         8 => put(
             out,
             at,
-            b"Has the location entered an edge with a window of one tick's length?\n",
+            b"Is there an edge with a window of a tick's length, no shorter than its budget?\n",
         ),
         9 => put(
             out,

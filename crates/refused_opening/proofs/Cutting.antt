@@ -10,6 +10,7 @@ use lib.ListN.{length, take, set}
 use lib.Seq.{take-set-lt}
 use Rattle.model.specs.declared.Update.{Update}
 use Rattle.model.specs.Lists.{All, empty, more, only}
+use Rattle.model.specs.declared.TableHeader.{TableHeader}
 use Rattle.model.specs.Table.{Arc, Component, noLocation, locationOf, arcOf}
 use Rattle.model.specs.Limits.{ComponentIn}
 use Rattle.model.specs.Window.{Entry, Pick, blocked, windowless, choice, inRange, newValue}
@@ -48,7 +49,7 @@ out-cut n i vs (more {x = u} {xs = us} h a) =
 
 -- ## A component in the limits
 
-module _ (channels : ℕ) (C : Component) (i : ComponentIn channels C) (e : Entry) (there : e .location < length (C .locations)) where
+module _ (channels : TableHeader) (C : Component) (i : ComponentIn channels C) (e : Entry) (there : e .location < length (C .locations)) where
   -- the reasons are those with all four clocks and variables
   pub reasons-cut : reasonsAmong (locationOf C (e .location)) e (C .arcs) ≡ reasons C (cut C e)
   reasons-cut =

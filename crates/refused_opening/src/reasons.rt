@@ -54,6 +54,7 @@ fn count_edges(table: &[u8], start: usize, c: u8, location: Location, at: Entry)
     requires { ⌜ Valid (now table) × (c < size (readOf (now table) .table)) × (start ≡ startOf (now table) c) × (location .clock < 4) ⌝ }
     ensures { λ r. ⌜ reasonsOf r ≡ reasonsAmong location (entryOf at) (componentIn (now (table .entry)) c .arcs) ⌝ }
 {
+    let budgets = decoder::budgeted(table);
     let count = parts::wide(table[start + layout::COMPONENT_EDGES]);
     let mut place = start
         + layout::COMPONENT_HEADER
@@ -61,9 +62,9 @@ fn count_edges(table: &[u8], start: usize, c: u8, location: Location, at: Entry)
     let mut tally = none_counted();
     let mut e: usize = 0;
     while e < count {
-        let found = window::judge(&table[place..], location, at);
+        let found = window::judge(&table[place..], location, at, budgets);
         tally = tallied(tally, found);
-        place += decoder::arc_length(&table[place..]);
+        place += decoder::arc_length(&table[place..], budgets);
         e += 1;
     }
     tally

@@ -50,14 +50,14 @@ fn first_of(updates: &[u8], count: u8, values: [i16; 4]) -> FirstOut
 }
 
 // Of the edge at the front of the bytes (only an internal edge has updates).
-fn first_out(bytes: &[u8], values: [i16; 4]) -> FirstOut
-    requires { ⌜ ArcReady (now bytes) ⌝ }
-    ensures { λ r. ⌜ outOf r ≡ firstOut 0 (arcAt (now (bytes .entry)) .updates) values ⌝ }
+fn first_out(bytes: &[u8], values: [i16; 4], budgets: bool) -> FirstOut
+    requires { ⌜ ArcReady budgets (now bytes) ⌝ }
+    ensures { λ r. ⌜ outOf r ≡ firstOut 0 (arcAt budgets (now (bytes .entry)) .updates) values ⌝ }
 {
-    let action = decoder::action_at(bytes);
+    let action = decoder::action_at(bytes, budgets);
     match action {
         Action::Internal => {
-            let items = decoder::items_place(bytes);
+            let items = decoder::items_place(bytes, budgets);
             first_of(&bytes[items..], bytes[layout::EDGE_ITEMS], values)
         }
         Action::Send(_) => none_out(),
@@ -79,16 +79,17 @@ fn overflow_there(table: &[u8], start: usize, c: u8, at: Entry) -> Overflow
     requires { ⌜ Valid (now table) × (c < size (readOf (now table) .table)) × (start ≡ startOf (now table) c) × (at .location < length (componentIn (now table) c .locations)) ⌝ }
     ensures { λ r. ⌜ (r .edge ≡ edgeTold (overflow (componentIn (now (table .entry)) c) (entryOf at))) × (r .update ≡ updateTold (overflow (componentIn (now (table .entry)) c) (entryOf at))) ⌝ }
 {
+    let budgets = decoder::budgeted(table);
     let mut index = [32u16; 640];
-    window::index::put_edges(table, start, parts::wide(c), &mut index);
-    let found = window::choose(table, start, c, at, &index);
+    window::index::put_edges(table, start, parts::wide(c), &mut index, budgets);
+    let found = window::choose(table, start, c, at, &index, budgets);
     let chosen = found.choice;
     if 65535 < chosen.ready {
         return no_overflow();
     }
     let place = chosen.place;
     let values = at.values;
-    let out = first_out(&table[place..], values);
+    let out = first_out(&table[place..], values, budgets);
     if !out.found {
         return no_overflow();
     }

@@ -29,13 +29,13 @@ no-message m h = rw (eq-eqb m 255 h)
 
 -- ## What the decoded action tells of the channel
 
-module _ (h : List ℕ) (d : EdgeStands h) where
-  pub sent-is : (channel : ℕ) → Send channel ≡ arcAt h .edge .action → messageOf channel ≡ channelOf (arcAt h)
+module _ (b : Bool) (h : List ℕ) (d : EdgeStands b h) where
+  pub sent-is : (channel : ℕ) → Send channel ≡ arcAt b h .edge .action → messageOf channel ≡ channelOf (arcAt b h)
   sent-is channel e = is-message channel (λ q. omega (arith, d .channel channel e)) ∙ ap sends e
 
   -- the pairs of a receive stand whole
-  pub lists-within : Receive ≡ arcAt h .edge .action → itemsPlace h + byte h 6 * 2 ≤ length h
-  lists-within e = omega (arith, d .whole, receive-length h e)
+  pub lists-within : Receive ≡ arcAt b h .edge .action → itemsPlace b h + byte h 6 * 2 ≤ length h
+  lists-within e = omega (arith, d .whole, receive-length b h e)
 
 -- ## A receive
 
@@ -43,21 +43,21 @@ module _ (h : List ℕ) (d : EdgeStands h) where
 abbrev pub has : ℕ → List Pair → Bool
 has channel ps = any (λ q. eqb (q .channel) channel) ps
 
-pub lists-none : (h : List ℕ) (channel : ℕ) → channel ≡ 255 → false ≡ names (arcAt h) (messageOf channel)
-lists-none h channel e = rw (no-message channel e)
+pub lists-none : (b : Bool) (h : List ℕ) (channel : ℕ) → channel ≡ 255 → false ≡ names (arcAt b h) (messageOf channel)
+lists-none b h channel e = rw (no-message channel e)
 
 -- an edge without pairs lists nothing
-pub lists-nothing : (m : Option ℕ) (h : List ℕ) → arcAt h .pairs ≡ [] → false ≡ names (arcAt h) m
-lists-nothing none h e = refl
-lists-nothing (some k) h e = rw e
+pub lists-nothing : (m : Option ℕ) (b : Bool) (h : List ℕ) → arcAt b h .pairs ≡ [] → false ≡ names (arcAt b h) m
+lists-nothing none b h e = refl
+lists-nothing (some k) b h e = rw e
 
 module _ (h : List ℕ) (channel : ℕ) where
   -- the channels from a place on, so many
   abbrev pub hasFrom : ℕ → ℕ → Bool
   hasFrom at k = has channel (listAt pairAt 2 k (drop at h))
 
-  pub lists-start : (at : ℕ) → (channel ≡ 255 → ⊥) → Receive ≡ arcAt h .edge .action → at ≡ itemsPlace h → hasFrom at (byte h 6) ≡ names (arcAt h) (messageOf channel)
-  lists-start at c e p = rw (p, is-message channel c) (ap (has channel) (sym (receive-pairs h e)))
+  pub lists-start : (b : Bool) (at : ℕ) → (channel ≡ 255 → ⊥) → Receive ≡ arcAt b h .edge .action → at ≡ itemsPlace b h → hasFrom at (byte h 6) ≡ names (arcAt b h) (messageOf channel)
+  lists-start b at c e p = rw (p, is-message channel c) (ap (has channel) (sym (receive-pairs b h e)))
 
   -- one more than the rest
   counted : (at k : ℕ) (x : Bool) → 0 < k → hasFrom at k ≡ x → hasFrom at (suc (k - 1)) ≡ x

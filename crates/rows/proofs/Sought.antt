@@ -21,6 +21,10 @@ and-false : (a : Bool) → a && false ≡ false
 and-false true = refl
 and-false false = refl
 
+and-true : (a : Bool) → a && true ≡ a
+and-true true = refl
+and-true false = refl
+
 turned : (a b c : Bool) → a && b && c ≡ b && c && a
 turned true true true = refl
 turned true true false = refl
@@ -30,13 +34,17 @@ turned false false c = refl
 
 -- ## What is computed from the numbers of two rows
 
--- row j for row i: `ri`, `rj` are the two readies, `ei`, `ej` the ends, `ci`, `cj` the components
-pub in-time-is : (l : List ℕ) (i j H : ℕ) {ri rj ei ej ci cj : ℕ} {after inside r : Bool}
+-- row j for row i: it ends too late ..
+pub ends-late : (l : List ℕ) (i j H : ℕ) → num l i 5 ≤ num l j 5 → false ≡ inTime H (rowPassage l i) (rowPassage l j)
+ends-late l i j H h = rw (le-ltb (num l j 5) (num l i 5) h, and-false, and-false)
+
+-- .. or before it: `ri`, `rj` are the two readies, `ci`, `cj` the components
+pub in-time-is : (l : List ℕ) (i j H : ℕ) {ri rj ci cj : ℕ} {after r : Bool}
+    → num l j 5 < num l i 5
     → rj ≡ num l j 4 → ri ≡ num l i 4 → after ≡ ltb ri rj && ltb rj H
-    → ej ≡ num l j 5 → ei ≡ num l i 5 → inside ≡ after && ltb ej ei
-    → ci ≡ num l i 0 → cj ≡ num l j 0 → r ≡ not (eqb ci cj) && inside
+    → ci ≡ num l i 0 → cj ≡ num l j 0 → r ≡ not (eqb ci cj) && after
     → r ≡ inTime H (rowPassage l i) (rowPassage l j)
-in-time-is l i j H a b c d e f g h k = rw (k, f, c, a, b, d, e, g, h)
+in-time-is l i j H h a b c d e f = rw (f, c, a, b, d, e, lt-ltb (num l j 5) (num l i 5) h, and-true)
 
 -- row j and row b
 pub ends-sooner-is : (l : List ℕ) (j b : ℕ) {ej eb cj cb : ℕ} {same r : Bool}

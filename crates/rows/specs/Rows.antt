@@ -80,10 +80,10 @@ pub record MessagesPut (bs : List ℕ) (H n : ℕ) (before after : List ℕ) : T
 -- ## Seeking a message
 
 -- an edge stands at the front, whole; a send's channel is not the number that stands for none
-pub record EdgeStands (h : List ℕ) : Type 0 where
+pub record EdgeStands (b : Bool) (h : List ℕ) : Type 0 where
   pub head : 7 ≤ length h
-  pub whole : arcLength h ≤ length h
-  pub channel : (k : ℕ) → Send k ≡ arcAt h .edge .action → k < 255
+  pub whole : arcLength b h ≤ length h
+  pub channel : (k : ℕ) → Send k ≡ arcAt b h .edge .action → k < 255
 
 -- what is known of one row of a valid table's passages
 pub record RowKnown (bs l : List ℕ) (i : ℕ) : Type 0 where

@@ -6,7 +6,7 @@ ghost use Prim.Native.Nat.{ℕ, _+_, _*_, _≤_, _<_};
 ghost use lib.ListN.{length, set};
 ghost use lib.Seq.{sets};
 ghost use Rattle.model.specs.Window.{channelOf, listens};
-ghost use Rattle.model.specs.Places.{arcAt, readOf};
+ghost use Rattle.model.specs.Places.{arcAt, budgeted, readOf};
 ghost use Rattle.model.specs.Schedule.{passageArc, names, heardBy, endsSooner, sooner, earliest, messageIn};
 ghost use Rattle.rows.specs.Rows.{num, messageOf, rowPassage, rowsOf, RowsPlaced, Told, MessagesPut, EdgeStands, RowKnown, Linked, inTime, bestOf, heardRow, soonerFirst, heardFirst};
 use model::Action;
@@ -94,11 +94,11 @@ pub fn open_before(rows: &[u32], j: usize, tick: u32) -> usize
 }
 
 // The channel that the edge at the front sends on (255: none).
-pub fn sent(edge: &[u8]) -> u8
-    requires { ⌜ EdgeStands (now edge) ⌝ }
-    ensures { λ r. ⌜ messageOf r ≡ channelOf (arcAt (now (edge .entry))) ⌝ }
+pub fn sent(edge: &[u8], budgets: bool) -> u8
+    requires { ⌜ EdgeStands budgets (now edge) ⌝ }
+    ensures { λ r. ⌜ messageOf r ≡ channelOf (arcAt budgets (now (edge .entry))) ⌝ }
 {
-    let action = decoder::action_at(edge);
+    let action = decoder::action_at(edge, budgets);
     match action {
         Action::Internal => 255,
         Action::Send(channel) => channel,
@@ -107,14 +107,14 @@ pub fn sent(edge: &[u8]) -> u8
 }
 
 // Whether the edge at the front lists the channel (255: no).
-pub fn lists(edge: &[u8], channel: u8) -> bool
-    requires { ⌜ EdgeStands (now edge) ⌝ }
-    ensures { λ r. ⌜ r ≡ names (arcAt (now (edge .entry))) (messageOf channel) ⌝ }
+pub fn lists(edge: &[u8], channel: u8, budgets: bool) -> bool
+    requires { ⌜ EdgeStands budgets (now edge) ⌝ }
+    ensures { λ r. ⌜ r ≡ names (arcAt budgets (now (edge .entry))) (messageOf channel) ⌝ }
 {
     if channel == 255 {
         return false;
     }
-    let action = decoder::action_at(edge);
+    let action = decoder::action_at(edge, budgets);
     match action {
         Action::Internal => {
             return false;
@@ -124,7 +124,7 @@ pub fn lists(edge: &[u8], channel: u8) -> bool
         }
         Action::Receive => {}
     }
-    let mut at = decoder::items_place(edge);
+    let mut at = decoder::items_place(edge, budgets);
     let mut k = edge[6];
     while 0 < k {
         if edge[at] == channel {
@@ -141,8 +141,9 @@ pub fn row_receives(table: &[u8], rows: &[u32], i: usize) -> bool
     requires { ⌜ RowKnown (now table) (now rows) i ⌝ }
     ensures { λ r. ⌜ r ≡ listens (passageArc (readOf (now (table .entry)) .table) (rowPassage (now (rows .entry)) i)) ⌝ }
 {
+    let budgets = decoder::budgeted(table);
     let at = index(rows, i, PLACE);
-    let action = decoder::action_at(&table[at..]);
+    let action = decoder::action_at(&table[at..], budgets);
     match action {
         Action::Internal => false,
         Action::Send(_) => false,
@@ -155,8 +156,9 @@ pub fn row_sent(table: &[u8], rows: &[u32], i: usize) -> u8
     requires { ⌜ RowKnown (now table) (now rows) i ⌝ }
     ensures { λ r. ⌜ messageOf r ≡ channelOf (passageArc (readOf (now (table .entry)) .table) (rowPassage (now (rows .entry)) i)) ⌝ }
 {
+    let budgets = decoder::budgeted(table);
     let at = index(rows, i, PLACE);
-    sent(&table[at..])
+    sent(&table[at..], budgets)
 }
 
 // Whether row i's edge lists the channel (255: no).
@@ -164,8 +166,9 @@ pub fn row_lists(table: &[u8], rows: &[u32], i: usize, channel: u8) -> bool
     requires { ⌜ RowKnown (now table) (now rows) i ⌝ }
     ensures { λ r. ⌜ r ≡ names (passageArc (readOf (now (table .entry)) .table) (rowPassage (now (rows .entry)) i)) (messageOf channel) ⌝ }
 {
+    let budgets = decoder::budgeted(table);
     let at = index(rows, i, PLACE);
-    lists(&table[at..], channel)
+    lists(&table[at..], channel, budgets)
 }
 
 // Whether row j is of another component than row i, starts after its ready and before the tick h, and ends before its end.
@@ -173,24 +176,29 @@ fn in_time(rows: &[u32], i: usize, j: usize, horizon: u32) -> bool
     requires { ⌜ (i * 9 + 9 ≤ length (now rows)) × (j * 9 + 9 ≤ length (now rows)) ⌝ }
     ensures { λ r. ⌜ r ≡ inTime horizon (rowPassage (now (rows .entry)) i) (rowPassage (now (rows .entry)) j) ⌝ }
 {
+    if number(rows, i, END) <= number(rows, j, END) {
+        return false;
+    }
     let ready = number(rows, j, READY);
     let after = parts::both(number(rows, i, READY) < ready, ready < horizon);
-    let inside = parts::both(after, number(rows, j, END) < number(rows, i, END));
     parts::both(
         number(rows, i, COMPONENT) != number(rows, j, COMPONENT),
-        inside,
+        after,
     )
 }
 
 // Whether row i hears row j.
-pub fn hears(table: &[u8], rows: &[u32], i: usize, j: usize, horizon: u32) -> bool
-    requires { ⌜ RowKnown (now table) (now rows) i × RowKnown (now table) (now rows) j ⌝ }
+pub fn hears(table: &[u8], rows: &[u32], i: usize, j: usize, horizon: u32, budgets: bool) -> bool
+    requires { ⌜ RowKnown (now table) (now rows) i × RowKnown (now table) (now rows) j × (budgets ≡ budgeted (now table)) ⌝ }
     ensures { λ r. ⌜ r ≡ heardBy (readOf (now (table .entry)) .table) horizon (rowPassage (now (rows .entry)) i) (rowPassage (now (rows .entry)) j) ⌝ }
 {
     if !in_time(rows, i, j, horizon) {
         return false;
     }
-    row_lists(table, rows, i, row_sent(table, rows, j))
+    let at = index(rows, j, PLACE);
+    let channel = sent(&table[at..], budgets);
+    let place = index(rows, i, PLACE);
+    lists(&table[place..], channel, budgets)
 }
 
 fn ends_sooner(rows: &[u32], j: usize, best: usize) -> bool
@@ -223,11 +231,12 @@ fn heard(
     j: usize,
     count: usize,
     horizon: u32,
+    budgets: bool,
 ) -> usize
-    requires { ⌜ RowsPlaced (now table) (now rows) count × (i < count) × (j < count) ⌝ }
+    requires { ⌜ RowsPlaced (now table) (now rows) count × (i < count) × (j < count) × (budgets ≡ budgeted (now table)) ⌝ }
     ensures { λ r. ⌜ bestOf (now (rows .entry)) count r ≡ heardRow (now (table .entry)) (now (rows .entry)) horizon i j (bestOf (now (rows .entry)) count best) ⌝ }
 {
-    if hears(table, rows, i, j, horizon) {
+    if hears(table, rows, i, j, horizon, budgets) {
         nearer(rows, best, j, count)
     } else {
         best
@@ -254,11 +263,12 @@ fn heard_before(
     j: usize,
     count: usize,
     horizon: u32,
+    budgets: bool,
 ) -> usize
-    requires { ⌜ RowsPlaced (now table) (now rows) count × (i < count) × (j < count) ⌝ }
+    requires { ⌜ RowsPlaced (now table) (now rows) count × (i < count) × (j < count) × (budgets ≡ budgeted (now table)) ⌝ }
     ensures { λ r. ⌜ bestOf (now (rows .entry)) count r ≡ heardFirst (now (table .entry)) (now (rows .entry)) horizon i j (bestOf (now (rows .entry)) count best) ⌝ }
 {
-    if hears(table, rows, i, j, horizon) {
+    if hears(table, rows, i, j, horizon, budgets) {
         nearer_before(rows, best, j, count)
     } else {
         best
@@ -266,8 +276,15 @@ fn heard_before(
 }
 
 // The row before row i whose message it hears, the count of rows where there is none. Rows that ended before its ready are passed over by their links.
-fn seek_before(table: &[u8], rows: &[u32], count: usize, i: usize, horizon: u32) -> usize
-    requires { ⌜ RowsPlaced (now table) (now rows) count × (i < count) ⌝ }
+fn seek_before(
+    table: &[u8],
+    rows: &[u32],
+    count: usize,
+    i: usize,
+    horizon: u32,
+    budgets: bool,
+) -> usize
+    requires { ⌜ RowsPlaced (now table) (now rows) count × (i < count) × (budgets ≡ budgeted (now table)) ⌝ }
     ensures { λ r. ⌜ bestOf (now (rows .entry)) count r ≡ earliest (heardBy (readOf (now (table .entry)) .table) horizon (rowPassage (now (rows .entry)) i)) (rowsOf (now (rows .entry)) i) none ⌝ }
 {
     let ready = number(rows, i, READY);
@@ -275,25 +292,25 @@ fn seek_before(table: &[u8], rows: &[u32], count: usize, i: usize, horizon: u32)
     let mut j = open_before(rows, i, ready);
     while 0 < j {
         let k = j - 1;
-        best = heard_before(table, rows, best, i, k, count, horizon);
+        best = heard_before(table, rows, best, i, k, count, horizon, budgets);
         j = open_before(rows, k, ready);
     }
     best
 }
 
 // The row whose message row i hears, n where there is none. Rows that open at its end or later end too late.
-fn seek(table: &[u8], rows: &[u32], count: usize, i: usize, horizon: u32) -> usize
-    requires { ⌜ RowsPlaced (now table) (now rows) count × (i < count) ⌝ }
+fn seek(table: &[u8], rows: &[u32], count: usize, i: usize, horizon: u32, budgets: bool) -> usize
+    requires { ⌜ RowsPlaced (now table) (now rows) count × (i < count) × (budgets ≡ budgeted (now table)) ⌝ }
     ensures { λ r. ⌜ bestOf (now (rows .entry)) count r ≡ earliest (heardBy (readOf (now (table .entry)) .table) horizon (rowPassage (now (rows .entry)) i)) (rowsOf (now (rows .entry)) count) none ⌝ }
 {
     let until = number(rows, i, END);
-    let mut best = seek_before(table, rows, count, i, horizon);
+    let mut best = seek_before(table, rows, count, i, horizon, budgets);
     let mut j = i;
     while j < count {
         if until <= number(rows, j, ENTRY) {
             return best;
         }
-        best = heard(table, rows, best, i, j, count, horizon);
+        best = heard(table, rows, best, i, j, count, horizon, budgets);
         j += 1;
     }
     best
@@ -307,7 +324,8 @@ pub fn message(table: &[u8], rows: &[u32], count: usize, i: usize, horizon: u32)
     if !row_receives(table, rows, i) {
         return row_sent(table, rows, i);
     }
-    let best = seek(table, rows, count, i, horizon);
+    let budgets = decoder::budgeted(table);
+    let best = seek(table, rows, count, i, horizon, budgets);
     if best < count {
         return row_sent(table, rows, best);
     }

@@ -7,7 +7,7 @@ use borrow.Author.Count.{below-more}
 use lib.IntN.{ℤ}
 use lib.ListN.{length}
 use Rattle.model.specs.Lists.{Bytes, from, below}
-use Rattle.model.specs.Table.{noComponent}
+use Rattle.model.specs.Table.{noComponent, headerOf}
 use Rattle.model.specs.Reader.{byte}
 use Rattle.model.specs.Places.{startOf, Valid, readOf, componentIn, ComponentAt}
 use Rattle.model.specs.Limits.{ComponentIn}
@@ -99,7 +99,7 @@ module _ (table : List ℕ) (b : Bytes table) (valid : Valid table) where
     there : ComponentAt table start (componentIn table c)
     there = rw e (valid-located table b valid .component c (omega (arith, valid-count table b valid)))
 
-    limits : ComponentIn (readOf table .table .channels) (componentIn table c)
+    limits : ComponentIn (headerOf (readOf table)) (componentIn table c)
     limits = valid-in table b valid c (omega (arith, valid-count table b valid))
 
     pub start-inside : start + 6 ≤ length table

@@ -18,6 +18,7 @@ use Rattle.model.specs.declared.Pair.{Pair}
 use Rattle.model.specs.declared.Sizes.{Sizes}
 use Rattle.model.specs.declared.Update.{Update}
 use Rattle.model.specs.Lists.{All, empty, more, orElse, Answer, accepted, refused}
+use Rattle.model.specs.declared.TableHeader.{TableHeader}
 use Rattle.model.specs.Table.{Arc, Component, sizesOf, noLocation, noArc, locationOf, arcOf}
 use Rattle.model.specs.Limits.{PairIn, ActionIn, ArcIn, ComponentIn}
 use Rattle.model.specs.Window.{Entry, Pick, readyOf, pastOf, dataHolds, firstFailing, blocked, windowless, considered, chosen, choice, inRange, newValue, updated, masked, aged, paired, leadsTo, leaves, receives, channelOf}
@@ -114,7 +115,7 @@ updates-below s a Internal i = all-then (λ u q. q .variable) (i .updates)
 updates-below s a (Send k) i = rw (i .updates) empty
 updates-below s a Receive i = rw (i .updates) empty
 
-module _ (channels : ℕ) (C : Component) (i : ComponentIn channels C) where
+module _ (channels : TableHeader) (C : Component) (i : ComponentIn channels C) where
   -- edge e is in the limits
   pub arc-in : (e : ℕ) → e < length (C .arcs) → ArcIn (sizesOf channels C) (arcOf C e)
   arc-in e h = all-at noArc (i .arcs) e h

@@ -10,6 +10,7 @@ use borrow.Author.Count.{below-more}
 use lib.ListN.{length, getD, set, length-append, length-set}
 use lib.Seq.{sets, getD-set-same, getD-set-other}
 use Rattle.model.specs.Lists.{All, snoc, accepted, refused}
+use Rattle.model.specs.declared.TableHeader.{TableHeader}
 use Rattle.model.specs.Table.{size, arcOf}
 use Rattle.model.specs.Limits.{ComponentIn}
 use Rattle.model.specs.Window.{channelOf}
@@ -38,7 +39,7 @@ abbrev pub made : List ℕ → ℕ → Entry → TakenEdge → Passage
 made bs c at t =
     passageOf c (cut (componentIn bs c) (entryOf at)) (record { edge = t .edge; ready = t .ready; end = t .end }) (channelOf (arcOf (componentIn bs c) (t .edge)))
 
-module _ (bs : List ℕ) (c : ℕ) {channels : ℕ} (i : ComponentIn channels (componentIn bs c)) (at : Entry) (there : at .location < length (componentIn bs c .locations))
+module _ (bs : List ℕ) (c : ℕ) {channels : TableHeader} (i : ComponentIn channels (componentIn bs c)) (at : Entry) (there : at .location < length (componentIn bs c .locations))
     (r : Opening) (e : openingOf c (componentIn bs c) (entryOf at) r ≡ opening c (componentIn bs c) (entryOf at)) where
   opens : opening c (componentIn bs c) (cut (componentIn bs c) (entryOf at)) ≡ openingOf c (componentIn bs c) (cut (componentIn bs c) (entryOf at)) r
   opens =

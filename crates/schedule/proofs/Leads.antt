@@ -1,5 +1,6 @@
 -- An open passage closes: its edge can be read at its place, and leads to a location of its component. Assumes nothing.
 use mathlib.Core.Path.{_≡_, sym, ap, ap₂, subst, _∙_}
+use mathlib.Core.Bool.{Bool}
 use mathlib.Core.List.{List}
 use mathlib.Core.Option.{Option}
 use Prim.Native.Nat.{ℕ, _-_, _≤_, _<_}
@@ -7,10 +8,10 @@ use native.Mathlib.Omega.{arith}
 use mir.Val.{Fits}
 use mir.Syntax.{w8}
 use lib.ListN.{length, take, drop, getD}
-use Rattle.model.specs.Table.{Arc, sizesOf, size}
+use Rattle.model.specs.Table.{headerOf, Arc, sizesOf, size}
 use Rattle.model.specs.Limits.{ComponentIn}
 use Rattle.model.specs.Window.{leadsTo, leaves}
-use Rattle.model.specs.Places.{arcAt, readOf, componentIn}
+use Rattle.model.specs.Places.{arcAt, budgeted, readOf, componentIn}
 use Rattle.model.specs.Schedule.{passageArc, messageIn}
 use Rattle.model.proofs.Reader.Located.{valid-in}
 use Rattle.parts.proofs.Skim.{tail}
@@ -34,18 +35,18 @@ module _ (bs l : List ℕ) (n c : ℕ) (node : Node) (tick : ℕ) (b : (j : ℕ)
   place-within = at-within bs l (node .row) (node .place) b known (sym (s .place))
 
   -- the bytes there are its edge
-  pub place-arc : arcAt (take (length bs - node .place) (drop (node .place) bs)) ≡ passageArc (readOf bs .table) (rowPassage l (node .row))
-  place-arc = at-arc bs l (node .row) (node .place) b known (sym (s .place))
+  pub place-arc : (w : Bool) → w ≡ budgeted bs → arcAt w (take (length bs - node .place) (drop (node .place) bs)) ≡ passageArc (readOf bs .table) (rowPassage l (node .row))
+  place-arc w same = at-arc bs l (node .row) (node .place) b known (sym (s .place)) w same
 
-  pub place-ready : ArcReady (take (length bs - node .place) (drop (node .place) bs))
-  place-ready =
-      rw (tail bs (node .place), ← s .place, placed .place)
+  pub place-ready : (w : Bool) → w ≡ budgeted bs → ArcReady w (take (length bs - node .place) (drop (node .place) bs))
+  place-ready w same =
+      rw (same, tail bs (node .place), ← s .place, placed .place)
       (valid-ready bs (known-bytes bs b) (r .valid) (num l (node .row) 0) (placed .present) (num l (node .row) 1) (placed .there))
 
   pub its-present : c < size (readOf bs .table)
   its-present = subst (λ (k : ℕ). k < size (readOf bs .table)) (s .component) (placed .present)
 
-  pub its-in : ComponentIn (readOf bs .table .channels) (componentIn bs c)
+  pub its-in : ComponentIn (headerOf (readOf bs)) (componentIn bs c)
   its-in = valid-in bs (known-bytes bs b) (r .valid) c its-present
 
   -- it ends after it was entered
@@ -53,19 +54,19 @@ module _ (bs l : List ℕ) (n c : ℕ) (node : Node) (tick : ℕ) (b : (j : ℕ)
   its-tick = omega (arith, s .tick, s .end, placed .early, placed .window)
 
   -- it leads to a location
-  pub leads-there : (m : Option ℕ) → leadsTo (arcAt (take (length bs - node .place) (drop (node .place) bs))) m < length (componentIn bs c .locations)
-  leads-there m =
-      subst (λ (a : Arc). leadsTo a m < length (componentIn bs c .locations)) (sym place-arc)
+  pub leads-there : (w : Bool) → w ≡ budgeted bs → (m : Option ℕ) → leadsTo (arcAt w (take (length bs - node .place) (drop (node .place) bs))) m < length (componentIn bs c .locations)
+  leads-there w same m =
+      subst (λ (a : Arc). leadsTo a m < length (componentIn bs c .locations)) (sym (place-arc w same))
       (subst (λ (k : ℕ). leadsTo (passageArc (readOf bs .table) (rowPassage l (node .row))) m < length (componentIn bs k .locations)) (s .component)
-      (leads-in (sizesOf (readOf bs .table .channels) (componentIn bs (num l (node .row) 0))) (passageArc (readOf bs .table) (rowPassage l (node .row))) m
-      (arc-in (readOf bs .table .channels) (componentIn bs (num l (node .row) 0)) (valid-in bs (known-bytes bs b) (r .valid) (num l (node .row) 0) (placed .present)) (num l (node .row) 1) (placed .there))))
+      (leads-in (sizesOf (headerOf (readOf bs)) (componentIn bs (num l (node .row) 0))) (passageArc (readOf bs .table) (rowPassage l (node .row))) m
+      (arc-in (headerOf (readOf bs)) (componentIn bs (num l (node .row) 0)) (valid-in bs (known-bytes bs b) (r .valid) (num l (node .row) 0) (placed .present)) (num l (node .row) 1) (placed .there))))
 
-  module _ (H m : ℕ) (at : Entry) (is : entryOf at ≡ leaves (arcAt (take (length bs - node .place) (drop (node .place) bs))) (messageOf m) tick (entryOf (node .entry))) where
+  module _ (w : Bool) (same : w ≡ budgeted bs) (H m : ℕ) (at : Entry) (is : entryOf at ≡ leaves (arcAt w (take (length bs - node .place) (drop (node .place) bs))) (messageOf m) tick (entryOf (node .entry))) where
     pub location-there : at .location < length (componentIn bs c .locations)
     unfolding leaves
     location-there =
-        subst (λ (k : ℕ). k < length (componentIn bs c .locations)) (sym (ap (λ (e : Rattle.model.specs.Window.Entry). e .location) is)) (leads-there (messageOf m))
+        subst (λ (k : ℕ). k < length (componentIn bs c .locations)) (sym (ap (λ (e : Rattle.model.specs.Window.Entry). e .location) is)) (leads-there w same (messageOf m))
 
     pub leaves-row : messageOf m ≡ messageIn (readOf bs .table) H (rowsOf l n) (rowPassage l (node .row))
         → entryOf at ≡ leaves (passageArc (readOf bs .table) (rowPassage l (node .row))) (messageIn (readOf bs .table) H (rowsOf l n) (rowPassage l (node .row))) tick (entryOf (node .entry))
-    leaves-row e = is ∙ ap₂ (λ (a : Arc) (k : Option ℕ). leaves a k tick (entryOf (node .entry))) place-arc e
+    leaves-row e = is ∙ ap₂ (λ (a : Arc) (k : Option ℕ). leaves a k tick (entryOf (node .entry))) (place-arc w same) e

@@ -8,7 +8,7 @@ use mir.Val.{Fits}
 use mir.Syntax.{w8}
 use lib.ListN.{length, getD, set, length-set, length-map}
 use lib.Seq.{getD-set-same, getD-set-other}
-use Rattle.model.specs.Table.{size}
+use Rattle.model.specs.Table.{headerOf, size}
 use Rattle.model.specs.Limits.{ComponentIn}
 use Rattle.model.specs.Reader.{byte, word}
 use Rattle.model.specs.Places.{arcPlace, startOf, ComponentAt, Valid, readOf, componentIn}
@@ -61,7 +61,7 @@ module _ (bs : List ℕ) (b : (j : ℕ) → Fits w8 (getD bs j 0)) (v : Valid bs
   pub stands-at : (c : ℕ) → c < size (readOf bs .table) → ComponentAt bs (startOf bs c) (componentIn bs c)
   stands-at c h = valid-located bs (known-bytes bs b) v .component c h
 
-  pub limits-of : (c : ℕ) → c < size (readOf bs .table) → ComponentIn (readOf bs .table .channels) (componentIn bs c)
+  pub limits-of : (c : ℕ) → c < size (readOf bs .table) → ComponentIn (headerOf (readOf bs)) (componentIn bs c)
   limits-of c h = valid-in bs (known-bytes bs b) v c h
 
   -- the header stands

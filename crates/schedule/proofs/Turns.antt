@@ -14,7 +14,7 @@ use lib.ListN.{length, getD, set, drop, replicate, length-map}
 use lib.Seq.{sets, length-sets, getD-set-same, getD-set-other}
 use Rattle.model.specs.declared.Verdict.the-variants.{Accepted, Refused}
 use Rattle.model.specs.Lists.{All, empty, more, snoc, Answer, accepted, refused, _after_}
-use Rattle.model.specs.Table.{Component, size, arcOf}
+use Rattle.model.specs.Table.{headerOf, Component, size, arcOf}
 use Rattle.model.specs.Window.{leaves}
 use Rattle.model.specs.Places.{startOf, Valid, readOf, componentIn}
 use Rattle.model.specs.Schedule.{Passage, passageArc, messageIn, startEntry, opening, closing, begin, goOn, OpenedSoFar, bare}
@@ -101,7 +101,7 @@ module _ (bs l : List ℕ) (b : (j : ℕ) → Fits w8 (getD bs j 0)) (c : ℕ) (
   module _ (there : c < size (readOf bs .table)) (at : Entry) (location : at .location ≡ componentIn bs c .initial) (tick : at .tick ≡ 0)
       (clocks : at .clocks ≡ replicate 4 0) (values : at .values ≡ replicate 4 (pos 0)) where
     starts : startEntry (componentIn bs c) ≡ cut (componentIn bs c) (entryOf at)
-    starts = start-cut (readOf bs .table .channels) (componentIn bs c) (limits-of bs b valid c there) (entryOf at) location tick clocks values
+    starts = start-cut (headerOf (readOf bs)) (componentIn bs c) (limits-of bs b valid c there) (entryOf at) location tick clocks values
 
     pub begin-location : at .location < length (componentIn bs c .locations)
     begin-location = omega (arith, limits-of bs b valid c there .initial)
@@ -286,7 +286,7 @@ module _ (bs l : List ℕ) (b : (j : ℕ) → Fits w8 (getD bs j 0)) (n : ℕ) (
       leads =
           ap (λ a. leaves a (messageIn T H (g .soFar .listed) v) (v .end) (v .entry)) (sym its-arc)
           ∙ ap₂ (λ k e. leaves (arcOf C (v .edge)) (messageIn T H (g .soFar .listed) v) k e) (open-now .end) (open-now .entry)
-          ∙ leaves-cut (readOf bs .table .channels) C (limits-of bs b (g .going .placed .valid) c (s .there)) (v .edge) edge-there
+          ∙ leaves-cut (headerOf (readOf bs)) C (limits-of bs b (g .going .placed .valid) c (s .there)) (v .edge) edge-there
           (messageIn T H (g .soFar .listed) v) (getD ends c 0) (entryOf (getD nodes c blank .entry))
           ∙ ap (cut C) (sym entry-is)
 

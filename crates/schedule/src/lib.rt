@@ -8,7 +8,7 @@ ghost use lib.IntN.{pos};
 ghost use Rattle.model.specs.declared.Verdict.the-variants.{Accepted, Refused};
 ghost use Rattle.model.specs.Lists.{each};
 ghost use Rattle.model.specs.Reader.{byte};
-ghost use Rattle.model.specs.Places.{Valid, startOf};
+ghost use Rattle.model.specs.Places.{budgeted, Valid, startOf};
 ghost use Rattle.model.specs.Schedule.{sevenOf};
 ghost use Rattle.table.specs.Directory.{startsOf};
 ghost use Rattle.window.specs.Indexed.{firstFrom, Indexed};
@@ -149,15 +149,16 @@ fn next_turn(
     end: u32,
     horizon: u32,
     index: &[u16],
+    budgets: bool,
 ) -> Turn
-    requires { ⌜ RowsPlaced (now table) (now rows) count × (start ≡ startOf (now table) component) × Stands (now rows) count component node end × (end ≤ 60000) × Indexed (now table) (now index) component start ⌝ }
+    requires { ⌜ RowsPlaced (now table) (now rows) count × (start ≡ startOf (now table) component) × Stands (now rows) count component node end × (end ≤ 60000) × Indexed (now table) (now index) component start × (budgets ≡ budgeted (now table)) ⌝ }
     ensures { λ r. ⌜ Turned (now (table .entry)) (now (rows .entry)) count component horizon node end r ⌝ }
 {
     let place = node.place;
     let entry = node.entry;
     let message = rows::message(table, rows, count, node.row, horizon);
-    let at = window::leave(&table[place..], message, end, entry);
-    let opening = window::open(table, start, component, at, index);
+    let at = window::leave(&table[place..], message, end, entry, budgets);
+    let opening = window::open(table, start, component, at, index, budgets);
     Turn {
         message,
         at,
@@ -193,8 +194,8 @@ fn no_node() -> Node {
 }
 
 // Notes the edges of all components by the location that they leave.
-fn index_edges(table: &[u8], starts: [u16; 8], index: &mut [u16])
-    requires { ⌜ Valid (now table) × (starts ≡ startsOf (now table) (byte (now table) 3)) × (640 ≤ length (now index)) × ((component q : ℕ) → component < 8 → q < 16 → firstFrom (now index) component q ≡ 32) ⌝ }
+fn index_edges(table: &[u8], starts: [u16; 8], index: &mut [u16], budgets: bool)
+    requires { ⌜ Valid (now table) × (starts ≡ startsOf (now table) (byte (now table) 3)) × (640 ≤ length (now index)) × ((component q : ℕ) → component < 8 → q < 16 → firstFrom (now index) component q ≡ 32) × (budgets ≡ budgeted (now table)) ⌝ }
     ensures { λ _. ⌜ EdgesIndexed (now (table .entry)) (now (index .exit)) ⌝ }
 {
     let count = parts::wide(table[layout::TABLE_COMPONENTS]);
@@ -205,14 +206,15 @@ fn index_edges(table: &[u8], starts: [u16; 8], index: &mut [u16])
             parts::word_place(starts[component]),
             component,
             index,
+            budgets,
         );
         component += 1;
     }
 }
 
 // The openings at tick 0, components 0 upward: rows 0 upward.
-fn begin(table: &[u8], starts: [u16; 8], rows: &mut [u32], index: &[u16]) -> Opened
-    requires { ⌜ Valid (now table) × (starts ≡ startsOf (now table) (byte (now table) 3)) × (9216 ≤ length (now rows)) × EdgesIndexed (now table) (now index) ⌝ }
+fn begin(table: &[u8], starts: [u16; 8], rows: &mut [u32], index: &[u16], budgets: bool) -> Opened
+    requires { ⌜ Valid (now table) × (starts ≡ startsOf (now table) (byte (now table) 3)) × (9216 ≤ length (now rows)) × EdgesIndexed (now table) (now index) × (budgets ≡ budgeted (now table)) ⌝ }
     ensures { λ r. ⌜ Begins (now (table .entry)) (now (rows .exit)) r ⌝ }
 {
     let count = parts::wide(table[layout::TABLE_COMPONENTS]);
@@ -223,7 +225,7 @@ fn begin(table: &[u8], starts: [u16; 8], rows: &mut [u32], index: &[u16]) -> Ope
     while component < count {
         let start = parts::word_place(starts[component]);
         let at = start_entry(table, start);
-        let opening = window::open(table, start, component as u8, at, index);
+        let opening = window::open(table, start, component as u8, at, index, budgets);
         match opening {
             Opening::Fails(number) => {
                 return Opened {
@@ -258,8 +260,9 @@ fn go_on(
     from: [Node; 8],
     until: [u32; 8],
     index: &[u16],
+    budgets: bool,
 ) -> Ended
-    requires { ⌜ Valid (now table) × (starts ≡ startsOf (now table) (byte (now table) 3)) × (9216 ≤ length (now rows)) × Started (now table) (now rows) from until × EdgesIndexed (now table) (now index) ⌝ }
+    requires { ⌜ Valid (now table) × (starts ≡ startsOf (now table) (byte (now table) 3)) × (9216 ≤ length (now rows)) × Started (now table) (now rows) from until × EdgesIndexed (now table) (now index) × (budgets ≡ budgeted (now table)) ⌝ }
     ensures lists { λ r. ⌜ Listed (now (table .entry)) (unfinished (now (table .entry))) (r .scheduled) (now (rows .exit)) ⌝ }
     ensures stops { λ r. ⌜ Stops (now (table .entry)) r ⌝ }
 {
@@ -290,6 +293,7 @@ fn go_on(
             end,
             horizon,
             index,
+            budgets,
         );
         let at = turn.at;
         if 1024 <= filled {
@@ -318,9 +322,10 @@ pub fn schedule_to_end(table: &[u8], starts: [u16; 8], rows: &mut [u32]) -> Ende
     ensures fills { λ r. ⌜ Filled (now (table .entry)) (scheduleOf (now (table .entry))) (r .scheduled) (now (rows .exit)) ⌝ }
     ensures stops { λ r. ⌜ Stops (now (table .entry)) r ⌝ }
 {
+    let budgets = decoder::budgeted(table);
     let mut index = [32u16; 640];
-    index_edges(table, starts, &mut index);
-    let begun = begin(table, starts, rows, &index);
+    index_edges(table, starts, &mut index, budgets);
+    let begun = begin(table, starts, rows, &index, budgets);
     let verdict = begun.verdict;
     match verdict {
         Verdict::Refused(number, component) => {
@@ -337,7 +342,7 @@ pub fn schedule_to_end(table: &[u8], starts: [u16; 8], rows: &mut [u32]) -> Ende
         Verdict::Accepted => {
             let nodes = begun.nodes;
             let ends = begun.ends;
-            let r = go_on(table, starts, rows, nodes, ends, &index);
+            let r = go_on(table, starts, rows, nodes, ends, &index, budgets);
             let scheduled = r.scheduled;
             rows::put_messages(
                 table,

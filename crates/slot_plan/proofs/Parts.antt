@@ -82,6 +82,7 @@ module _ (slots : Slots) (f : Fits slots) where
             (λ j h. ap (λ (a : Arc). a .clockGuards) (hub-arc j h) ∙ ap lowGuard (sym (low-is j h)))
             (ap (λ (a : Arc). a .clockGuards) hub-rest ∙ ap lowGuard (sym low-rest));
         free = by-part (λ j. arcOf (hub slots) j .dataGuards ≡ []) (λ j h. ap (λ (a : Arc). a .dataGuards) (hub-arc j h)) (ap (λ (a : Arc). a .dataGuards) hub-rest);
+        hasty = by-part (λ j. arcOf (hub slots) j .budget ≡ none) (λ j h. ap (λ (a : Arc). a .budget) (hub-arc j h)) (ap (λ (a : Arc). a .budget) hub-rest);
         still = by-part (λ j. arcOf (hub slots) j .updates ≡ []) (λ j h. ap (λ (a : Arc). a .updates) (hub-arc j h)) (ap (λ (a : Arc). a .updates) hub-rest);
         bound = by-part (λ j. locationOf (hub slots) j ≡ record { clock = 0; bound = hubHigh slots j })
             (λ j h. hub-location j h ∙ ap until (sym (high-is j h)))
@@ -134,6 +135,7 @@ module _ (slots : Slots) (f : Fits slots) where
           source = two-of (λ j. arcOf (probe slots i) j .edge .source ≡ j) refl refl;
           guards = two-of (λ j. arcOf (probe slots i) j .clockGuards ≡ lowGuard (probeLow j)) refl refl;
           free = two-of (λ j. arcOf (probe slots i) j .dataGuards ≡ []) refl refl;
+          hasty = two-of (λ j. arcOf (probe slots i) j .budget ≡ none) refl refl;
           still = two-of (λ j. arcOf (probe slots i) j .updates ≡ []) refl refl;
           bound = two-of (λ j. locationOf (probe slots i) j ≡ record { clock = 0; bound = probeHigh j }) refl refl;
         }

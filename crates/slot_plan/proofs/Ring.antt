@@ -28,6 +28,7 @@ pub record Ring (C : Component) (most : ℕ) (low high : ℕ → ℕ) : Type 0 w
   pub guards : (j : ℕ) → j ≤ most → arcOf C j .clockGuards ≡ lowGuard (low j)
   pub free : (j : ℕ) → j ≤ most → arcOf C j .dataGuards ≡ []
   pub still : (j : ℕ) → j ≤ most → arcOf C j .updates ≡ []
+  pub hasty : (j : ℕ) → j ≤ most → arcOf C j .budget ≡ none
   pub bound : (j : ℕ) → j ≤ most → locationOf C j ≡ record { clock = 0; bound = high j }
 
 abbrev pub enters : ℕ → ℕ → ℕ → Entry
@@ -48,7 +49,7 @@ module _ (c : ℕ) {C : Component} {most : ℕ} {low high : ℕ → ℕ} (r : Ri
     may : mayTake C (enters b j x) j ≡ true
     may = and-is _ _ .1 (
       eq-is _ _ .1 (r .source j h),
-      rw (r .free j h, r .guards j h, r .bound j h) (lt-ltb (suc (max (low j - x) 0)) (suc (high j) - x) (omega arith)),
+      rw (r .free j h, r .guards j h, r .bound j h, r .hasty j h) (and-is _ _ .1 (lt-ltb (suc (max (low j - x) 0)) (suc (high j) - x) (omega arith), refl)),
     )
 
     only-edge : (e : ℕ) → e < suc most → mayTake C (enters b j x) e ≡ true → e ≡ j

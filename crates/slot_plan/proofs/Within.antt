@@ -10,7 +10,7 @@ use lib.ListN.{length, replicate, length-map, length-append, length-replicate}
 use Rattle.model.specs.declared.Location.{Location}
 use Rattle.model.specs.declared.Verdict.the-variants.{Accepted}
 use Rattle.model.specs.Lists.{from, below, All, empty, more, each, Answer, accepted, _after_}
-use Rattle.model.specs.Table.{Arc, Component, Read, sizesOf}
+use Rattle.model.specs.Table.{Arc, Component, Read, headerOf, sizesOf}
 use Rattle.model.specs.Bytes.{locationBytes, arcBytes, itemBytes, bodyBytes, componentBytes, tableBytes}
 use Rattle.model.specs.Limits.{LocationIn, ArcIn, ComponentIn, BandsIn, InLimits, Distinct}
 use Rattle.model.specs.Limits.{none as no-pair, more as one-pair}
@@ -46,7 +46,7 @@ module _ (slots : Slots) (f : Fits slots) where
   one-bit : 2 ^ 1 ≡ 2
   one-bit = refl
 
-  probe-in : (i : ℕ) → i < slots .probes → ComponentIn (slots .probes) (probe slots i)
+  probe-in : (i : ℕ) → i < slots .probes → ComponentIn (headerOf (planTable slots)) (probe slots i)
   probe-in i h =
       record {
         leastLocations = omega arith;
@@ -65,6 +65,7 @@ module _ (slots : Slots) (f : Fits slots) where
           count = omega arith;
           clockGuards = more {x = record { clock = 0; low = sendFrom slots i; high = 65535 }} (record { clock = omega arith; low = omega (arith, slot-in slots f i h, f .mostPeriod); high = inr refl }) empty;
           dataGuards = empty;
+          budget = tt;
           action = record { guards = omega arith; channel = h; updates = refl; pairs = refl };
         }) (more {x = restArc slots 1} (record {
           source = omega arith;
@@ -73,6 +74,7 @@ module _ (slots : Slots) (f : Fits slots) where
           count = omega arith;
           clockGuards = more {x = record { clock = 0; low = slots .period - 1; high = 65535 }} (record { clock = omega arith; low = omega (arith, f .mostPeriod); high = inr refl }) empty;
           dataGuards = empty;
+          budget = tt;
           action = record { guards = omega arith; count = omega arith; updates = empty; pairs = refl };
         }) empty);
       }
@@ -86,7 +88,7 @@ module _ (slots : Slots) (f : Fits slots) where
   pub hub-arcs : length (hub slots .arcs) ≡ suc (slots .probes)
   hub-arcs = length-append (map (hearArc slots) (below (slots .probes))) (restArc slots (length (map (λ i. until (hearTo slots i)) (below (slots .probes)))) ∷ []) ∙ (let z = length-map (below (slots .probes)) (hearArc slots) ∙ length-from (slots .probes) 0 in omega (arith, z))
 
-  hub-in-limits : ComponentIn (slots .probes) (hub slots)
+  hub-in-limits : ComponentIn (headerOf (planTable slots)) (hub slots)
   hub-in-limits =
       record {
         leastLocations = omega (arith, hub-locations);
@@ -108,6 +110,7 @@ module _ (slots : Slots) (f : Fits slots) where
               count = omega arith;
               clockGuards = more (record { clock = omega arith; low = (let z = slot-in slots f i (omega arith) in omega (arith, f .mostPeriod)); high = inr refl }) empty;
               dataGuards = empty;
+              budget = tt;
               action = record { guards = refl; least = omega arith; most = omega arith; pairs = more (record { channel = omega arith; location = omega (arith, hub-locations) }) empty; distinct = one-pair empty no-pair; updates = refl };
             })
             (record {
@@ -117,6 +120,7 @@ module _ (slots : Slots) (f : Fits slots) where
               count = omega arith;
               clockGuards = more (record { clock = omega arith; low = omega (arith, f .mostPeriod); high = inr refl }) empty;
               dataGuards = empty;
+              budget = tt;
               action = record { guards = omega arith; count = omega arith; updates = empty; pairs = refl };
             });
       }

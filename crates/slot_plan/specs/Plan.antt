@@ -1,5 +1,6 @@
 -- Document 02, wish 4, "The slot planner": the table of a plan, and the call that writes it.
 use mathlib.Core.Bool.{Bool, cond, _&&_}
+use mathlib.Core.Option.{none}
 use mathlib.Core.List.{List, [], _∷_, map}
 use Prim.Native.Nat.{ℕ, suc, _+_, _-_, _*_, _≤_, _<_}
 use lib.Dec.{leb, ltb}
@@ -73,6 +74,7 @@ abbrev pub passing : ℕ → ℕ → ℕ → Action → ℕ → List Pair → Ar
 passing source destination mask action low pairs =
     record {
       edge = record { source = source; destination = destination; mask = mask; action = action };
+      budget = none;
       clockGuards = record { clock = 0; low = low; high = 65535 } ∷ [];
       dataGuards = [];
       updates = [];

@@ -32,14 +32,14 @@ pub data Sort (bs : List ℕ) (k : ℕ) (s : Stand) : Type 0 where
   sends : k ≡ 4 → s ≡ sending (byte bs 1) → Sort bs k s
   listens : k ≡ 5 → s ≡ listening (listAt pairAt 4 (byte bs 1) (drop 4 bs)) → Sort bs k s
   takes : k ≡ 16 → s ≡ taking → Sort bs k s
-  between : 6 < k → k < 18 → (k ≡ 16 → ⊥) → s ≡ elsewhere → Sort bs k s
+  between : 6 < k → k < 19 → (k ≡ 16 → ⊥) → s ≡ elsewhere → Sort bs k s
   lost : k ≡ 255 → s ≡ nowhere → Sort bs k s
 
 -- an op from 7 on, by its distance from 7
 abbrev later : ℕ → ℕ
 later k = suc (suc (suc (suc (suc (suc (suc k))))))
 
-known-later : (bs : List ℕ) (k : ℕ) → k < 11 → Sort bs (later k) (stood (getD (decodings bs) (later k) none))
+known-later : (bs : List ℕ) (k : ℕ) → k < 12 → Sort bs (later k) (stood (getD (decodings bs) (later k) none))
 known-later bs zero l = between (omega arith) (omega arith) (λ e. omega arith) refl
 known-later bs (suc zero) l = between (omega arith) (omega arith) (λ e. omega arith) refl
 known-later bs (suc (suc zero)) l = between (omega arith) (omega arith) (λ e. omega arith) refl
@@ -51,10 +51,11 @@ known-later bs (suc (suc (suc (suc (suc (suc (suc zero))))))) l = between (omega
 known-later bs (suc (suc (suc (suc (suc (suc (suc (suc zero)))))))) l = between (omega arith) (omega arith) (λ e. omega arith) refl
 known-later bs (suc (suc (suc (suc (suc (suc (suc (suc (suc zero))))))))) l = takes refl refl
 known-later bs (suc (suc (suc (suc (suc (suc (suc (suc (suc (suc zero)))))))))) l = between (omega arith) (omega arith) (λ e. omega arith) refl
-known-later bs (suc (suc (suc (suc (suc (suc (suc (suc (suc (suc (suc k))))))))))) l = absurd (omega arith)
+known-later bs (suc (suc (suc (suc (suc (suc (suc (suc (suc (suc (suc zero))))))))))) l = between (omega arith) (omega arith) (λ e. omega arith) refl
+known-later bs (suc (suc (suc (suc (suc (suc (suc (suc (suc (suc (suc (suc k)))))))))))) l = absurd (omega arith)
 
--- an op below 18 that is no pair
-known : (bs : List ℕ) (k : ℕ) → k < 18 → (k ≡ 6 → ⊥) → Sort bs k (stood (getD (decodings bs) k none))
+-- an op below 19 that is no pair
+known : (bs : List ℕ) (k : ℕ) → k < 19 → (k ≡ 6 → ⊥) → Sort bs k (stood (getD (decodings bs) k none))
 known bs zero l n = sleeps refl refl
 known bs (suc zero) l n = works refl refl
 known bs (suc (suc zero)) l n = adds refl refl
@@ -163,7 +164,7 @@ module _ (p : List ℕ) (at : ℕ) {op : ℕ} (e : op ≡ opIn (drop at p)) wher
   stand-at k h = stand-op p at k (sym e ∙ h)
 
   -- a statement of four bytes stands there
-  pub stands-whole : (k : ℕ) → op ≡ k → k < 18 → at + 4 ≤ length p
+  pub stands-whole : (k : ℕ) → op ≡ k → k < 19 → at + 4 ≤ length p
   stands-whole k h l =
       let o = opens (drop at p) k (sym e ∙ h) (λ q. omega arith) in
       omega (arith, simp length-drop at (o .fits))

@@ -31,7 +31,7 @@ module _ (p : List ℕ) (k : ℕ) (r : Node) (o : opIn (drop (r .pc) p) ≡ 5) w
   -- a listen that is finished changes no register
   after-listen : (held : Counts) → after p held r ≡ onward p r
   after-listen held =
-      after-on p held r (omega (arith, o)) ∙ effect-at (drop (r .pc) p) held (onward p r) 5 (opens (drop (r .pc) p) 5 o (λ e. omega arith) .first)
+      after-on p held r (omega (arith, o)) (λ q. omega (arith, o)) (λ q. omega (arith, o)) ∙ effect-at (drop (r .pc) p) held (onward p r) 5 (opens (drop (r .pc) p) 5 o (λ e. omega arith) .first)
 
   -- in the words of the definitions
   pub message-is : (held : Counts) → nodeOf p held (listened p k r) ≡ takesMessage p k (nodeOf p held r)

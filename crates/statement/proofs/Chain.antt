@@ -43,16 +43,16 @@ module _ (l : List ℕ) (v : List ℤ) (c to : ℕ) (l₁ : List ℕ) (s : Store
       (subst (Addable h (heldIn l c)) (sym (s .node)) (record { fits = a .fits }))
 
   -- and carries out the statement at which it stood
-  pub finished-on : (p h : List ℕ) → h ≡ drop (wordIn l c 0) p → (k : ℕ) → opIn (drop (wordIn l c 0) p) ≡ k → k < 16 → (long : ℕ) → long ≡ statementLength h → to ≡ wordIn l c 0 + long
+  pub finished-on : (p h : List ℕ) → h ≡ drop (wordIn l c 0) p → (k : ℕ) → opIn (drop (wordIn l c 0) p) ≡ k → k < 19 → (k ≡ 16 → ⊥) → (k ≡ 17 → ⊥) → (long : ℕ) → long ≡ statementLength h → to ≡ wordIn l c 0 + long
       → {l₂ : List ℕ} {v₂ : List ℤ} → Carried h l₁ v c l₂ v₂ → Finished p l v c to l₂ v₂
-  finished-on p h there k o low long e t d =
+  finished-on p h there k o low a b long e t d =
       let r = nodeIn l v c in
       let x : Executed h (heldIn l c) (atPlace r to) (d .node) =
       subst (λ (y : Node). Executed h (heldIn l c) y (d .node)) (s .node) (subst (λ (y : Counts). Executed h y (nodeIn l₁ v c) (d .node)) (stored-held s) (d .executed)) in
       let g : Grown (atPlace r to) (d .node) = subst (λ (y : Node). Grown y (d .node)) (s .node) (d .grown) in
       record {
         node = d .node;
-        finished = finish-on p (heldIn l c) r h there k o low long e (d .node) (subst (λ (y : ℕ). Executed h (heldIn l c) (atPlace r y) (d .node)) t x);
+        finished = finish-on p (heldIn l c) r h there k o low a b long e (d .node) (subst (λ (y : ℕ). Executed h (heldIn l c) (atPlace r y) (d .node)) t x);
         grown = moved-grown to r (d .node) g;
         place = sym (d .place ∙ ap (λ (y : Node). y .pc) (s .node));
         stored = stored-then s (d .stored);

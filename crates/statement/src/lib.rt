@@ -13,9 +13,9 @@ ghost use Rattle.statement.specs.Done.{Carried, Finished};
 use model::op;
 use node::Kept;
 
-// A statement of a trial (0A to 0F).
+// A statement of a trial (0A to 0F, and 12).
 fn try_statement(statement: &[u8], words: &mut [u64], values: &[i16], c: usize)
-    requires { ⌜ (4 ≤ length (now statement)) × (10 ≤ byte (now statement) 0) × (byte (now statement) 0 ≤ 15) × Eight (now words) (now values) × (c < 8) × Held (heldIn (now words) c) ⌝ }
+    requires { ⌜ (4 ≤ length (now statement)) × (10 ≤ byte (now statement) 0) × (15 < byte (now statement) 0 → byte (now statement) 0 ≡ 18) × Eight (now words) (now values) × (c < 8) × Held (heldIn (now words) c) ⌝ }
     ensures { λ _. ⌜ Carried (now (statement .entry)) (now (words .entry)) (now (values .entry)) c (now (words .exit)) (now (values .entry)) ⌝ }
 {
     let op = statement[0];
@@ -35,6 +35,12 @@ fn try_statement(statement: &[u8], words: &mut [u64], values: &[i16], c: usize)
     if op < op::DATA_LOW {
         let clock = registers::clock(words, c, statement[1]);
         let next = node::by_clock(statement, trial, clock);
+        registers::put_trial(words, c, next);
+        return;
+    }
+    if op == op::BUDGET {
+        let budget = parts::word_at(statement, 2);
+        let next = node::candidate::met(trial, node::candidate::spans(trial, budget));
         registers::put_trial(words, c, next);
         return;
     }

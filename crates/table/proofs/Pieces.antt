@@ -7,6 +7,7 @@ use native.Mathlib.Omega.{arith}
 use borrow.Author.Tests.{le-leb, lt-leb}
 use lib.ListN.{length, drop, drop-of-length-le}
 use lib.Seq.{drop-cons}
+use Rattle.model.specs.declared.TableHeader.{TableHeader}
 use Rattle.model.specs.Table.{Component}
 use Rattle.model.proofs.Basics.Bools.{tests}
 use Rattle.model.specs.Reader.{byte, many, readLocation, readArc, headFine, sizesAt, componentWith, finished, readBody, readComponent}
@@ -20,46 +21,46 @@ use Rattle.parts.proofs.Sequence.{locations-as}
 
 -- ## The body of a component
 
-module _ (channels : ℕ) (h r : List ℕ) where
-  pub locations-fail : {n : ℕ} → skim (many (passes Locations (sizesAt channels h)) (byte h 2) r) ≡ failed n → triedOf (readBody channels h r) ≡ Fails n
+module _ (heading : TableHeader) (h r : List ℕ) where
+  pub locations-fail : {n : ℕ} → skim (many (passes Locations (sizesAt heading h)) (byte h 2) r) ≡ failed n → triedOf (readBody heading h r) ≡ Fails n
   locations-fail e =
-      let s = sizesAt channels h in rw (was-failed (many (readLocation s) (byte h 2) r) (locations-as s (byte h 2) r ∙ e))
+      let s = sizesAt heading h in rw (was-failed (many (readLocation s) (byte h 2) r) (locations-as s (byte h 2) r ∙ e))
 
-  module _ (r₁ : List ℕ) (e : skim (many (passes Locations (sizesAt channels h)) (byte h 2) r) ≡ left r₁) where
-    pub arcs-fail : {n : ℕ} → skim (many (readArc (sizesAt channels h)) (byte h 6) r₁) ≡ failed n → triedOf (readBody channels h r) ≡ Fails n
+  module _ (r₁ : List ℕ) (e : skim (many (passes Locations (sizesAt heading h)) (byte h 2) r) ≡ left r₁) where
+    pub arcs-fail : {n : ℕ} → skim (many (readArc (sizesAt heading h)) (byte h 6) r₁) ≡ failed n → triedOf (readBody heading h r) ≡ Fails n
     arcs-fail f =
-        let s = sizesAt channels h in
+        let s = sizesAt heading h in
         let (ls, q) = was-left (many (readLocation s) (byte h 2) r) (locations-as s (byte h 2) r ∙ e) in
         rw (q, was-failed (many (readArc s) (byte h 6) r₁) f)
 
     -- whatever component was read, what is left decides
-    ended : (r₂ : List ℕ) (x : Tried) → skim (many (readArc (sizesAt channels h)) (byte h 6) r₁) ≡ left r₂
-        → ((C : Component) → triedOf (finished C r₂) ≡ x) → triedOf (readBody channels h r) ≡ x
+    ended : (r₂ : List ℕ) (x : Tried) → skim (many (readArc (sizesAt heading h)) (byte h 6) r₁) ≡ left r₂
+        → ((C : Component) → triedOf (finished C r₂) ≡ x) → triedOf (readBody heading h r) ≡ x
     ended r₂ x f g =
-        let s = sizesAt channels h in
+        let s = sizesAt heading h in
         let (ls, q) = was-left (many (readLocation s) (byte h 2) r) (locations-as s (byte h 2) r ∙ e) in
         let (es, t) = was-left (many (readArc s) (byte h 6) r₁) f in
         let whole = g (componentWith h ls es) in
         rw (q, t) whole
 
-    pub bytes-left : (p : List ℕ) (b : ℕ) → b < length p → skim (many (readArc (sizesAt channels h)) (byte h 6) r₁) ≡ left (drop b p) → triedOf (readBody channels h r) ≡ Fails 4
+    pub bytes-left : (p : List ℕ) (b : ℕ) → b < length p → skim (many (readArc (sizesAt heading h)) (byte h 6) r₁) ≡ left (drop b p) → triedOf (readBody heading h r) ≡ Fails 4
     bytes-left p b k f = ended (drop b p) (Fails 4) f (λ C. rw (drop-cons p b 0 k))
 
-    pub ends-there : (p : List ℕ) (b : ℕ) → length p ≤ b → skim (many (readArc (sizesAt channels h)) (byte h 6) r₁) ≡ left (drop b p) → triedOf (readBody channels h r) ≡ Fine
+    pub ends-there : (p : List ℕ) (b : ℕ) → length p ≤ b → skim (many (readArc (sizesAt heading h)) (byte h 6) r₁) ≡ left (drop b p) → triedOf (readBody heading h r) ≡ Fine
     ends-there p b k f = ended (drop b p) Fine f (λ C. rw (drop-of-length-le p k))
 
 -- ## A component
 
-module _ (channels : ℕ) (p : List ℕ) where
-  pub head-short : length p < 7 → triedOf (readComponent channels p) ≡ Fails 4
+module _ (heading : TableHeader) (p : List ℕ) where
+  pub head-short : length p < 7 → triedOf (readComponent heading p) ≡ Fails 4
   unfolding readComponent
   head-short h = rw (lt-leb 7 (length p) h)
 
-  pub head-bad : 7 ≤ length p → headFine p ≡ false → triedOf (readComponent channels p) ≡ Fails 5
+  pub head-bad : 7 ≤ length p → headFine p ≡ false → triedOf (readComponent heading p) ≡ Fails 5
   unfolding readComponent
   head-bad h e = rw (le-leb 7 (length p) h, e)
 
-  pub head-good : 7 ≤ length p → headFine p ≡ true → triedOf (readComponent channels p) ≡ triedOf (readBody channels p (drop 7 p))
+  pub head-good : 7 ≤ length p → headFine p ≡ true → triedOf (readComponent heading p) ≡ triedOf (readBody heading p (drop 7 p))
   unfolding readComponent
   head-good h e = rw (le-leb 7 (length p) h, e)
 

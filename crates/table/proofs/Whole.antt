@@ -14,8 +14,9 @@ use Rattle.model.specs.declared.Verdict.{Verdict}
 use Rattle.model.specs.declared.Verdict.the-variants.{Accepted, Refused}
 use lib.Dec.{leb}
 use Rattle.model.specs.Lists.{all, Answer, accepted, refused, _after_}
+use Rattle.model.specs.declared.TableHeader.{TableHeader}
 use Rattle.model.specs.Table.{Component, Read}
-use Rattle.model.specs.Reader.{byte, word, Parsed, ok, fault, readComponent, about, atEnd, lengthFits, readComponents, versionFine, lengthFine, countFine, bodyStart, bandsAt, bandsFine, readWith, readTable}
+use Rattle.model.specs.Reader.{headerAt, byte, word, Parsed, ok, fault, readComponent, about, atEnd, lengthFits, readComponents, versionFine, lengthFine, countFine, bodyStart, bandsAt, bandsFine, readWith, readTable}
 use Rattle.model.specs.Places.{startOf}
 use Rattle.model.specs.Calls.{verdictOf}
 use Rattle.table.specs.declared.Tried.the-variants.{Fine, Fails}
@@ -52,12 +53,12 @@ fails-with : {A : Type 0} (m : Parsed A) {n : ℕ} (c : ℕ) → triedOf m ≡ F
 fails-with (ok a r) c e = let z : _≡_ {A = ℕ} 0 1 = cc in absurd (omega arith)
 fails-with (fault k) {n} c e = let q : k ≡ n = cc in ap (λ (j : ℕ). refused j c) q
 
-module _ (channels c : ℕ) (s : List ℕ) (at n : ℕ) (x : Verdict) (k : ℕ) (h : 0 < k) (inv : verdictOf (readComponents channels k c (drop at s)) ≡ x) where
+module _ (heading : TableHeader) (c : ℕ) (s : List ℕ) (at n : ℕ) (x : Verdict) (k : ℕ) (h : 0 < k) (inv : verdictOf (readComponents heading k c (drop at s)) ≡ x) where
   more : k ≡ suc (k - 1)
   more = omega arith
 
-  here : verdictOf (readComponents channels (suc (k - 1)) c (drop at s)) ≡ x
-  here = subst (λ (i : ℕ). verdictOf (readComponents channels i c (drop at s)) ≡ x) more inv
+  here : verdictOf (readComponents heading (suc (k - 1)) c (drop at s)) ≡ x
+  here = subst (λ (i : ℕ). verdictOf (readComponents heading i c (drop at s)) ≡ x) more inv
 
   -- its length bytes do not fit
   pub no-length : length s - at < 2 → x ≡ Refused 4 c
@@ -80,31 +81,31 @@ module _ (channels c : ℕ) (s : List ℕ) (at n : ℕ) (x : Verdict) (k : ℕ) 
       rw (le-leb 2 (length (drop at s)) (simp length-drop (omega arith)), stated e, le-leb n (length (drop at s)) (simp length-drop (omega arith)))
 
   -- it fits and fails
-  pub fails-there : at + 2 ≤ length s → n ≡ word s at → at + n ≤ length s → {j : ℕ} → triedOf (readComponent channels (take n (drop at s))) ≡ Fails j → x ≡ Refused j c
+  pub fails-there : at + 2 ≤ length s → n ≡ word s at → at + n ≤ length s → {j : ℕ} → triedOf (readComponent heading (take n (drop at s))) ≡ Fails j → x ≡ Refused j c
   unfolding readComponents
   fails-there f e g q =
-      sym here ∙ rw (fits f e g, stated e, fails-with (readComponent channels (take n (drop at s))) c q)
+      sym here ∙ rw (fits f e g, stated e, fails-with (readComponent heading (take n (drop at s))) c q)
 
   -- it is fine: the next one
-  pub fine-there : at + 2 ≤ length s → n ≡ word s at → at + n ≤ length s → triedOf (readComponent channels (take n (drop at s))) ≡ Fine
-      → verdictOf (readComponents channels (k - 1) (c + 1) (drop (at + n) s)) ≡ x
+  pub fine-there : at + 2 ≤ length s → n ≡ word s at → at + n ≤ length s → triedOf (readComponent heading (take n (drop at s))) ≡ Fine
+      → verdictOf (readComponents heading (k - 1) (c + 1) (drop (at + n) s)) ≡ x
   unfolding readComponents
-  fine-there f e g q = go (was-fine (readComponent channels (take n (drop at s))) q)
+  fine-there f e g q = go (was-fine (readComponent heading (take n (drop at s))) q)
     where
       rest : Answer (List Component)
-      rest = readComponents channels (k - 1) (suc c) (drop n (drop at s))
+      rest = readComponents heading (k - 1) (suc c) (drop n (drop at s))
 
-      go : ((C : Component) × ((d : ℕ) → about d (readComponent channels (take n (drop at s))) ≡ accepted C)) → verdictOf (readComponents channels (k - 1) (c + 1) (drop (at + n) s)) ≡ x
+      go : ((C : Component) × ((d : ℕ) → about d (readComponent heading (take n (drop at s))) ≡ accepted C)) → verdictOf (readComponents heading (k - 1) (c + 1) (drop (at + n) s)) ≡ x
       go (C, a) =
-          let p : verdictOf (readComponents channels (suc (k - 1)) c (drop at s)) ≡ verdictOf rest = rw (fits f e g, stated e, a c) (verdict-keeps rest (λ l. C ∷ l)) in
+          let p : verdictOf (readComponents heading (suc (k - 1)) c (drop at s)) ≡ verdictOf rest = rw (fits f e g, stated e, a c) (verdict-keeps rest (λ l. C ∷ l)) in
           rw (add-one c, ← drop-drop n at s) (sym p ∙ here)
 
 -- ## The end of the components
 
-module _ (channels c : ℕ) (s : List ℕ) (at : ℕ) (x : Verdict) (k : ℕ) (h : k ≤ 0) (inv : verdictOf (readComponents channels k c (drop at s)) ≡ x) where
+module _ (heading : TableHeader) (c : ℕ) (s : List ℕ) (at : ℕ) (x : Verdict) (k : ℕ) (h : k ≤ 0) (inv : verdictOf (readComponents heading k c (drop at s)) ≡ x) where
   none-left : verdictOf (atEnd (pred c) (drop at s)) ≡ x
   unfolding readComponents
-  none-left = let z : k ≡ 0 = omega arith in subst (λ (i : ℕ). verdictOf (readComponents channels i c (drop at s)) ≡ x) z inv
+  none-left = let z : k ≡ 0 = omega arith in subst (λ (i : ℕ). verdictOf (readComponents heading i c (drop at s)) ≡ x) z inv
 
   pub bytes-over : (d : ℕ) → d + 1 ≡ c → at < length s → x ≡ Refused 4 d
   bytes-over d e g =
@@ -133,7 +134,7 @@ module _ (bs : List ℕ) where
   header-refused k e n = rw e (go (versionFine bs) (lengthFine bs) (countFine bs && bandsFine bs) (λ z. n (e ∙ z)))
     where
       fourth : Answer Read
-      fourth = readComponents (byte bs 4) (byte bs 3) 0 (drop (bodyStart bs) bs) after λ l. accepted (readWith bs l)
+      fourth = readComponents (headerAt bs) (byte bs 3) 0 (drop (bodyStart bs) bs) after λ l. accepted (readWith bs l)
 
       go : (a b c : Bool) → (_≡_ {A = ℕ} (cond a (cond b (cond c 0 3) 2) 1) 0 → ⊥)
           → refusal (cond a (cond b (cond c 0 3) 2) 1) 255 ≡ readingFrom bs (byte bs 3) (cond a (cond b (cond c fourth (refused 3 255)) (refused 2 255)) (refused 1 255))
@@ -155,9 +156,9 @@ module _ (bs : List ℕ) where
 
   -- .. then the components
   pub fourth : versionFine bs ≡ true → lengthFine bs ≡ true → countFine bs ≡ true → bandsFine bs ≡ true
-      → readingFrom bs (byte bs 3) (readComponents (byte bs 4) (byte bs 3) 0 (drop (bodyStart bs) bs)) ≡ readingOf bs
+      → readingFrom bs (byte bs 3) (readComponents (headerAt bs) (byte bs 3) 0 (drop (bodyStart bs) bs)) ≡ readingOf bs
   unfolding readTable
-  fourth e f g h = rw (e, f, g, h) (sym (reading-keeps bs (byte bs 3) (readComponents (byte bs 4) (byte bs 3) 0 (drop (bodyStart bs) bs)) (readWith bs)))
+  fourth e f g h = rw (e, f, g, h) (sym (reading-keeps bs (byte bs 3) (readComponents (headerAt bs) (byte bs 3) 0 (drop (bodyStart bs) bs)) (readWith bs)))
 
   pub header-first : versionFine bs ≡ false → 1 ≡ headerOf bs
   header-first e = rw e

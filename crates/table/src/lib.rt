@@ -2,9 +2,10 @@
 ghost use mathlib.Core.Path.{_≡_};
 ghost use Prim.Native.Nat.{ℕ, _+_, _≤_, _<_};
 ghost use lib.ListN.{length, drop, getD};
-ghost use Rattle.model.specs.Reader.{headFine, readBody, readComponent, readComponents, lengthFine, countFine, bodyStart, bandsFine};
+ghost use Rattle.model.specs.Reader.{headFine, headerAt, readBody, readComponent, readComponents, lengthFine, countFine, bodyStart, bandsFine};
 ghost use Rattle.table.specs.Directory.{triedOf, refusal, headerOf, readingFrom, readingOf, readingAt};
 use model::Sizes;
+use model::TableHeader;
 use model::Verdict;
 use model::layout;
 use parts::Kind;
@@ -45,16 +46,17 @@ fn head_fine(component: &[u8]) -> bool
 }
 
 // The locations and edges of a component, after its first 7 bytes.
-fn body(component: &[u8], channels: u8) -> Tried
+fn body(component: &[u8], heading: TableHeader) -> Tried
     requires { ⌜ (7 ≤ length (now component)) × (getD (now component) 4 0 ≤ 4) ⌝ }
-    ensures { λ r. ⌜ r ≡ triedOf (readBody channels (now (component .entry)) (drop 7 (now (component .entry)))) ⌝ }
+    ensures { λ r. ⌜ r ≡ triedOf (readBody heading (now (component .entry)) (drop 7 (now (component .entry)))) ⌝ }
 {
     let n = component[layout::COMPONENT_LOCATIONS];
     let z = Sizes {
-        channels,
+        channels: heading.channels,
         locations: n,
         clocks: component[layout::COMPONENT_CLOCKS],
         variables: component[layout::COMPONENT_VARIABLES],
+        budgets: heading.budgets,
     };
     let l = parts::parts(component, layout::COMPONENT_HEADER, n, Kind::Locations, z);
     match l {
@@ -76,8 +78,8 @@ fn body(component: &[u8], channels: u8) -> Tried
 }
 
 // A component, from its own bytes.
-fn component(bytes: &[u8], channels: u8) -> Tried
-    ensures { λ r. ⌜ r ≡ triedOf (readComponent channels (now (bytes .entry))) ⌝ }
+fn component(bytes: &[u8], heading: TableHeader) -> Tried
+    ensures { λ r. ⌜ r ≡ triedOf (readComponent heading (now (bytes .entry))) ⌝ }
 {
     if bytes.len() < layout::COMPONENT_HEADER {
         return Tried::Fails(4);
@@ -85,7 +87,7 @@ fn component(bytes: &[u8], channels: u8) -> Tried
     if !head_fine(bytes) {
         return Tried::Fails(5);
     }
-    body(bytes, channels)
+    body(bytes, heading)
 }
 
 fn refused(number: u8, component: u8) -> Reading
@@ -98,9 +100,9 @@ fn refused(number: u8, component: u8) -> Reading
 }
 
 // The components, one after the other, to the table's end.
-fn components(table: &[u8], count: u8, channels: u8, from: usize) -> Reading
+fn components(table: &[u8], count: u8, heading: TableHeader, from: usize) -> Reading
     requires { ⌜ (from ≤ length (now table)) × (length (now table) ≤ 8192) × (1 ≤ count) × (count ≤ 8) × (from ≡ bodyStart (now table)) ⌝ }
-    ensures { λ r. ⌜ r ≡ readingFrom (now (table .entry)) count (readComponents channels count 0 (drop (bodyStart (now (table .entry))) (now (table .entry)))) ⌝ }
+    ensures { λ r. ⌜ r ≡ readingFrom (now (table .entry)) count (readComponents heading count 0 (drop (bodyStart (now (table .entry))) (now (table .entry)))) ⌝ }
 {
     let mut starts = [0u16; 8];
     let mut at = from;
@@ -113,7 +115,7 @@ fn components(table: &[u8], count: u8, channels: u8, from: usize) -> Reading
         if table.len() - at < n {
             return refused(4, c);
         }
-        let t = component(&table[at..at + n], channels);
+        let t = component(&table[at..at + n], heading);
         match t {
             Tried::Fails(k) => {
                 return refused(k, c);
@@ -201,7 +203,7 @@ pub fn header(table: &[u8]) -> u8
         return 1;
     }
     let version = table[layout::TABLE_VERSION];
-    if !parts::both(1 <= version, version <= 2) {
+    if !parts::both(1 <= version, version <= 3) {
         return 1;
     }
     if !length_fine(table) {
@@ -216,6 +218,17 @@ pub fn header(table: &[u8]) -> u8
     0
 }
 
+// What the header tells of the components.
+fn heading(table: &[u8]) -> TableHeader
+    requires { ⌜ 7 ≤ length (now table) ⌝ }
+    ensures { λ r. ⌜ r ≡ headerAt (now (table .entry)) ⌝ }
+{
+    TableHeader {
+        channels: table[layout::TABLE_CHANNELS],
+        budgets: layout::BUDGET_VERSION <= table[layout::TABLE_VERSION],
+    }
+}
+
 // Reads a table: checks 1 to 6.
 pub fn read(table: &[u8]) -> Reading
     ensures { λ r. ⌜ r ≡ readingOf (now (table .entry)) ⌝ }
@@ -227,7 +240,7 @@ pub fn read(table: &[u8]) -> Reading
     components(
         table,
         table[layout::TABLE_COMPONENTS],
-        table[layout::TABLE_CHANNELS],
+        heading(table),
         body_start(table),
     )
 }

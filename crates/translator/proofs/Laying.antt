@@ -1,5 +1,6 @@
 -- Blocks laid with their starts: two runs that grow side by side, and a loop that lays them. Assumes nothing.
 use mathlib.Core.Path.{_≡_, refl, sym, ap, subst, _∙_}
+use mathlib.Core.Bool.{Bool}
 use mathlib.Core.List.{List, [], _∷_, _++_, map}
 use Prim.Native.Nat.{ℕ, zero, suc, _+_, _-_, _*_, _/_, _≤_, _<_}
 use native.Mathlib.Numerals.{add-one}
@@ -172,38 +173,38 @@ aligned-on {first} {at} b {n = n} a c =
 -- ## Locations
 
 -- the blocks from location `here` on, of which k are left
-abbrev pub locationsFrom : List ℕ → ℕ → ℕ → List (List Statement)
-locationsFrom p here k = map (locationBlock (frontComponent p)) (from here k)
+abbrev pub locationsFrom : Bool → List ℕ → ℕ → ℕ → List (List Statement)
+locationsFrom budgets p here k = map (locationBlock (frontComponent budgets p)) (from here k)
 
-pub all-locations : (p : List ℕ) → locationsFrom p 0 (byte p 2) ≡ locationBlocks (frontComponent p)
+pub all-locations : (budgets : Bool) (p : List ℕ) → locationsFrom budgets p 0 (byte p 2) ≡ locationBlocks (frontComponent budgets p)
 unfolding locationBlocks frontComponent
-all-locations p = ap (λ (n : ℕ). locationsFrom p 0 n) (sym (list-length locationAt 3 (byte p 2) (drop 7 p)))
+all-locations budgets p = ap (λ (n : ℕ). locationsFrom budgets p 0 n) (sym (list-length locationAt 3 (byte p 2) (drop 7 p)))
 
-pub locations-ahead : (p : List ℕ) (here n : ℕ) → here < n → locationsFrom p here (n - here) ≡ locationBlock (frontComponent p) here ∷ locationsFrom p (here + 1) (n - (here + 1))
-locations-ahead p here n h =
+pub locations-ahead : (budgets : Bool) (p : List ℕ) (here n : ℕ) → here < n → locationsFrom budgets p here (n - here) ≡ locationBlock (frontComponent budgets p) here ∷ locationsFrom budgets p (here + 1) (n - (here + 1))
+locations-ahead budgets p here n h =
     let q : n - here ≡ suc (n - (here + 1)) = omega arith in
     rw (q, add-one here)
 
-pub locations-gone : (p : List ℕ) (here n : ℕ) → n ≤ here → locationsFrom p here (n - here) ≡ []
-locations-gone p here n h = let z : n - here ≡ 0 = omega arith in rw z
+pub locations-gone : (budgets : Bool) (p : List ℕ) (here n : ℕ) → n ≤ here → locationsFrom budgets p here (n - here) ≡ []
+locations-gone budgets p here n h = let z : n - here ≡ 0 = omega arith in rw z
 
 -- the edges stand where they are looked for
-pub arcs-there : (p : List ℕ) (edges : ℕ) → edges ≡ arcsPlace p → Whole p → ArcsFit (byte p 6) (take (length p - edges) (drop edges p))
-arcs-there p edges e w = rw (tail p edges, e) (w .arcs)
+pub arcs-there : (budgets : Bool) (p : List ℕ) (edges : ℕ) → edges ≡ arcsPlace p → Whole budgets p → ArcsFit budgets (byte p 6) (take (length p - edges) (drop edges p))
+arcs-there budgets p edges e w = rw (tail p edges, e) (w .arcs)
 
 -- the block that was put is the location's
-pub location-block-is : (p : List ℕ) (here place edges : ℕ) (l : Location) → here < byte p 2 → place ≡ 7 + here * 3 → edges ≡ arcsPlace p
+pub location-block-is : (budgets : Bool) (p : List ℕ) (here place edges : ℕ) (l : Location) → here < byte p 2 → place ≡ 7 + here * 3 → edges ≡ arcsPlace p
     → l ≡ locationAt (take (length p - place) (drop place p))
-    → blockFrom l here 0 (byte p 6) (take (length p - edges) (drop edges p)) ≡ blockBytes (locationBlock (frontComponent p) here)
+    → blockFrom budgets l here 0 (byte p 6) (take (length p - edges) (drop edges p)) ≡ blockBytes (locationBlock (frontComponent budgets p) here)
 unfolding locationBlock frontComponent
-location-block-is p here place edges l h d e f =
+location-block-is budgets p here place edges l h d e f =
     let v : l ≡ getD (listAt locationAt 3 (byte p 2) (drop 7 p)) here noLocation =
     f ∙ rw (tail p place, d) (sym (list-part locationAt 3 (byte p 2) (drop 7 p) noLocation here h ∙ ap locationAt (drop-drop (here * 3) 7 p))) in
     rw (v, tail p edges, e)
 
 -- a location stands whole
-pub location-fits : (p : List ℕ) (here place : ℕ) → Whole p → here < byte p 2 → place ≡ 7 + here * 3 → place + 3 ≤ length p
-location-fits p here place w h e = omega (arith, w .locations)
+pub location-fits : (budgets : Bool) (p : List ℕ) (here place : ℕ) → Whole budgets p → here < byte p 2 → place ≡ 7 + here * 3 → place + 3 ≤ length p
+location-fits budgets p here place w h e = omega (arith, w .locations)
 
 -- what is left of the bytes from a place on
 pub left-there : (p : List ℕ) (place k : ℕ) → place + k ≤ length p → k ≤ length (take (length p - place) (drop place p))
@@ -212,30 +213,30 @@ left-there p place k h = rw (tail p place) (simp length-drop (omega arith))
 -- ## Edges
 
 -- the blocks of k edges
-abbrev pub edgesFrom : ℕ → ℕ → List ℕ → List (List Statement)
-edgesFrom clocks k h = map (edgeBlockOf clocks) (arcsAt k h)
+abbrev pub edgesFrom : Bool → ℕ → ℕ → List ℕ → List (List Statement)
+edgesFrom budgets clocks k h = map (edgeBlockOf clocks) (arcsAt budgets k h)
 
-pub edges-ahead : (clocks k : ℕ) (h : List ℕ) → 0 < k → edgesFrom clocks k h ≡ edgeBlockOf clocks (arcAt h) ∷ edgesFrom clocks (k - 1) (drop (arcLength h) h)
+pub edges-ahead : (budgets : Bool) (clocks k : ℕ) (h : List ℕ) → 0 < k → edgesFrom budgets clocks k h ≡ edgeBlockOf clocks (arcAt budgets h) ∷ edgesFrom budgets clocks (k - 1) (drop (arcLength budgets h) h)
 unfolding arcsAt
-edges-ahead clocks k h q =
+edges-ahead budgets clocks k h q =
     let e : k ≡ suc (k - 1) = omega arith in
-    ap (λ (i : ℕ). edgesFrom clocks i h) e
+    ap (λ (i : ℕ). edgesFrom budgets clocks i h) e
 
-pub edges-gone : (clocks k : ℕ) (h : List ℕ) → k ≤ 0 → edgesFrom clocks k h ≡ []
+pub edges-gone : (budgets : Bool) (clocks k : ℕ) (h : List ℕ) → k ≤ 0 → edgesFrom budgets clocks k h ≡ []
 unfolding arcsAt
-edges-gone clocks zero h q = refl
-edges-gone clocks (suc k) h q = absurd (omega arith)
+edges-gone budgets clocks zero h q = refl
+edges-gone budgets clocks (suc k) h q = absurd (omega arith)
 
 -- ### The loop over the edges, from place to place in the bytes h
 
-module _ (h : List ℕ) (edge clocks : ℕ) where
+module _ (budgets : Bool) (h : List ℕ) (edge clocks : ℕ) where
   -- the block ahead has room
-  pub edge-room : (o : List ℕ) (at : ℕ) → Room o at (blockBytes (edgeBlockOf clocks (arcAt (drop edge h)))) → Room o at (blockBytes (edgeBlockOf clocks (arcAt (take (length h - edge) (drop edge h)))))
+  pub edge-room : (o : List ℕ) (at : ℕ) → Room o at (blockBytes (edgeBlockOf clocks (arcAt budgets (drop edge h)))) → Room o at (blockBytes (edgeBlockOf clocks (arcAt budgets (take (length h - edge) (drop edge h)))))
   edge-room o at r = rw (tail h edge) r
 
-  pub edge-put : {o p : List ℕ} {at n : ℕ} → Put o at (blockBytes (edgeBlockOf clocks (arcAt (take (length h - edge) (drop edge h))))) n p
-      → Put o at (blockBytes (edgeBlockOf clocks (arcAt (drop edge h)))) n p
+  pub edge-put : {o p : List ℕ} {at n : ℕ} → Put o at (blockBytes (edgeBlockOf clocks (arcAt budgets (take (length h - edge) (drop edge h))))) n p
+      → Put o at (blockBytes (edgeBlockOf clocks (arcAt budgets (drop edge h)))) n p
   edge-put a = rw (tail h edge) at a
 
-  pub edges-behind : (k long : ℕ) → long ≡ arcLength (take (length h - edge) (drop edge h)) → edgesFrom clocks k (drop (arcLength (drop edge h)) (drop edge h)) ≡ edgesFrom clocks k (drop (edge + long) h)
-  edges-behind k long q = ap (edgesFrom clocks k) (edge-passed h edge long q)
+  pub edges-behind : (k long : ℕ) → long ≡ arcLength budgets (take (length h - edge) (drop edge h)) → edgesFrom budgets clocks k (drop (arcLength budgets (drop edge h)) (drop edge h)) ≡ edgesFrom budgets clocks k (drop (edge + long) h)
+  edges-behind k long q = ap (edgesFrom budgets clocks k) (edge-passed budgets h edge long q)

@@ -1,5 +1,6 @@
 -- The part of one node from its pieces: head, starts, blocks. Assumes nothing.
 use mathlib.Core.Path.{_≡_, refl, sym, ap, ap₂, _∙_}
+use mathlib.Core.Bool.{Bool}
 use mathlib.Core.List.{List, [], _∷_, _++_, map}
 use Prim.Native.Nat.{ℕ, zero, suc, _+_, _-_, _*_, _/_, _≤_, _<_}
 use native.Mathlib.Omega.{arith}
@@ -56,63 +57,63 @@ node-size C =
 
 -- ## The component at the front
 
-arcs-count : (n : ℕ) (h : List ℕ) → length (arcsAt n h) ≡ n
+arcs-count : (budgets : Bool) (n : ℕ) (h : List ℕ) → length (arcsAt budgets n h) ≡ n
 unfolding arcsAt
-arcs-count zero h = refl
-arcs-count (suc n) h = ap suc (arcs-count n (drop (arcLength h) h))
+arcs-count budgets zero h = refl
+arcs-count budgets (suc n) h = ap suc (arcs-count budgets n (drop (arcLength budgets h) h))
 
-pub front-locations : (p : List ℕ) → length (frontComponent p .locations) ≡ byte p 2
+pub front-locations : (budgets : Bool) (p : List ℕ) → length (frontComponent budgets p .locations) ≡ byte p 2
 unfolding frontComponent
-front-locations p = list-length locationAt 3 (byte p 2) (drop 7 p)
+front-locations budgets p = list-length locationAt 3 (byte p 2) (drop 7 p)
 
-pub front-arcs : (p : List ℕ) → length (frontComponent p .arcs) ≡ byte p 6
+pub front-arcs : (budgets : Bool) (p : List ℕ) → length (frontComponent budgets p .arcs) ≡ byte p 6
 unfolding frontComponent
-front-arcs p = arcs-count (byte p 6) (drop (arcsPlace p) p)
+front-arcs budgets p = arcs-count budgets (byte p 6) (drop (arcsPlace p) p)
 
-front-initial : (p : List ℕ) → frontComponent p .initial ≡ byte p 3
+front-initial : (budgets : Bool) (p : List ℕ) → frontComponent budgets p .initial ≡ byte p 3
 unfolding frontComponent
-front-initial p = refl
+front-initial budgets p = refl
 
 -- its edge blocks are those that are laid
-edges-are : (p : List ℕ) (edges : ℕ) → edges ≡ arcsPlace p → edgesFrom (byte p 4) (byte p 6) (take (length p - edges) (drop edges p)) ≡ edgeBlocks (frontComponent p)
+edges-are : (budgets : Bool) (p : List ℕ) (edges : ℕ) → edges ≡ arcsPlace p → edgesFrom budgets (byte p 4) (byte p 6) (take (length p - edges) (drop edges p)) ≡ edgeBlocks (frontComponent budgets p)
 unfolding frontComponent edgeBlocks
-edges-are p edges e = rw (tail p edges, e)
+edges-are budgets p edges e = rw (tail p edges, e)
 
 -- ## Its part: a and b are the counts of its locations and edges
 
-module _ (p o : List ℕ) (at a b edges : ℕ) (ea : a ≡ byte p 2) (eb : b ≡ byte p 6) (ee : edges ≡ arcsPlace p)
-    (r : Room o at (nodeBytes (frontComponent p))) (s : length (nodeBytes (frontComponent p)) ≤ 24576) where
-  sized : length (nodeBytes (frontComponent p)) ≡ 6 + a * 2 + b * 2 + length (each blockBytes (locationBlocks (frontComponent p))) + length (each blockBytes (edgeBlocks (frontComponent p)))
-  sized = omega (arith, node-size (frontComponent p), front-locations p, front-arcs p)
+module _ (budgets : Bool) (p o : List ℕ) (at a b edges : ℕ) (ea : a ≡ byte p 2) (eb : b ≡ byte p 6) (ee : edges ≡ arcsPlace p)
+    (r : Room o at (nodeBytes (frontComponent budgets p))) (s : length (nodeBytes (frontComponent budgets p)) ≤ 24576) where
+  sized : length (nodeBytes (frontComponent budgets p)) ≡ 6 + a * 2 + b * 2 + length (each blockBytes (locationBlocks (frontComponent budgets p))) + length (each blockBytes (edgeBlocks (frontComponent budgets p)))
+  sized = omega (arith, node-size (frontComponent budgets p), front-locations budgets p, front-arcs budgets p)
 
-  counts : (length (locationBlocks (frontComponent p)) ≡ a) × (length (edgeBlocks (frontComponent p)) ≡ b)
+  counts : (length (locationBlocks (frontComponent budgets p)) ≡ a) × (length (edgeBlocks (frontComponent budgets p)) ≡ b)
   counts = (
-    omega (arith, location-count (frontComponent p), front-locations p),
-    omega (arith, edge-count (frontComponent p), front-arcs p),
+    omega (arith, location-count (frontComponent budgets p), front-locations budgets p),
+    omega (arith, edge-count (frontComponent budgets p), front-arcs budgets p),
   )
 
-  pub ready-locations : Ready o 0 (at + 6) (at + 6 + a * 2 + b * 2) (locationBlocks (frontComponent p))
+  pub ready-locations : Ready o 0 (at + 6) (at + 6 + a * 2 + b * 2) (locationBlocks (frontComponent budgets p))
   ready-locations =
       record { fits = omega (arith, sized); apart = omega (arith, counts .0); small = omega (arith, sized) }
 
-  module _ {o₁ : List ℕ} {from : ℕ} (x : Laid o 0 (at + 6) (at + 6 + a * 2 + b * 2) (locationBlocks (frontComponent p)) from o₁) where
+  module _ {o₁ : List ℕ} {from : ℕ} (x : Laid o 0 (at + 6) (at + 6 + a * 2 + b * 2) (locationBlocks (frontComponent budgets p)) from o₁) where
     pub aligned-from : Aligned (at + 6 + a * 2 + b * 2) from
     aligned-from =
-        let f = each-four (locationBlocks (frontComponent p)) in
+        let f = each-four (locationBlocks (frontComponent budgets p)) in
         record { behind = omega (arith, x .next); whole = omega (arith, x .next) }
 
-    pub ready-edges : Ready o₁ ((from - (at + 6 + a * 2 + b * 2)) / 4) (at + 6 + a * 2) from (edgesFrom (byte p 4) (byte p 6) (take (length p - edges) (drop edges p)))
+    pub ready-edges : Ready o₁ ((from - (at + 6 + a * 2 + b * 2)) / 4) (at + 6 + a * 2) from (edgesFrom budgets (byte p 4) (byte p 6) (take (length p - edges) (drop edges p)))
     ready-edges =
-        let f = each-four (locationBlocks (frontComponent p)) in
-        rw (edges-are p edges ee)
+        let f = each-four (locationBlocks (frontComponent budgets p)) in
+        rw (edges-are budgets p edges ee)
         (record { fits = omega (arith, sized, x .next, laid-long x); apart = omega (arith, counts .1, x .next); small = omega (arith, sized, x .next) })
 
-    module _ {o₂ : List ℕ} {end : ℕ} (y : Laid o₁ ((from - (at + 6 + a * 2 + b * 2)) / 4) (at + 6 + a * 2) from (edgesFrom (byte p 4) (byte p 6) (take (length p - edges) (drop edges p))) end o₂) where
-      ends : end ≡ from + length (each blockBytes (edgeBlocks (frontComponent p)))
-      ends = y .next ∙ ap (λ (l : List (List Statement)). from + length (each blockBytes l)) (edges-are p edges ee)
+    module _ {o₂ : List ℕ} {end : ℕ} (y : Laid o₁ ((from - (at + 6 + a * 2 + b * 2)) / 4) (at + 6 + a * 2) from (edgesFrom budgets (byte p 4) (byte p 6) (take (length p - edges) (drop edges p))) end o₂) where
+      ends : end ≡ from + length (each blockBytes (edgeBlocks (frontComponent budgets p)))
+      ends = y .next ∙ ap (λ (l : List (List Statement)). from + length (each blockBytes l)) (edges-are budgets p edges ee)
 
       -- the node's length, and room for its head
-      pub node-long : (end - at ≡ length (nodeBytes (frontComponent p))) × (at ≤ end) × (end - at < 65536)
+      pub node-long : (end - at ≡ length (nodeBytes (frontComponent budgets p))) × (at ≤ end) × (end - at < 65536)
       node-long = (omega (arith, sized, x .next, ends), omega (arith, x .next, ends), omega (arith, sized, x .next, ends))
 
       edges-long : length o₂ ≡ length o
@@ -122,19 +123,19 @@ module _ (p o : List ℕ) (at a b edges : ℕ) (ea : a ≡ byte p 2) (eb : b ≡
       head-room = omega (arith, edges-long, sized)
 
       -- all its blocks are laid
-      laid : Laid o 0 (at + 6) (at + 6 + a * 2 + b * 2) (locationBlocks (frontComponent p) ++ edgeBlocks (frontComponent p)) end o₂
+      laid : Laid o 0 (at + 6) (at + 6 + a * 2 + b * 2) (locationBlocks (frontComponent budgets p) ++ edgeBlocks (frontComponent budgets p)) end o₂
       laid =
-          let f = each-four (locationBlocks (frontComponent p)) in
-          laid-join x (rw (edges-are p edges ee) at y) (omega (arith, x .next)) (omega (arith, counts .0)) (omega (arith, counts .1))
+          let f = each-four (locationBlocks (frontComponent budgets p)) in
+          laid-join x (rw (edges-are budgets p edges ee) at y) (omega (arith, x .next)) (omega (arith, counts .0)) (omega (arith, counts .1))
 
-      body : Put o (at + 6) (bodyOf (frontComponent p)) end o₂
+      body : Put o (at + 6) (bodyOf (frontComponent budgets p)) end o₂
       body =
-          let l = length-append (locationBlocks (frontComponent p)) (edgeBlocks (frontComponent p)) in
+          let l = length-append (locationBlocks (frontComponent budgets p)) (edgeBlocks (frontComponent budgets p)) in
           laid-put laid (omega (arith, counts .0, counts .1))
 
       -- with its head it is whole
-      pub node-put : {o₃ : List ℕ} {k : ℕ} → Put o₂ at (nodeHead (end - at) (byte p 2) (byte p 6) (byte p 3)) k o₃ → Put o at (nodeBytes (frontComponent p)) end o₃
+      pub node-put : {o₃ : List ℕ} {k : ℕ} → Put o₂ at (nodeHead (end - at) (byte p 2) (byte p 6) (byte p 3)) k o₃ → Put o at (nodeBytes (frontComponent budgets p)) end o₃
       node-put z =
-          let e : nodeHead (end - at) (byte p 2) (byte p 6) (byte p 3) ++ bodyOf (frontComponent p) ≡ nodeBytes (frontComponent p) =
-          rw (node-long .0, ← front-locations p, ← front-arcs p, ← front-initial p) (sym (node-split (frontComponent p))) in
+          let e : nodeHead (end - at) (byte p 2) (byte p 6) (byte p 3) ++ bodyOf (frontComponent budgets p) ≡ nodeBytes (frontComponent budgets p) =
+          rw (node-long .0, ← front-locations budgets p, ← front-arcs budgets p, ← front-initial budgets p) (sym (node-split (frontComponent budgets p))) in
           put-is e (put-before body z refl)

@@ -1,5 +1,6 @@
 -- The program from its nodes' parts. Assumes nothing.
 use mathlib.Core.Path.{_≡_, refl, sym, ap, _∙_}
+use mathlib.Core.Bool.{Bool}
 use mathlib.Core.List.{List, [], _++_}
 use Prim.Native.Nat.{ℕ, _+_, _-_, _≤_, _<_}
 use native.Mathlib.Numerals.{add-one}
@@ -9,7 +10,7 @@ use lib.Seq.{sets-eq, drop-cons}
 use Rattle.model.specs.Lists.{Bytes, each}
 use Rattle.model.specs.Table.{Read, noComponent, size}
 use Rattle.model.specs.Reader.{byte, word}
-use Rattle.model.specs.Places.{startOf, Valid, readOf, componentIn}
+use Rattle.model.specs.Places.{budgeted, startOf, Valid, readOf, componentIn}
 use Rattle.model.specs.Program.{nodeBytes, programBytes}
 use Rattle.model.proofs.Reader.Located.{valid-located}
 use Rattle.model.proofs.Program.Size.{program-fits}
@@ -50,32 +51,32 @@ module _ (bs : List ℕ) (b : Bytes bs) (v : Valid bs) where
 
   -- ## The loops over the nodes
 
-  module _ (c : ℕ) (h : c < byte bs 3) (start : ℕ) (e : start ≡ startOf bs c) where
+  module _ (c : ℕ) (h : c < byte bs 3) (start : ℕ) (e : start ≡ startOf bs c) (w : Bool) (same : w ≡ budgeted bs) where
     -- the part of the node ahead, from where its component stands
-    ahead : nodesFrom bs c ≡ nodeBytes (frontComponent (take (length bs - start) (drop start bs))) ++ nodesFrom bs (c + 1)
-    ahead = rw (node-is bs b v c h start e) (nodes-ahead c h)
+    ahead : nodesFrom bs c ≡ nodeBytes (frontComponent w (take (length bs - start) (drop start bs))) ++ nodesFrom bs (c + 1)
+    ahead = rw (node-is bs b v c h start e w same) (nodes-ahead c h)
 
     -- a turn of the count
-    pub node-counted : (long all r : ℕ) → long + length (nodesFrom bs c) ≡ all → r ≡ length (nodeBytes (frontComponent (take (length bs - start) (drop start bs))))
+    pub node-counted : (long all r : ℕ) → long + length (nodesFrom bs c) ≡ all → r ≡ length (nodeBytes (frontComponent w (take (length bs - start) (drop start bs))))
         → (long + r ≤ all) × (long + r + length (nodesFrom bs (c + 1)) ≡ all)
     node-counted long all r q f =
-        let l = ap length ahead ∙ length-append (nodeBytes (frontComponent (take (length bs - start) (drop start bs)))) (nodesFrom bs (c + 1)) in
+        let l = ap length ahead ∙ length-append (nodeBytes (frontComponent w (take (length bs - start) (drop start bs)))) (nodesFrom bs (c + 1)) in
         (omega arith, omega arith)
 
-    module _ {o₀ all o : List ℕ} {at₀ at : ℕ} (w : Writing o₀ at₀ all o at (nodesFrom bs c)) where
+    module _ {o₀ all o : List ℕ} {at₀ at : ℕ} (x : Writing o₀ at₀ all o at (nodesFrom bs c)) where
       -- what the node's part asks for
       pub node-asked : Room o₀ at₀ all
-          → Whole (take (length bs - start) (drop start bs)) × Room o at (nodeBytes (frontComponent (take (length bs - start) (drop start bs))))
-          × (length (nodeBytes (frontComponent (take (length bs - start) (drop start bs)))) ≤ 24576)
+          → Whole w (take (length bs - start) (drop start bs)) × Room o at (nodeBytes (frontComponent w (take (length bs - start) (drop start bs))))
+          × (length (nodeBytes (frontComponent w (take (length bs - start) (drop start bs)))) ≤ 24576)
       node-asked r = (
-        node-whole bs b v c h start e,
-        room-first o at (nodeBytes (frontComponent (take (length bs - start) (drop start bs)))) (nodesFrom bs (c + 1)) (room-is o at ahead (room-left w r)),
-        node-small bs b v c h start e,
+        node-whole bs b v c h start e w same,
+        room-first o at (nodeBytes (frontComponent w (take (length bs - start) (drop start bs)))) (nodesFrom bs (c + 1)) (room-is o at ahead (room-left x r)),
+        node-small bs b v c h start e w same,
       )
 
       -- a turn
-      pub node-on : {p : List ℕ} {n : ℕ} → Put o at (nodeBytes (frontComponent (take (length bs - start) (drop start bs)))) n p → Writing o₀ at₀ all p n (nodesFrom bs (c + 1))
-      node-on k = put-on (nodesFrom bs (c + 1)) (left-is ahead w) k
+      pub node-on : {p : List ℕ} {n : ℕ} → Put o at (nodeBytes (frontComponent w (take (length bs - start) (drop start bs)))) n p → Writing o₀ at₀ all p n (nodesFrom bs (c + 1))
+      node-on k = put-on (nodesFrom bs (c + 1)) (left-is ahead x) k
 
   -- ## The whole
 

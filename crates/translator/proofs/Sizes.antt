@@ -1,5 +1,6 @@
 -- How long the pieces of a node's part are. Assumes nothing.
 use mathlib.Core.Path.{_≡_, refl, ap, _∙_}
+use mathlib.Core.Bool.{Bool, true, false, cond}
 use mathlib.Core.List.{List, [], _∷_}
 use Prim.Native.Nat.{ℕ, zero, suc, _+_, _-_, _*_, _≤_, _<_}
 use native.Mathlib.Omega.{arith}
@@ -9,8 +10,8 @@ use lib.Seq.{drop-drop}
 use Rattle.model.specs.declared.Action.the-variants.{Internal, Send, Receive}
 use Rattle.model.specs.Lists.{each}
 use Rattle.model.specs.Reader.{byte, word, clockGuardAt, dataGuardAt, updateAt, pairAt}
-use Rattle.model.specs.Places.{listAt, itemsPlace, arcLength, arcAt}
-use Rattle.model.specs.Program.{clockTests, code, blockBytes, nodeBytes}
+use Rattle.model.specs.Places.{listAt, arcHeadLength, itemsPlace, arcLength, budgetAt, arcAt}
+use Rattle.model.specs.Program.{clockTests, budgetTest, code, blockBytes, nodeBytes}
 use Rattle.model.proofs.Basics.Walk.{list-length}
 use Rattle.model.proofs.Basics.Sums.{total}
 use Rattle.model.proofs.Program.Size.{trialLength, arcShare, workLength, Sourced, clock-tests-most, trial-parts, edge-block-length, node-length}
@@ -60,62 +61,72 @@ none-counted h (suc k) q = absurd (omega arith)
 
 -- ## An edge
 
-module _ (h : List ℕ) where
-  pub send-length : (channel : ℕ) → Send channel ≡ arcAt h .edge .action → 4 ≡ workLength (arcAt h) (arcAt h .edge .action)
+module _ (budgets : Bool) (h : List ℕ) where
+  pub send-length : (channel : ℕ) → Send channel ≡ arcAt budgets h .edge .action → 4 ≡ workLength (arcAt budgets h) (arcAt budgets h .edge .action)
   unfolding workLength
   send-length channel e = rw (← e)
 
   -- the others have a statement for each item
-  pub internal-length : Internal ≡ arcAt h .edge .action → byte h 6 * 4 + 4 ≡ workLength (arcAt h) (arcAt h .edge .action)
+  pub internal-length : Internal ≡ arcAt budgets h .edge .action → byte h 6 * 4 + 4 ≡ workLength (arcAt budgets h) (arcAt budgets h .edge .action)
   unfolding workLength
-  internal-length e = rw (← e, internal-updates h e) (omega (arith, list-length updateAt 4 (byte h 6) (drop (itemsPlace h) h)))
+  internal-length e = rw (← e, internal-updates budgets h e) (omega (arith, list-length updateAt 4 (byte h 6) (drop (itemsPlace budgets h) h)))
 
-  pub receive-length : Receive ≡ arcAt h .edge .action → byte h 6 * 4 + 4 ≡ workLength (arcAt h) (arcAt h .edge .action)
+  pub receive-length : Receive ≡ arcAt budgets h .edge .action → byte h 6 * 4 + 4 ≡ workLength (arcAt budgets h) (arcAt budgets h .edge .action)
   unfolding workLength
-  receive-length e = rw (← e, receive-pairs h e) (omega (arith, list-length pairAt 2 (byte h 6) (drop (itemsPlace h) h)))
+  receive-length e = rw (← e, receive-pairs budgets h e) (omega (arith, list-length pairAt 2 (byte h 6) (drop (itemsPlace budgets h) h)))
 
-  trial-size : trialLength (arcAt h) ≡ 12 + length (allMade ClockGuards (byte h 4) (drop 7 h)) + 8 * byte h 5
+  -- the statement of a budget
+  budget-size : length (blockBytes (budgetTest (budgetAt budgets h))) ≡ cond budgets 4 0
+  unfolding blockBytes each code
+  budget-size = go budgets
+    where
+      go : (b : Bool) → length (blockBytes (budgetTest (budgetAt b h))) ≡ cond b 4 0
+      go true = refl
+      go false = refl
+
+  trial-size : trialLength (arcAt budgets h) ≡ 12 + length (allMade ClockGuards (byte h 4) (drop (arcHeadLength budgets) h)) + 8 * byte h 5 + cond budgets 4 0
   unfolding arcAt
   trial-size =
-      omega (arith, trial-parts (arcAt h), ap length (clocks-made (byte h 4) (drop 7 h)), list-length dataGuardAt 5 (byte h 5) (drop (7 + byte h 4 * 5) h))
+      omega (arith, trial-parts (arcAt budgets h), ap length (clocks-made (byte h 4) (drop (arcHeadLength budgets) h)), list-length dataGuardAt 5 (byte h 5) (drop (arcHeadLength budgets + byte h 4 * 5) h), budget-size)
 
   -- its share, from its counts
-  pub shared : (clocks c d w k : ℕ) → c ≡ length (allMade ClockGuards (byte h 4) (take (length h - 7) (drop 7 h))) → d ≡ byte h 5 → w ≡ workLength (arcAt h) (arcAt h .edge .action) → k ≡ clocks
-      → 2 + (12 + c + d * 8) + (12 + w + k * 4) ≡ arcShare clocks (arcAt h)
+  pub shared : (clocks c d w k g q : ℕ) → q ≡ arcHeadLength budgets → c ≡ length (allMade ClockGuards (byte h 4) (take (length h - q) (drop q h))) → d ≡ byte h 5
+      → w ≡ workLength (arcAt budgets h) (arcAt budgets h .edge .action) → k ≡ clocks → g ≡ cond budgets 4 0
+      → 2 + (12 + c + d * 8 + g) + (12 + w + k * 4) ≡ arcShare clocks (arcAt budgets h)
   unfolding arcShare
-  shared clocks c d w k a b e f =
-      let t : c ≡ length (allMade ClockGuards (byte h 4) (drop 7 h)) = a ∙ ap (λ (l : List ℕ). length (allMade ClockGuards (byte h 4) l)) (tail h 7) in
-      omega (arith, trial-size, edge-block-length clocks (arcAt h))
+  shared clocks c d w k g q p a b e f i =
+      let t : c ≡ length (allMade ClockGuards (byte h 4) (drop (arcHeadLength budgets) h)) = a ∙ ap (λ (l : List ℕ). length (allMade ClockGuards (byte h 4) l)) (tail h q) ∙ ap (λ (j : ℕ). length (allMade ClockGuards (byte h 4) (drop j h))) p in
+      omega (arith, trial-size, edge-block-length clocks (arcAt budgets h))
 
 -- ## A node
 
 -- the shares of k edges
-abbrev pub sharesFrom : ℕ → ℕ → List ℕ → ℕ
-sharesFrom clocks k h = total (arcShare clocks) (arcsAt k h)
+abbrev pub sharesFrom : Bool → ℕ → ℕ → List ℕ → ℕ
+sharesFrom budgets clocks k h = total (arcShare clocks) (arcsAt budgets k h)
 
-pub share-counted : (clocks : ℕ) (h : List ℕ) (edge k long all r next : ℕ) → 0 < k → long + sharesFrom clocks k (drop edge h) ≡ all
-    → r ≡ arcShare clocks (arcAt (take (length h - edge) (drop edge h)))
-    → next ≡ arcLength (take (length h - edge) (drop edge h))
-    → (long + r ≤ all) × (long + r + sharesFrom clocks (k - 1) (drop (edge + next) h) ≡ all)
+pub share-counted : (budgets : Bool) (clocks : ℕ) (h : List ℕ) (edge k long all r next : ℕ) → 0 < k → long + sharesFrom budgets clocks k (drop edge h) ≡ all
+    → r ≡ arcShare clocks (arcAt budgets (take (length h - edge) (drop edge h)))
+    → next ≡ arcLength budgets (take (length h - edge) (drop edge h))
+    → (long + r ≤ all) × (long + r + sharesFrom budgets clocks (k - 1) (drop (edge + next) h) ≡ all)
 unfolding total arcsAt
-share-counted clocks h edge k long all r next q e f g =
+share-counted budgets clocks h edge k long all r next q e f g =
     let z : k ≡ suc (k - 1) = omega arith in
-    let v : r ≡ arcShare clocks (arcAt (drop edge h)) = f ∙ ap (λ (l : List ℕ). arcShare clocks (arcAt l)) (tail h edge) in
-    let d = edge-passed h edge next g in
-    let s : sharesFrom clocks k (drop edge h) ≡ arcShare clocks (arcAt (drop edge h)) + sharesFrom clocks (k - 1) (drop (edge + next) h) =
-    ap (λ (n : ℕ). sharesFrom clocks n (drop edge h)) z ∙ ap (λ (l : List ℕ). arcShare clocks (arcAt (drop edge h)) + sharesFrom clocks (k - 1) l) d in
+    let v : r ≡ arcShare clocks (arcAt budgets (drop edge h)) = f ∙ ap (λ (l : List ℕ). arcShare clocks (arcAt budgets l)) (tail h edge) in
+    let d = edge-passed budgets h edge next g in
+    let s : sharesFrom budgets clocks k (drop edge h) ≡ arcShare clocks (arcAt budgets (drop edge h)) + sharesFrom budgets clocks (k - 1) (drop (edge + next) h) =
+    ap (λ (n : ℕ). sharesFrom budgets clocks n (drop edge h)) z ∙ ap (λ (l : List ℕ). arcShare clocks (arcAt budgets (drop edge h)) + sharesFrom budgets clocks (k - 1) l) d in
     (omega arith, omega arith)
 
-pub no-shares : (clocks k : ℕ) (h : List ℕ) → k ≤ 0 → sharesFrom clocks k h ≡ 0
+pub no-shares : (budgets : Bool) (clocks k : ℕ) (h : List ℕ) → k ≤ 0 → sharesFrom budgets clocks k h ≡ 0
 unfolding total arcsAt
-no-shares clocks zero h q = refl
-no-shares clocks (suc k) h q = absurd (omega arith)
+no-shares budgets clocks zero h q = refl
+no-shares budgets clocks (suc k) h q = absurd (omega arith)
 
 -- before the first edge
-pub node-shares : (p : List ℕ) (n edge : ℕ) → Sourced (frontComponent p) → n ≡ byte p 2 → edge ≡ 7 + n * 3
-    → 6 + n * 6 + sharesFrom (byte p 4) (byte p 6) (drop edge p) ≡ length (nodeBytes (frontComponent p))
+pub node-shares : (budgets : Bool) (p : List ℕ) (n edge : ℕ) → Sourced (frontComponent budgets p) → n ≡ byte p 2 → edge ≡ 7 + n * 3
+    → 6 + n * 6 + sharesFrom budgets (byte p 4) (byte p 6) (drop edge p) ≡ length (nodeBytes (frontComponent budgets p))
 unfolding frontComponent
-node-shares p n edge h e f =
+node-shares budgets p n edge h e f =
     let z : edge ≡ arcsPlace p = omega arith in
-    let s : sharesFrom (byte p 4) (byte p 6) (drop edge p) ≡ sharesFrom (byte p 4) (byte p 6) (drop (arcsPlace p) p) = ap (λ (i : ℕ). sharesFrom (byte p 4) (byte p 6) (drop i p)) z in
-    omega (arith, node-length (frontComponent p) h, front-locations p)
+    let s : sharesFrom budgets (byte p 4) (byte p 6) (drop edge p) ≡ sharesFrom budgets (byte p 4) (byte p 6) (drop (arcsPlace p) p) = ap (λ (i : ℕ). sharesFrom budgets (byte p 4) (byte p 6) (drop i p)) z in
+    omega (arith, node-length (frontComponent budgets p) h, front-locations budgets p)

@@ -12,10 +12,10 @@ use lib.Dec.{eqb}
 use lib.ListN.{length, take, drop, getD, set, length-drop, length-set}
 use lib.Seq.{drop-drop, drop-cons, getD-drop, ext-getD, getD-set-same, getD-set-other, drop-length}
 use Rattle.model.specs.Lists.{Bytes}
-use Rattle.model.specs.Table.{Component, noLocation, noArc, size, arcOf}
+use Rattle.model.specs.Table.{Component, noLocation, noArc, size, headerOf, arcOf}
 use Rattle.model.specs.Reader.{byte, locationAt}
 use Rattle.model.specs.Limits.{InLimits}
-use Rattle.model.specs.Places.{listAt, startOf, locationPlace, arcPlace, ComponentAt, Valid, readOf, componentIn}
+use Rattle.model.specs.Places.{listAt, budgeted, startOf, locationPlace, arcPlace, ComponentAt, Valid, readOf, componentIn}
 use Rattle.model.specs.Program.{nodeBytes}
 use Rattle.model.proofs.Basics.Walk.{list-length, list-part}
 use Rattle.model.proofs.Reader.RoundTrip.{written-read}
@@ -34,7 +34,7 @@ module _ (bs : List ℕ) (b : ℕ) (C : Component) (at : ComponentAt bs b C) whe
   byte-there i = getD-drop b bs i 0
 
   -- its edges, from number e on
-  arcs-fit : (n e : ℕ) → e + n ≡ length (C .arcs) → ArcsFit n (drop (arcPlace bs b e) bs)
+  arcs-fit : (n e : ℕ) → e + n ≡ length (C .arcs) → ArcsFit (budgeted bs) n (drop (arcPlace bs b e) bs)
   unfolding ArcsFit arcPlace
   arcs-fit zero e q = tt
   arcs-fit (suc n) e q = (
@@ -42,7 +42,7 @@ module _ (bs : List ℕ) (b : ℕ) (C : Component) (at : ComponentAt bs b C) whe
     rw drop-drop (arcs-fit n (suc e) (omega arith)),
   )
 
-  arcs-are : (n e : ℕ) → e + n ≡ length (C .arcs) → arcsAt n (drop (arcPlace bs b e) bs) ≡ drop e (C .arcs)
+  arcs-are : (n e : ℕ) → e + n ≡ length (C .arcs) → arcsAt (budgeted bs) n (drop (arcPlace bs b e) bs) ≡ drop e (C .arcs)
   unfolding arcsAt arcPlace
   arcs-are zero e q = let z : e ≡ length (C .arcs) = omega arith in rw z (sym (drop-length (C .arcs)))
   arcs-are (suc n) e q =
@@ -75,14 +75,14 @@ module _ (bs : List ℕ) (b : ℕ) (C : Component) (at : ComponentAt bs b C) whe
   last-location zero e = omega (arith, at .fits)
   last-location (suc n) e = omega (arith, at .locationFits n (omega arith))
 
-  pub stands-whole : Whole (drop b bs)
+  pub stands-whole : Whole (budgeted bs) (drop b bs)
   stands-whole =
       record {
         locations = rw (byte-there 2, at .locations) (simp length-drop (omega (arith, last-location (length (C .locations)) refl, at .fits)));
         arcs = rw (place-there, edges-there) (arcs-fit (length (C .arcs)) 0 (omega arith));
       }
 
-  pub stands-as : frontComponent (drop b bs) ≡ C
+  pub stands-as : frontComponent (budgeted bs) (drop b bs) ≡ C
   unfolding frontComponent
   stands-as =
       rw (locations-there, place-there, edges-there, arcs-are (length (C .arcs)) 0 (omega arith), byte-there 3, at .initial, byte-there 4, at .clocks, byte-there 5, at .variables)
@@ -130,17 +130,19 @@ module _ (bs : List ℕ) (b : Bytes bs) (v : Valid bs) where
     pub start-fits : start + 7 ≤ length bs
     start-fits = there .fits
 
-    pub node-is : frontComponent (take (length bs - start) (drop start bs)) ≡ componentIn bs c
-    node-is = ap frontComponent (tail bs start) ∙ stands-as bs start (componentIn bs c) there
+    -- w says whether edges have a budget
+    module _ (w : Bool) (same : w ≡ budgeted bs) where
+      pub node-is : frontComponent w (take (length bs - start) (drop start bs)) ≡ componentIn bs c
+      node-is = rw same (ap (frontComponent (budgeted bs)) (tail bs start) ∙ stands-as bs start (componentIn bs c) there)
 
-    pub node-whole : Whole (take (length bs - start) (drop start bs))
-    node-whole = rw (tail bs start) (stands-whole bs start (componentIn bs c) there)
+      pub node-whole : Whole w (take (length bs - start) (drop start bs))
+      node-whole = rw (same, tail bs start) (stands-whole bs start (componentIn bs c) there)
 
-    pub node-sourced : Sourced (frontComponent (take (length bs - start) (drop start bs)))
-    node-sourced = rw node-is (sourced (readOf bs .table .channels) (componentIn bs c) (valid-in bs b v c (omega (arith, valid-count))))
+      pub node-sourced : Sourced (frontComponent w (take (length bs - start) (drop start bs)))
+      node-sourced = rw node-is (sourced (headerOf (readOf bs)) (componentIn bs c) (valid-in bs b v c (omega (arith, valid-count))))
 
-    pub node-small : length (nodeBytes (frontComponent (take (length bs - start) (drop start bs)))) ≤ 24576
-    node-small = rw node-is (omega (arith, node-fits (readOf bs) valid-limits c (omega (arith, valid-count))))
+      pub node-small : length (nodeBytes (frontComponent w (take (length bs - start) (drop start bs)))) ≤ 24576
+      node-small = rw node-is (omega (arith, node-fits (readOf bs) valid-limits c (omega (arith, valid-count))))
 
   -- the starts that the reader found
   pub found : (starts : List ℕ) → starts ≡ startsOf bs (byte bs 3) → (c : ℕ) → c < byte bs 3 → getD starts c 0 ≡ startOf bs c

@@ -1,5 +1,6 @@
 // The translator: how long the program of a valid table is, and its bytes (document 01, 'The program').
 ghost use mathlib.Core.Path.{_≡_};
+ghost use mathlib.Core.Bool.{cond};
 ghost use mathlib.Core.List.{[], _∷_, _++_, map};
 ghost use Prim.Native.Nat.{_+_, _-_, _*_, _/_, _≤_, _<_};
 ghost use lib.ListN.{length, drop};
@@ -36,9 +37,15 @@ fn statements_between(first: usize, at: usize) -> u16
 }
 
 // The blocks of the locations of the component at the front, from `first` on, and their starts.
-fn put_location_blocks(component: &[u8], out: &mut [u8], starts: usize, first: usize) -> usize
-    requires { ⌜ Whole (now component) × Ready (now out) 0 starts first (locationBlocks (frontComponent (now component))) ⌝ }
-    ensures { λ r. ⌜ Laid (now (out .entry)) 0 starts first (locationBlocks (frontComponent (now (component .entry)))) r (now (out .exit)) ⌝ }
+fn put_location_blocks(
+    component: &[u8],
+    out: &mut [u8],
+    starts: usize,
+    first: usize,
+    budgets: bool,
+) -> usize
+    requires { ⌜ Whole budgets (now component) × Ready (now out) 0 starts first (locationBlocks (frontComponent budgets (now component))) ⌝ }
+    ensures { λ r. ⌜ Laid (now (out .entry)) 0 starts first (locationBlocks (frontComponent budgets (now (component .entry)))) r (now (out .exit)) ⌝ }
 {
     let n = component[layout::COMPONENT_LOCATIONS];
     let edges = layout::COMPONENT_HEADER + parts::wide(n) * layout::LOCATION_WIDTH;
@@ -57,6 +64,7 @@ fn put_location_blocks(component: &[u8], out: &mut [u8], starts: usize, first: u
             l,
             out,
             at,
+            budgets,
         );
         here += 1;
     }
@@ -72,9 +80,10 @@ fn put_edge_blocks(
     starts: usize,
     first: usize,
     from: usize,
+    budgets: bool,
 ) -> usize
-    requires { ⌜ ArcsFit count (now bytes) × Aligned first from × Ready (now out) ((from - first) / 4) starts from (map (edgeBlockOf clocks) (arcsAt count (now bytes))) ⌝ }
-    ensures { λ r. ⌜ Laid (now (out .entry)) ((from - first) / 4) starts from (map (edgeBlockOf clocks) (arcsAt count (now (bytes .entry)))) r (now (out .exit)) ⌝ }
+    requires { ⌜ ArcsFit budgets count (now bytes) × Aligned first from × Ready (now out) ((from - first) / 4) starts from (map (edgeBlockOf clocks) (arcsAt budgets count (now bytes))) ⌝ }
+    ensures { λ r. ⌜ Laid (now (out .entry)) ((from - first) / 4) starts from (map (edgeBlockOf clocks) (arcsAt budgets count (now (bytes .entry)))) r (now (out .exit)) ⌝ }
 {
     let mut edge: usize = 0;
     let mut place = starts;
@@ -82,8 +91,8 @@ fn put_edge_blocks(
     let mut k = count;
     while 0 < k {
         place = put_word(out, place, statements_between(first, at));
-        at = blocks::put_edge_block(&bytes[edge..], clocks, out, at);
-        edge += decoder::arc_length(&bytes[edge..]);
+        at = blocks::put_edge_block(&bytes[edge..], clocks, out, at, budgets);
+        edge += decoder::arc_length(&bytes[edge..], budgets);
         k -= 1;
     }
     at
@@ -110,16 +119,16 @@ fn put_node_head(
 }
 
 // The part of one node, from the component at the front.
-fn put_node(component: &[u8], out: &mut [u8], at: usize) -> usize
-    requires { ⌜ Whole (now component) × Room (now out) at (nodeBytes (frontComponent (now component))) × (length (nodeBytes (frontComponent (now component))) ≤ 24576) ⌝ }
-    ensures { λ r. ⌜ Put (now (out .entry)) at (nodeBytes (frontComponent (now (component .entry)))) r (now (out .exit)) ⌝ }
+fn put_node(component: &[u8], out: &mut [u8], at: usize, budgets: bool) -> usize
+    requires { ⌜ Whole budgets (now component) × Room (now out) at (nodeBytes (frontComponent budgets (now component))) × (length (nodeBytes (frontComponent budgets (now component))) ≤ 24576) ⌝ }
+    ensures { λ r. ⌜ Put (now (out .entry)) at (nodeBytes (frontComponent budgets (now (component .entry)))) r (now (out .exit)) ⌝ }
 {
     let n = component[layout::COMPONENT_LOCATIONS];
     let m = component[layout::COMPONENT_EDGES];
     let edges = layout::COMPONENT_HEADER + parts::wide(n) * layout::LOCATION_WIDTH;
     let starts = at + layout::PART_HEADER + parts::wide(n) * layout::START_WIDTH;
     let first = starts + parts::wide(m) * layout::START_WIDTH;
-    let from = put_location_blocks(component, out, at + layout::PART_HEADER, first);
+    let from = put_location_blocks(component, out, at + layout::PART_HEADER, first, budgets);
     let end = put_edge_blocks(
         &component[edges..],
         m,
@@ -128,6 +137,7 @@ fn put_node(component: &[u8], out: &mut [u8], at: usize) -> usize
         starts,
         first,
         from,
+        budgets,
     );
     put_node_head(
         out,
@@ -145,12 +155,13 @@ fn put_nodes(table: &[u8], starts: [u16; 8], out: &mut [u8], from: usize) -> usi
     requires { ⌜ Valid (now table) × (starts ≡ startsOf (now table) (byte (now table) 3)) × Room (now out) from (each nodeBytes (readOf (now table) .table .components)) ⌝ }
     ensures { λ r. ⌜ Put (now (out .entry)) from (each nodeBytes (readOf (now (table .entry)) .table .components)) r (now (out .exit)) ⌝ }
 {
+    let budgets = decoder::budgeted(table);
     let count = table[layout::TABLE_COMPONENTS];
     let mut at = from;
     let mut c: u8 = 0;
     while c < count {
         let start = starts[c as usize] as usize;
-        at = put_node(&table[start..], out, at);
+        at = put_node(&table[start..], out, at, budgets);
         c += 1;
     }
     at
@@ -211,11 +222,11 @@ fn clocks_length(bytes: &[u8], count: u8) -> usize
     long
 }
 
-fn work_length(bytes: &[u8]) -> usize
-    requires { ⌜ arcLength (now bytes) ≤ length (now bytes) ⌝ }
-    ensures { λ r. ⌜ (r ≡ workLength (arcAt (now (bytes .entry))) (arcAt (now (bytes .entry)) .edge .action)) × (r ≤ 1024) ⌝ }
+fn work_length(bytes: &[u8], budgets: bool) -> usize
+    requires { ⌜ (7 ≤ length (now bytes)) × (arcLength budgets (now bytes) ≤ length (now bytes)) ⌝ }
+    ensures { λ r. ⌜ (r ≡ workLength (arcAt budgets (now (bytes .entry))) (arcAt budgets (now (bytes .entry)) .edge .action)) × (r ≤ 1024) ⌝ }
 {
-    let action = decoder::action_at(bytes);
+    let action = decoder::action_at(bytes, budgets);
     match action {
         Action::Internal => parts::wide(bytes[layout::EDGE_ITEMS]) * 4 + 4,
         Action::Send(_) => 4,
@@ -223,25 +234,32 @@ fn work_length(bytes: &[u8]) -> usize
     }
 }
 
-// How many bytes an edge adds to its node's part: its start, its trial and its block.
-fn arc_share(bytes: &[u8], clocks: u8) -> usize
-    requires { ⌜ arcLength (now bytes) ≤ length (now bytes) ⌝ }
-    ensures { λ r. ⌜ r ≡ arcShare clocks (arcAt (now (bytes .entry))) ⌝ }
+// How many bytes the statement of a budget has; none where edges have none.
+fn budget_length(budgets: bool) -> usize
+    ensures { λ r. ⌜ (r ≡ cond budgets 4 0) × (r ≤ 4) ⌝ }
 {
+    if budgets { layout::STATEMENT_WIDTH } else { 0 }
+}
+
+// How many bytes an edge adds to its node's part: its start, its trial and its block.
+fn arc_share(bytes: &[u8], clocks: u8, budgets: bool) -> usize
+    requires { ⌜ (7 ≤ length (now bytes)) × (arcLength budgets (now bytes) ≤ length (now bytes)) ⌝ }
+    ensures { λ r. ⌜ r ≡ arcShare clocks (arcAt budgets (now (bytes .entry))) ⌝ }
+{
+    let head = decoder::head_length(budgets);
+    let budget = budget_length(budgets);
     let trial = 12
-        + clocks_length(
-            &bytes[layout::EDGE_HEADER..],
-            bytes[layout::EDGE_CLOCK_GUARDS],
-        )
-        + parts::wide(bytes[layout::EDGE_DATA_GUARDS]) * 8;
-    let block = 12 + work_length(bytes) + parts::wide(clocks) * 4;
+        + clocks_length(&bytes[head..], bytes[layout::EDGE_CLOCK_GUARDS])
+        + parts::wide(bytes[layout::EDGE_DATA_GUARDS]) * 8
+        + budget;
+    let block = 12 + work_length(bytes, budgets) + parts::wide(clocks) * 4;
     2 + trial + block
 }
 
 // How many bytes a node's part has. Each edge has its trial in the block of its source.
-fn node_length(component: &[u8]) -> usize
-    requires { ⌜ Whole (now component) × Sourced (frontComponent (now component)) × (length (nodeBytes (frontComponent (now component))) ≤ 24576) ⌝ }
-    ensures { λ r. ⌜ r ≡ length (nodeBytes (frontComponent (now (component .entry)))) ⌝ }
+fn node_length(component: &[u8], budgets: bool) -> usize
+    requires { ⌜ Whole budgets (now component) × Sourced (frontComponent budgets (now component)) × (length (nodeBytes (frontComponent budgets (now component))) ≤ 24576) ⌝ }
+    ensures { λ r. ⌜ r ≡ length (nodeBytes (frontComponent budgets (now (component .entry)))) ⌝ }
 {
     let n = parts::wide(component[layout::COMPONENT_LOCATIONS]);
     let clocks = component[layout::COMPONENT_CLOCKS];
@@ -249,8 +267,8 @@ fn node_length(component: &[u8]) -> usize
     let mut edge = layout::COMPONENT_HEADER + n * layout::LOCATION_WIDTH;
     let mut k = component[layout::COMPONENT_EDGES];
     while 0 < k {
-        long += arc_share(&component[edge..], clocks);
-        edge += decoder::arc_length(&component[edge..]);
+        long += arc_share(&component[edge..], clocks, budgets);
+        edge += decoder::arc_length(&component[edge..], budgets);
         k -= 1;
     }
     long
@@ -261,12 +279,13 @@ pub fn program_length(table: &[u8], starts: [u16; 8]) -> usize
     requires { ⌜ Valid (now table) × (starts ≡ startsOf (now table) (byte (now table) 3)) ⌝ }
     ensures { λ r. ⌜ (r ≡ length (programBytes (readOf (now (table .entry))))) × (r ≤ 24576) ⌝ }
 {
+    let budgets = decoder::budgeted(table);
     let count = table[layout::TABLE_COMPONENTS];
     let mut long: usize = layout::PROGRAM_HEADER;
     let mut c: u8 = 0;
     while c < count {
         let start = starts[c as usize] as usize;
-        long += node_length(&table[start..]);
+        long += node_length(&table[start..], budgets);
         c += 1;
     }
     long

@@ -3,20 +3,51 @@ use mathlib.Core.Path.{_≡_, refl, sym, ap, subst, _∙_}
 use mathlib.Core.Bool.{Bool, true, false, cond, _&&_}
 use mathlib.Core.List.{List}
 use mathlib.Core.Option.{Option, none, some}
-use Prim.Native.Nat.{ℕ, suc, pred, _+_, _-_, _≤_, _<_}
+use Prim.Native.Nat.{ℕ, suc, pred, _+_, _-_, max, _≤_, _<_}
 use native.Mathlib.Omega.{arith}
 use borrow.Author.Tests.{lt-ltb, le-ltb, ltb-true, ltb-false, eq-eqb, ne-eqb}
 use lib.Dec.{eqb, ltb}
 use lib.IntN.{ℤ}
 use lib.ListN.{length}
 use Rattle.model.specs.declared.Location.{Location}
+use Rattle.model.specs.Lists.{orElse}
 use Rattle.model.specs.Table.{Arc}
-use Rattle.model.specs.Window.{Entry, Pick, readyOf, pastOf, dataHolds, firstFailing, longEnough, windowOf, better, considered}
+use Rattle.model.specs.Window.{Entry, Pick, readyOf, pastOf, dataHolds, firstFailing, meetsBudget, longEnough, windowOf, better, considered}
+use Rattle.model.proofs.Basics.Bools.{and-is}
 use Rattle.model.proofs.Window.Interval.{fails-there, fails-none}
 use Rattle.window.specs.declared.Choice.{Choice}
 use Rattle.window.specs.declared.Standing.{Standing}
 use Rattle.window.specs.declared.Standing.the-variants.{Elsewhere, Blocked, Windowless, Candidate}
 use Rattle.window.specs.Views.{pickOf, betterOf, standingOf, SmallDelays, Kept}
+
+-- ## A window's length
+
+-- no budget is a budget of 0, which a window of at least one tick's length has
+budget-of : (o : Option ℕ) (r p : ℕ) → ltb (suc r) p && ltb (r + orElse o 0) p ≡ ltb (suc r) p && meetsBudget o r p
+budget-of none r p = go (ltb (suc r) p) refl
+  where
+    go : (t : Bool) → ltb (suc r) p ≡ t → t && ltb (r + 0) p ≡ t && true
+    go true e = lt-ltb (r + 0) p (omega (arith, ltb-true (suc r) p e))
+    go false e = refl
+budget-of (some b) r p = refl
+
+-- the code makes the two tests at once
+pub by-least : (r p k : ℕ) → ltb (r + max 1 k) p ≡ ltb (suc r) p && ltb (r + k) p
+by-least r p k = go (ltb (suc r) p) (ltb (r + k) p) refl refl
+  where
+    go : (s t : Bool) → ltb (suc r) p ≡ s → ltb (r + k) p ≡ t → ltb (r + max 1 k) p ≡ s && t
+    go true true e f = lt-ltb (r + max 1 k) p (omega (arith, ltb-true (suc r) p e, ltb-true (r + k) p f))
+    go true false e f = le-ltb (r + max 1 k) p (omega (arith, ltb-false (r + k) p f))
+    go false t e f = le-ltb (r + max 1 k) p (omega (arith, ltb-false (suc r) p e))
+
+-- the two tests
+pub long-by : (l : Location) (a : Arc) (xs : List ℕ) (r p k : ℕ) → r ≡ readyOf (a .clockGuards) xs → p ≡ pastOf l (a .clockGuards) xs → k ≡ orElse (a .budget) 0
+    → ltb (suc r) p && ltb (r + k) p ≡ longEnough l a xs
+long-by l a xs r p k q t u = rw (q, t, u) (budget-of (a .budget) (readyOf (a .clockGuards) xs) (pastOf l (a .clockGuards) xs))
+
+-- of a window that is long enough the first says so
+pub long-first : (r p k : ℕ) → ltb (suc r) p && ltb (r + k) p ≡ true → r + 1 < p
+long-first r p k e = omega (arith, ltb-true (suc r) p (and-is (ltb (suc r) p) (ltb (r + k) p) .0 e .0))
 
 -- ## What an edge is
 
@@ -43,16 +74,14 @@ module _ (l : Location) (at : Entry) (a : Arc) where
         go false q = absurd (omega (arith, fails-there (a .dataGuards) (at .values) q))
 
     module _ (holds : dataHolds (a .dataGuards) (at .values) ≡ true) where
-      -- it has no window, or one of one tick
-      pub shut : pastOf l (a .clockGuards) (at .clocks) ≤ readyOf (a .clockGuards) (at .clocks) + 1 → Windowless ≡ standingOf l at a
-      shut h =
-          rw (eq-eqb (a .edge .source) (at .location) here, holds, le-ltb (suc (readyOf (a .clockGuards) (at .clocks))) (pastOf l (a .clockGuards) (at .clocks)) (omega arith))
+      -- it has no window, or one that is too short
+      pub shut : longEnough l a (at .clocks) ≡ false → Windowless ≡ standingOf l at a
+      shut h = rw (eq-eqb (a .edge .source) (at .location) here, holds, h)
 
       -- it is a candidate
-      pub candidate-is : (r p : ℕ) → r ≡ readyOf (a .clockGuards) (at .clocks) → p ≡ pastOf l (a .clockGuards) (at .clocks) → r + 1 < p
+      pub candidate-is : (r p : ℕ) → r ≡ readyOf (a .clockGuards) (at .clocks) → p ≡ pastOf l (a .clockGuards) (at .clocks) → longEnough l a (at .clocks) ≡ true
           → Candidate r p ≡ standingOf l at a
-      candidate-is r p q t h =
-          rw (eq-eqb (a .edge .source) (at .location) here, holds, lt-ltb (suc (readyOf (a .clockGuards) (at .clocks))) (pastOf l (a .clockGuards) (at .clocks)) (omega arith), q, t)
+      candidate-is r p q t h = rw (eq-eqb (a .edge .source) (at .location) here, holds, h, q, t)
 
 -- an edge from elsewhere does not replace the best so far
 pub passed-over : (l : Location) (here : ℕ) (xs : List ℕ) (vs : List ℤ) (e : ℕ) (a : Arc) (k : Option Pick) → (a .edge .source ≡ here → ⊥)

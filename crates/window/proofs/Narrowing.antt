@@ -1,5 +1,5 @@
 -- The window that clock bounds leave, narrowed from bound to bound. Assumes nothing.
-use mathlib.Core.Path.{_≡_, refl, _∙_}
+use mathlib.Core.Path.{_≡_, refl, sym, _∙_}
 use mathlib.Core.Bool.{Bool, true, false, cond}
 use mathlib.Core.List.{List, [], _∷_}
 use Prim.Native.Nat.{ℕ, suc, _+_, _-_, min, max, _≤_, _<_}
@@ -11,6 +11,7 @@ use Rattle.model.specs.declared.Location.{Location}
 use Rattle.model.specs.Reader.{clockGuardAt}
 use Rattle.model.specs.Places.{listAt}
 use Rattle.model.specs.Window.{clockAt, readyOf, pastOf}
+use Rattle.window.specs.Views.{pastFrom}
 use Rattle.window.proofs.Rests.{next, no-more}
 
 -- the numbers stay small
@@ -20,16 +21,15 @@ ready-small r low x w e l h = omega arith
 pub past-small : (p a w : ℕ) → p ≡ min a w → w ≤ 65536 → p ≤ 65536
 past-small p a w e h = omega arith
 
--- what bounds leave of the delays below p
-unfoldable pub pastFrom : ℕ → List ClockGuard → List ℕ → ℕ
-pastFrom p [] xs = p
-pastFrom p (g ∷ gs) xs = cond (eqb (g .high) 65535) (pastFrom p gs xs) (min (suc (g .high) - clockAt xs (g .clock)) (pastFrom p gs xs))
-
 -- the invariant leaves as much
 pub past-is : (l : Location) (gs : List ClockGuard) (xs : List ℕ) → pastOf l gs xs ≡ pastFrom (suc (l .bound) - clockAt xs (l .clock)) gs xs
 unfolding pastFrom
 past-is l [] xs = refl
 past-is l (g ∷ gs) xs = rw (past-is l gs xs)
+
+-- so what bounds leave of the ticks that the invariant leaves is what both leave
+pub past-left : (l : Location) (gs : List ClockGuard) (xs : List ℕ) (left p : ℕ) → left ≡ suc (l .bound) - clockAt xs (l .clock) → p ≡ pastFrom left gs xs → p ≡ pastOf l gs xs
+past-left l gs xs left p e f = f ∙ rw e (sym (past-is l gs xs))
 
 -- one bound's share
 abbrev share : ClockGuard → List ℕ → ℕ → ℕ

@@ -1,5 +1,6 @@
 -- Each edge of a valid table can be read where it stands. Assumes nothing.
 use mathlib.Core.Path.{_≡_, sym, ap, _∙_}
+use mathlib.Core.Bool.{Bool}
 use mathlib.Core.List.{List}
 use Prim.Native.Nat.{ℕ, _+_, _-_, _*_, _≤_, _<_}
 use native.Mathlib.Numerals.{add-one}
@@ -10,14 +11,14 @@ use Rattle.model.specs.declared.Action.{Action}
 use Rattle.model.specs.declared.Action.the-variants.{Internal, Send, Receive}
 use Rattle.model.specs.declared.Sizes.{Sizes}
 use Rattle.model.specs.Lists.{All, empty, Bytes}
-use Rattle.model.specs.Table.{Arc, sizesOf, noLocation, noArc, size, locationOf, arcOf}
+use Rattle.model.specs.Table.{headerOf, Arc, sizesOf, noLocation, noArc, size, locationOf, arcOf}
 use Rattle.model.specs.Limits.{ActionIn, ArcIn}
 use Rattle.model.specs.Reader.{byte}
-use Rattle.model.specs.Places.{arcLength, arcAt, arcPlace, startOf, ComponentAt, Valid, readOf, componentIn}
+use Rattle.model.specs.Places.{arcLength, arcAt, budgeted, arcPlace, startOf, ComponentAt, Valid, readOf, componentIn}
 use Rattle.model.proofs.Basics.Walk.{all-at}
 use Rattle.model.proofs.Reader.Located.{are-bytes, valid-located, valid-in}
 use Rattle.parts.proofs.Skim.{tail}
-use Rattle.decoder.proofs.Callers.{decodable}
+use Rattle.decoder.proofs.Callers.{decodable, head-seven}
 use Rattle.window.specs.Views.{ArcReady}
 use Rattle.window.proofs.Rests.{all-as}
 
@@ -27,10 +28,10 @@ updates-in s a (Send k) v i = rw (i .updates) empty
 updates-in s a Receive v i = rw (i .updates) empty
 
 -- an edge that stands whole and is within its limits
-pub arc-ready : (s : Sizes) (h : List ℕ) (a : Arc) → s .clocks ≤ 4 → s .variables ≤ 4 → arcLength h ≤ length h → arcAt h ≡ a → ArcIn s a → ArcReady h
-arc-ready s h a c v w e l =
+pub arc-ready : (s : Sizes) (b : Bool) (h : List ℕ) (a : Arc) → s .clocks ≤ 4 → s .variables ≤ 4 → arcLength b h ≤ length h → arcAt b h ≡ a → ArcIn s a → ArcReady b h
+arc-ready s b h a c v w e l =
     record {
-      decodable = decodable h w;
+      decodable = decodable b h w;
       clockGuards = rw e (all-as (λ g q. omega (arith, q .clock)) (l .clockGuards));
       dataGuards = rw e (all-as (λ g q. omega (arith, q .variable)) (l .dataGuards));
       updates = rw e (updates-in s a (a .edge .action) v (l .action));
@@ -45,15 +46,15 @@ module _ (bs : List ℕ) (b : Bytes bs) (v : Valid bs) (c : ℕ) (k : c < size (
 
   -- edge e stands whole
   pub valid-whole : (e : ℕ) → e < length (componentIn bs c .arcs)
-      → arcLength (drop (arcPlace bs (startOf bs c) e) bs) ≤ length (drop (arcPlace bs (startOf bs c) e) bs)
+      → arcLength (budgeted bs) (drop (arcPlace bs (startOf bs c) e) bs) ≤ length (drop (arcPlace bs (startOf bs c) e) bs)
   valid-whole e l = simp length-drop (omega (arith, valid-at .arcFits e l))
 
   -- edge e can be read
-  pub valid-ready : (e : ℕ) → e < length (componentIn bs c .arcs) → ArcReady (drop (arcPlace bs (startOf bs c) e) bs)
+  pub valid-ready : (e : ℕ) → e < length (componentIn bs c .arcs) → ArcReady (budgeted bs) (drop (arcPlace bs (startOf bs c) e) bs)
   valid-ready e l =
       let i = valid-in bs b v c k in
-      let s = sizesOf (readOf bs .table .channels) (componentIn bs c) in
-      arc-ready s (drop (arcPlace bs (startOf bs c) e) bs) (arcOf (componentIn bs c) e) (i .mostClocks) (i .variables) (valid-whole e l) (valid-at .arc e l)
+      let s = sizesOf (headerOf (readOf bs)) (componentIn bs c) in
+      arc-ready s (budgeted bs) (drop (arcPlace bs (startOf bs c) e) bs) (arcOf (componentIn bs c) e) (i .mostClocks) (i .variables) (valid-whole e l) (valid-at .arc e l)
       (all-at noArc (i .arcs) e l)
 
 -- ## The component that starts at a place
@@ -62,7 +63,7 @@ module _ (bs : List ℕ) (b : Bytes bs) (v : Valid bs) (c : ℕ) (k : c < size (
 pub record Entered (bs : List ℕ) (c start : ℕ) : Type 0 where
   pub stands : ComponentAt bs start (componentIn bs c)
   pub leastArcs : 1 ≤ length (componentIn bs c .arcs)
-  pub ready : (e : ℕ) → e < length (componentIn bs c .arcs) → ArcReady (drop (arcPlace bs start e) bs)
+  pub ready : (e : ℕ) → e < length (componentIn bs c .arcs) → ArcReady (budgeted bs) (drop (arcPlace bs start e) bs)
   pub clock : (l : ℕ) → l < length (componentIn bs c .locations) → locationOf (componentIn bs c) l .clock < 4
   pub mostArcs : length (componentIn bs c .arcs) ≤ 32
   pub mostLocations : length (componentIn bs c .locations) ≤ 16
@@ -99,28 +100,28 @@ module _ (bs : List ℕ) (c start : ℕ) (E : Entered bs c start) where
 
   -- edge e at its place
   module _ (place e : ℕ) (p : place ≡ arcPlace bs start e) (l : e < length (componentIn bs c .arcs)) where
-    pub arc-fits : place + arcLength (drop place bs) ≤ length bs
+    pub arc-fits : place + arcLength (budgeted bs) (drop place bs) ≤ length bs
     arc-fits = rw p (E .stands .arcFits e l)
 
     pub arc-head : place + 7 ≤ length bs
-    arc-head = omega (arith, arc-fits)
+    arc-head = omega (arith, arc-fits, head-seven (budgeted bs))
 
-    pub arc-asked : ArcReady (take (length bs - place) (drop place bs))
-    arc-asked = rw (tail bs place, p) (E .ready e l)
+    pub arc-asked : (b : Bool) → b ≡ budgeted bs → ArcReady b (take (length bs - place) (drop place bs))
+    arc-asked b same = rw (same, tail bs place, p) (E .ready e l)
 
     -- the bytes there are edge e
-    pub arc-is : arcAt (take (length bs - place) (drop place bs)) ≡ arcOf (componentIn bs c) e
-    arc-is = rw (tail bs place, p) (E .stands .arc e l)
+    pub arc-is : (b : Bool) → b ≡ budgeted bs → arcAt b (take (length bs - place) (drop place bs)) ≡ arcOf (componentIn bs c) e
+    arc-is b same = rw (same, tail bs place, p) (E .stands .arc e l)
 
     pub source-is : arcOf (componentIn bs c) e .edge .source ≡ byte bs (place + 1)
     unfolding arcAt
     source-is = sym (ap (λ (a : Arc). a .edge .source) (E .stands .arc e l)) ∙ rw (← p) (getD-drop place bs 1 0)
 
     -- the next edge's place
-    module _ (r : ℕ) (q : r ≡ arcLength (take (length bs - place) (drop place bs))) where
+    module _ (b : Bool) (same : b ≡ budgeted bs) (r : ℕ) (q : r ≡ arcLength b (take (length bs - place) (drop place bs))) where
       pub next-place : place + r ≡ arcPlace bs start (e + 1)
       unfolding arcPlace
-      next-place = rw (q, tail bs place, add-one e, p)
+      next-place = rw (q, same, tail bs place, add-one e, p)
 
       pub next-within : place + r ≤ length bs
-      next-within = rw (q, tail bs place) arc-fits
+      next-within = rw (q, same, tail bs place) arc-fits

@@ -1,17 +1,18 @@
 -- What the code's values are in the words of the definitions, and which bytes an edge can be read from.
 use mathlib.Core.Path.{_≡_}
-use mathlib.Core.Bool.{cond}
-use mathlib.Core.List.{List}
+use mathlib.Core.Bool.{Bool, cond}
+use mathlib.Core.List.{List, [], _∷_}
 use mathlib.Core.Option.{Option, none, some}
-use Prim.Native.Nat.{ℕ, _+_, _≤_, _<_}
+use Prim.Native.Nat.{ℕ, suc, _+_, _-_, min, _≤_, _<_}
 use lib.Dec.{eqb, ltb}
 use lib.IntN.{ℤ}
+use Rattle.model.specs.declared.ClockGuard.{ClockGuard}
 use Rattle.model.specs.declared.Location.{Location}
 use Rattle.model.specs.Lists.{All, Answer, accepted, refused}
 use Rattle.model.specs.Table.{Arc, Component, arcOf}
 use lib.ListN.{length}
 use Rattle.model.specs.Places.{arcAt, arcPlace, componentIn}
-use Rattle.model.specs.Window.{Pick, readyOf, pastOf, dataHolds, firstFailing, longEnough, channelOf, inRange}
+use Rattle.model.specs.Window.{Pick, clockAt, readyOf, pastOf, dataHolds, firstFailing, longEnough, channelOf, inRange}
 use Rattle.model.specs.Schedule.{Passage, passageOf}
 use Rattle.decoder.specs.Decoded.{Decodable}
 use Rattle.window.specs.declared.Entry.{Entry}
@@ -24,6 +25,11 @@ use Rattle.window.specs.declared.NewValue.{NewValue}
 use Rattle.window.specs.declared.NewValue.the-variants.{Fits, Out}
 use Rattle.window.specs.declared.Opening.{Opening}
 use Rattle.window.specs.declared.Opening.the-variants.{Opens, Fails}
+
+-- what clock bounds leave of the delays below p
+unfoldable pub pastFrom : ℕ → List ClockGuard → List ℕ → ℕ
+pastFrom p [] xs = p
+pastFrom p (g ∷ gs) xs = cond (eqb (g .high) 65535) (pastFrom p gs xs) (min (suc (g .high) - clockAt xs (g .clock)) (pastFrom p gs xs))
 
 -- an entry with four clocks and four variables, those that the component lacks among them
 abbrev pub entryOf : Entry → Rattle.model.specs.Window.Entry
@@ -73,11 +79,11 @@ openingOf c C at (Opens t) = accepted (passageOf c at (record { edge = t .edge; 
 openingOf c C at (Fails n) = refused n c
 
 -- An edge stands at the front, whole, and names clocks and variables that have a place.
-pub record ArcReady (h : List ℕ) : Type 0 where
-  pub decodable : Decodable h
-  pub clockGuards : All (λ g. g .clock < 4) (arcAt h .clockGuards)
-  pub dataGuards : All (λ g. g .variable < 4) (arcAt h .dataGuards)
-  pub updates : All (λ u. u .variable < 4) (arcAt h .updates)
+pub record ArcReady (b : Bool) (h : List ℕ) : Type 0 where
+  pub decodable : Decodable b h
+  pub clockGuards : All (λ g. g .clock < 4) (arcAt b h .clockGuards)
+  pub dataGuards : All (λ g. g .variable < 4) (arcAt b h .dataGuards)
+  pub updates : All (λ u. u .variable < 4) (arcAt b h .updates)
 
 -- an opened passage's edge: its number, its place, small numbers
 abbrev pub Placed : List ℕ → ℕ → ℕ → Opening → Type 0

@@ -3,7 +3,7 @@ ghost use mathlib.Core.Path.{_≡_};
 ghost use Prim.Native.Nat.{ℕ, _+_, _*_, _≤_, _<_};
 ghost use lib.ListN.{length};
 ghost use Rattle.model.specs.Table.{size};
-ghost use Rattle.model.specs.Places.{arcPlace, startOf, Valid, readOf, componentIn};
+ghost use Rattle.model.specs.Places.{budgeted, arcPlace, startOf, Valid, readOf, componentIn};
 ghost use Rattle.window.specs.Indexed.{firstFrom, placeOf, Indexed, Within, PlacesPut, LinksPut};
 use model::layout;
 
@@ -16,8 +16,8 @@ pub const PLACE: usize = 48;
 pub const COMPONENT_WIDTH: usize = 80;
 
 // Notes the place of each edge of component c, which starts there in the table.
-fn put_places(table: &[u8], start: usize, c: usize, index: &mut [u16])
-    requires { ⌜ Valid (now table) × (c < size (readOf (now table) .table)) × (start ≡ startOf (now table) c) × (c < 8) × (c * 80 + 80 ≤ length (now index)) × (length (now table) ≤ 8192) ⌝ }
+fn put_places(table: &[u8], start: usize, c: usize, index: &mut [u16], budgets: bool)
+    requires { ⌜ Valid (now table) × (c < size (readOf (now table) .table)) × (start ≡ startOf (now table) c) × (c < 8) × (c * 80 + 80 ≤ length (now index)) × (length (now table) ≤ 8192) × (budgets ≡ budgeted (now table)) ⌝ }
     ensures { λ _. ⌜ PlacesPut (now (table .entry)) (now (index .entry)) (now (index .exit)) c start (length (componentIn (now (table .entry)) c .arcs)) ⌝ }
 {
     let from = c * COMPONENT_WIDTH + PLACE;
@@ -28,7 +28,7 @@ fn put_places(table: &[u8], start: usize, c: usize, index: &mut [u16])
     let mut e: usize = 0;
     while e < count {
         index[from + e] = place as u16;
-        place += decoder::arc_length(&table[place..]);
+        place += decoder::arc_length(&table[place..], budgets);
         e += 1;
     }
 }
@@ -50,11 +50,11 @@ fn put_links(table: &[u8], start: usize, c: usize, index: &mut [u16])
 }
 
 // Notes the edges of component c, which starts there in the table, in its part of the index.
-pub fn put_edges(table: &[u8], start: usize, c: usize, index: &mut [u16])
-    requires { ⌜ Valid (now table) × (c < size (readOf (now table) .table)) × (start ≡ startOf (now table) c) × (c < 8) × (c * 80 + 80 ≤ length (now index)) × (length (now table) ≤ 8192) × ((q : ℕ) → q < 16 → firstFrom (now index) c q ≡ 32) ⌝ }
+pub fn put_edges(table: &[u8], start: usize, c: usize, index: &mut [u16], budgets: bool)
+    requires { ⌜ Valid (now table) × (c < size (readOf (now table) .table)) × (start ≡ startOf (now table) c) × (c < 8) × (c * 80 + 80 ≤ length (now index)) × (length (now table) ≤ 8192) × ((q : ℕ) → q < 16 → firstFrom (now index) c q ≡ 32) × (budgets ≡ budgeted (now table)) ⌝ }
     ensures noted { λ _. ⌜ Indexed (now (table .entry)) (now (index .exit)) c start ⌝ }
     ensures others { λ _. ⌜ Within (now (index .entry)) (now (index .exit)) c ⌝ }
 {
-    put_places(table, start, c, index);
+    put_places(table, start, c, index, budgets);
     put_links(table, start, c, index);
 }

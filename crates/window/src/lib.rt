@@ -8,11 +8,11 @@ ghost use lib.ListN.{length};
 ghost use Rattle.model.specs.Lists.{All};
 ghost use Rattle.model.specs.Table.{size};
 ghost use Rattle.model.specs.Reader.{clockGuardAt, dataGuardAt, pairAt};
-ghost use Rattle.model.specs.Places.{listAt, arcAt, arcPlace, startOf, Valid, readOf, componentIn};
-ghost use Rattle.model.specs.Window.{readyOf, pastOf, dataWithin, firstFailing, considered, choice, looked, aged, paired, leadsTo, leaves};
+ghost use Rattle.model.specs.Places.{listAt, arcAt, budgeted, arcPlace, startOf, Valid, readOf, componentIn};
+ghost use Rattle.model.specs.Window.{clockAt, readyOf, pastOf, dataWithin, firstFailing, considered, choice, looked, aged, paired, leadsTo, leaves};
 ghost use Rattle.model.specs.Schedule.{opening};
 ghost use Rattle.window.specs.Indexed.{Indexed};
-ghost use Rattle.window.specs.Views.{standingOf, SmallDelays, entryOf, pickOf, Kept, messageOf, openingOf, ArcReady, Placed, betterOf};
+ghost use Rattle.window.specs.Views.{pastFrom, standingOf, SmallDelays, entryOf, pickOf, Kept, messageOf, openingOf, ArcReady, Placed, betterOf};
 
 pub mod index;
 pub mod updates;
@@ -53,8 +53,8 @@ pub struct Choice {
     pub end: u32,
 }
 
-// What an edge is at an entry: it leaves another location, a data bound fails (the first that does), it has no window of at least one tick's length, or it is a candidate,
-// with its ready and the first delay past its end.
+// What an edge is at an entry: it leaves another location, a data bound fails (the first that does), it has no window of at least one tick's length and
+// the budget's, or it is a candidate, with its ready and the first delay past its end.
 pub enum Standing {
     Elsewhere,
     Blocked(u8),
@@ -119,15 +119,23 @@ fn narrowed(delays: Delays, guard: ClockGuard, clock: u32) -> Delays
     Delays { ready, past }
 }
 
-// The window that an invariant and `count` clock bounds leave; `guards` begins at the first bound.
-pub fn window(guards: &[u8], count: u8, location: Location, clocks: [u32; 4]) -> Delays
-    requires { ⌜ (count * 5 ≤ length (now guards)) × (location .clock < 4) × All (λ g. g .clock < 4) (listAt clockGuardAt 5 count (now guards)) ⌝ }
-    ensures { λ r. ⌜ (r .ready ≡ readyOf (listAt clockGuardAt 5 count (now (guards .entry))) clocks) × (r .past ≡ pastOf location (listAt clockGuardAt 5 count (now (guards .entry))) clocks) × (r .ready ≤ 65535) × (r .past ≤ 65536) ⌝ }
+// How many ticks of a location's invariant are left, from its clock on.
+fn stays(location: Location, clocks: [u32; 4]) -> u32
+    requires { ⌜ location .clock < 4 ⌝ }
+    ensures { λ r. ⌜ (r ≡ suc (location .bound) - clockAt clocks (location .clock)) × (r ≤ 65536) ⌝ }
 {
     let i = parts::wide(location.clock);
+    left_of(parts::word32(location.bound) + 1, clocks[i])
+}
+
+// The window that `count` clock bounds leave of so many ticks; `guards` begins at the first bound.
+fn window_within(left: u32, guards: &[u8], count: u8, clocks: [u32; 4]) -> Delays
+    requires { ⌜ (count * 5 ≤ length (now guards)) × (left ≤ 65536) × All (λ g. g .clock < 4) (listAt clockGuardAt 5 count (now guards)) ⌝ }
+    ensures { λ r. ⌜ (r .ready ≡ readyOf (listAt clockGuardAt 5 count (now (guards .entry))) clocks) × (r .past ≡ pastFrom left (listAt clockGuardAt 5 count (now (guards .entry))) clocks) × (r .ready ≤ 65535) × (r .past ≤ 65536) ⌝ }
+{
     let mut delays = Delays {
         ready: 0,
-        past: left_of(parts::word32(location.bound) + 1, clocks[i]),
+        past: left,
     };
     let mut at: usize = 0;
     let mut k = count;
@@ -139,6 +147,15 @@ pub fn window(guards: &[u8], count: u8, location: Location, clocks: [u32; 4]) ->
         k -= 1;
     }
     delays
+}
+
+// The window that an invariant and `count` clock bounds leave; `guards` begins at the first bound.
+pub fn window(guards: &[u8], count: u8, location: Location, clocks: [u32; 4]) -> Delays
+    requires { ⌜ (count * 5 ≤ length (now guards)) × (location .clock < 4) × All (λ g. g .clock < 4) (listAt clockGuardAt 5 count (now guards)) ⌝ }
+    ensures { λ r. ⌜ (r .ready ≡ readyOf (listAt clockGuardAt 5 count (now (guards .entry))) clocks) × (r .past ≡ pastOf location (listAt clockGuardAt 5 count (now (guards .entry))) clocks) × (r .ready ≤ 65535) × (r .past ≤ 65536) ⌝ }
+{
+    let left = stays(location, clocks);
+    window_within(left, guards, count, clocks)
 }
 
 fn within(value: i16, low: i16, high: i16) -> bool
@@ -185,26 +202,37 @@ fn better(best: Choice, candidate: Choice) -> Choice
     }
 }
 
-// Whether a window has at least one tick's length.
-fn long_enough(delays: Delays) -> bool
-    requires { ⌜ delays .ready ≤ 65535 ⌝ }
-    ensures { λ r. ⌜ r ≡ ltb (suc (delays .ready)) (delays .past) ⌝ }
+// The least length of a window: a tick, or its budget.
+fn least_length(budget: u16) -> u32
+    ensures { λ r. ⌜ r ≡ max 1 budget ⌝ }
 {
-    delays.ready + 1 < delays.past
+    if budget == 0 {
+        1
+    } else {
+        parts::word32(budget)
+    }
+}
+
+// Whether a window has at least one tick's length, and the budget's.
+fn long_enough(delays: Delays, budget: u16) -> bool
+    requires { ⌜ delays .ready ≤ 65535 ⌝ }
+    ensures { λ r. ⌜ r ≡ ltb (suc (delays .ready)) (delays .past) && ltb (delays .ready + budget) (delays .past) ⌝ }
+{
+    delays.ready + least_length(budget) < delays.past
 }
 
 // What the edge at the front of the bytes is.
-pub fn judge(bytes: &[u8], location: Location, at: Entry) -> Standing
-    requires { ⌜ ArcReady (now bytes) × (location .clock < 4) ⌝ }
-    ensures stands { λ r. ⌜ r ≡ standingOf location (entryOf at) (arcAt (now (bytes .entry))) ⌝ }
+pub fn judge(bytes: &[u8], location: Location, at: Entry, budgets: bool) -> Standing
+    requires { ⌜ ArcReady budgets (now bytes) × (location .clock < 4) ⌝ }
+    ensures stands { λ r. ⌜ r ≡ standingOf location (entryOf at) (arcAt budgets (now (bytes .entry))) ⌝ }
     ensures small { λ r. ⌜ SmallDelays r ⌝ }
 {
-    let edge = decoder::edge_at(bytes);
+    let edge = decoder::edge_at(bytes, budgets);
     if edge.source != at.location {
         return Standing::Elsewhere;
     }
-    let first = layout::EDGE_HEADER
-        + parts::wide(bytes[layout::EDGE_CLOCK_GUARDS]) * layout::GUARD_WIDTH;
+    let head = decoder::head_length(budgets);
+    let first = head + parts::wide(bytes[layout::EDGE_CLOCK_GUARDS]) * layout::GUARD_WIDTH;
     let values = at.values;
     let guards = bytes[layout::EDGE_DATA_GUARDS];
     let failing = first_failing(&bytes[first..], guards, values);
@@ -213,12 +241,13 @@ pub fn judge(bytes: &[u8], location: Location, at: Entry) -> Standing
     }
     let clocks = at.clocks;
     let delays = window(
-        &bytes[layout::EDGE_HEADER..],
+        &bytes[head..],
         bytes[layout::EDGE_CLOCK_GUARDS],
         location,
         clocks,
     );
-    if !long_enough(delays) {
+    let budget = decoder::budget_at(bytes, budgets);
+    if !long_enough(delays, budget) {
         return Standing::Windowless;
     }
     Standing::Candidate(delays.ready, delays.past)
@@ -231,19 +260,17 @@ fn considered_edge(
     e: u8,
     place: usize,
     location: Location,
+    left: u32,
     at: Entry,
     best: Choice,
+    budgets: bool,
 ) -> Choice
-    requires { ⌜ ArcReady (now bytes) × (location .clock < 4) ⌝ }
-    ensures picks { λ r. ⌜ pickOf r ≡ considered location (at .location) (at .clocks) (at .values) e (arcAt (now (bytes .entry))) (pickOf best) ⌝ }
+    requires { ⌜ ArcReady budgets (now bytes) × (arcAt budgets (now bytes) .edge .source ≡ at .location) × (left ≡ suc (location .bound) - clockAt (at .clocks) (location .clock)) × (left ≤ 65536) ⌝ }
+    ensures picks { λ r. ⌜ pickOf r ≡ considered location (at .location) (at .clocks) (at .values) e (arcAt budgets (now (bytes .entry))) (pickOf best) ⌝ }
     ensures keeps { λ r. ⌜ ((f : ℕ → ℕ) → f e ≡ place → Kept f best → Kept f r) ⌝ }
 {
-    let edge = decoder::edge_at(bytes);
-    if edge.source != at.location {
-        return best;
-    }
-    let first = layout::EDGE_HEADER
-        + parts::wide(bytes[layout::EDGE_CLOCK_GUARDS]) * layout::GUARD_WIDTH;
+    let head = decoder::head_length(budgets);
+    let first = head + parts::wide(bytes[layout::EDGE_CLOCK_GUARDS]) * layout::GUARD_WIDTH;
     let values = at.values;
     let guards = bytes[layout::EDGE_DATA_GUARDS];
     let failing = first_failing(&bytes[first..], guards, values);
@@ -251,13 +278,14 @@ fn considered_edge(
         return best;
     }
     let clocks = at.clocks;
-    let delays = window(
-        &bytes[layout::EDGE_HEADER..],
+    let delays = window_within(
+        left,
+        &bytes[head..],
         bytes[layout::EDGE_CLOCK_GUARDS],
-        location,
         clocks,
     );
-    if !long_enough(delays) {
+    let budget = decoder::budget_at(bytes, budgets);
+    if !long_enough(delays, budget) {
         return best;
     }
     let candidate = Choice {
@@ -271,8 +299,8 @@ fn considered_edge(
 
 // The edge that component c, which starts there in the table, takes as it enters: of those that leave its location, found by the index. The search
 // is left as soon as one is a candidate with no delay; edges that leave other locations count as looked at on the way.
-pub fn choose(table: &[u8], start: usize, c: u8, at: Entry, index: &[u16]) -> Search
-    requires { ⌜ Valid (now table) × (c < size (readOf (now table) .table)) × (start ≡ startOf (now table) c) × (at .location < length (componentIn (now table) c .locations)) × Indexed (now table) (now index) c start ⌝ }
+pub fn choose(table: &[u8], start: usize, c: u8, at: Entry, index: &[u16], budgets: bool) -> Search
+    requires { ⌜ Valid (now table) × (c < size (readOf (now table) .table)) × (start ≡ startOf (now table) c) × (at .location < length (componentIn (now table) c .locations)) × Indexed (now table) (now index) c start × (budgets ≡ budgeted (now table)) ⌝ }
     ensures picks { λ r. ⌜ pickOf (r .choice) ≡ choice (componentIn (now (table .entry)) c) (entryOf at) ⌝ }
     ensures counts { λ r. ⌜ r .looked ≡ looked (componentIn (now (table .entry)) c) (entryOf at) ⌝ }
     ensures keeps { λ r. ⌜ Kept (arcPlace (now (table .entry)) start) (r .choice) ⌝ }
@@ -282,6 +310,8 @@ pub fn choose(table: &[u8], start: usize, c: u8, at: Entry, index: &[u16]) -> Se
         + layout::COMPONENT_HEADER
         + parts::wide(at.location) * layout::LOCATION_WIDTH;
     let location = decoder::location_at(&table[there..]);
+    let clocks = at.clocks;
+    let left = stays(location, clocks);
     let from = parts::wide(c) * index::COMPONENT_WIDTH;
     let mut best = Choice {
         edge: 0,
@@ -298,7 +328,16 @@ pub fn choose(table: &[u8], start: usize, c: u8, at: Entry, index: &[u16]) -> Se
             };
         }
         let place = index[from + index::PLACE + e] as usize;
-        best = considered_edge(&table[place..], e as u8, place, location, at, best);
+        best = considered_edge(
+            &table[place..],
+            e as u8,
+            place,
+            location,
+            left,
+            at,
+            best,
+            budgets,
+        );
         if best.ready == 0 {
             break Search {
                 choice: best,
@@ -348,11 +387,11 @@ pub fn paired_location(pairs: &[u8], count: u8, channel: u8, other: u8) -> u8
 }
 
 // Where the edge at the front of the bytes leads with a message (255: none).
-pub fn leads_to(bytes: &[u8], message: u8) -> u8
-    requires { ⌜ ArcReady (now bytes) ⌝ }
-    ensures { λ r. ⌜ r ≡ leadsTo (arcAt (now (bytes .entry))) (messageOf message) ⌝ }
+pub fn leads_to(bytes: &[u8], message: u8, budgets: bool) -> u8
+    requires { ⌜ ArcReady budgets (now bytes) ⌝ }
+    ensures { λ r. ⌜ r ≡ leadsTo (arcAt budgets (now (bytes .entry))) (messageOf message) ⌝ }
 {
-    let edge = decoder::edge_at(bytes);
+    let edge = decoder::edge_at(bytes, budgets);
     if message == 255 {
         return edge.destination;
     }
@@ -361,7 +400,7 @@ pub fn leads_to(bytes: &[u8], message: u8) -> u8
         Action::Internal => edge.destination,
         Action::Send(_) => edge.destination,
         Action::Receive => {
-            let items = decoder::items_place(bytes);
+            let items = decoder::items_place(bytes, budgets);
             paired_location(
                 &bytes[items..],
                 bytes[layout::EDGE_ITEMS],
@@ -380,18 +419,18 @@ pub fn kept_values(after: Updated, values: [i16; 4]) -> [i16; 4]
 }
 
 // The entry that a passage over the edge at the front of the bytes leads to, at the tick `end`.
-pub fn leave(bytes: &[u8], message: u8, end: u32, at: Entry) -> Entry
-    requires { ⌜ ArcReady (now bytes) × (at .tick ≤ end) × (end ≤ 1000000) × All (λ x. x ≤ at .tick) (at .clocks) ⌝ }
-    ensures leads { λ r. ⌜ entryOf r ≡ leaves (arcAt (now (bytes .entry))) (messageOf message) end (entryOf at) ⌝ }
+pub fn leave(bytes: &[u8], message: u8, end: u32, at: Entry, budgets: bool) -> Entry
+    requires { ⌜ ArcReady budgets (now bytes) × (at .tick ≤ end) × (end ≤ 1000000) × All (λ x. x ≤ at .tick) (at .clocks) ⌝ }
+    ensures leads { λ r. ⌜ entryOf r ≡ leaves (arcAt budgets (now (bytes .entry))) (messageOf message) end (entryOf at) ⌝ }
     ensures young { λ r. ⌜ All (λ x. x ≤ end) (r .clocks) ⌝ }
 {
     let before = at.values;
-    let values = kept_values(updates::edge_update(bytes, before), before);
+    let values = kept_values(updates::edge_update(bytes, before, budgets), before);
     let young = at.clocks;
-    let edge = decoder::edge_at(bytes);
+    let edge = decoder::edge_at(bytes, budgets);
     let clocks = age(edge.mask, end - at.tick, young);
     Entry {
-        location: leads_to(bytes, message),
+        location: leads_to(bytes, message, budgets),
         tick: end,
         clocks,
         values,
@@ -399,19 +438,19 @@ pub fn leave(bytes: &[u8], message: u8, end: u32, at: Entry) -> Entry
 }
 
 // Checks 8 and 9: the passage that component c opens as it enters.
-pub fn open(table: &[u8], start: usize, c: u8, at: Entry, index: &[u16]) -> Opening
-    requires { ⌜ Valid (now table) × (c < size (readOf (now table) .table)) × (start ≡ startOf (now table) c) × (at .location < length (componentIn (now table) c .locations)) × Indexed (now table) (now index) c start ⌝ }
+pub fn open(table: &[u8], start: usize, c: u8, at: Entry, index: &[u16], budgets: bool) -> Opening
+    requires { ⌜ Valid (now table) × (c < size (readOf (now table) .table)) × (start ≡ startOf (now table) c) × (at .location < length (componentIn (now table) c .locations)) × Indexed (now table) (now index) c start × (budgets ≡ budgeted (now table)) ⌝ }
     ensures opens { λ r. ⌜ openingOf c (componentIn (now (table .entry)) c) (entryOf at) r ≡ opening c (componentIn (now (table .entry)) c) (entryOf at) ⌝ }
     ensures placed { λ r. ⌜ Placed (now (table .entry)) start c r ⌝ }
 {
-    let found = choose(table, start, c, at, index);
+    let found = choose(table, start, c, at, index, budgets);
     let chosen = found.choice;
     if 65535 < chosen.ready {
         return Opening::Fails(8);
     }
     let place = chosen.place;
     let values = at.values;
-    let after = updates::edge_update(&table[place..], values);
+    let after = updates::edge_update(&table[place..], values, budgets);
     if !after.fits {
         return Opening::Fails(9);
     }

@@ -71,14 +71,14 @@ pub fn update(updates: &[u8], count: u8, values: [i16; 4]) -> Updated
 }
 
 // The updates of the edge at the front of the bytes (only an internal edge has some).
-pub fn edge_update(bytes: &[u8], values: [i16; 4]) -> Updated
-    requires { ⌜ ArcReady (now bytes) ⌝ }
-    ensures { λ r. ⌜ updatedOf r ≡ updated (arcAt (now (bytes .entry)) .updates) values ⌝ }
+pub fn edge_update(bytes: &[u8], values: [i16; 4], budgets: bool) -> Updated
+    requires { ⌜ ArcReady budgets (now bytes) ⌝ }
+    ensures { λ r. ⌜ updatedOf r ≡ updated (arcAt budgets (now (bytes .entry)) .updates) values ⌝ }
 {
-    let action = decoder::action_at(bytes);
+    let action = decoder::action_at(bytes, budgets);
     match action {
         Action::Internal => {
-            let items = decoder::items_place(bytes);
+            let items = decoder::items_place(bytes, budgets);
             update(&bytes[items..], bytes[layout::EDGE_ITEMS], values)
         }
         Action::Send(_) => Updated { fits: true, values },

@@ -58,7 +58,7 @@ pub fn read() -> Vec<(u8, Vec<u8>)> {
     let last = whole.len() - 1;
     let (version, length, components) = (0, 2, 3);
     let tables = vec![
-        (1, with(version, 3)),
+        (1, with(version, 4)),
         (2, with(length, 1)),
         (3, with(components, 9)),
         (4, cut(&whole)),

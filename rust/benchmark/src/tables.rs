@@ -3,6 +3,7 @@
 
 use crate::apart::SPREAD;
 use comparison::random::Random;
+use comparison::tables::budgets::window_lengths;
 use comparison::tables::planned::{table, Lane, Plan, Step, Style};
 use comparison::tables::WORKED_EXAMPLE;
 use reference::calls::largest_spread;
@@ -50,6 +51,11 @@ pub fn rows() -> Vec<Row> {
         Row::new(
             "four pairs at once on four bands",
             &with_passages(at_once(), 1012),
+            1012,
+        ),
+        Row::new(
+            "four pairs, each edge with a budget",
+            &with_passages(budgeted(), 1012),
             1012,
         ),
         Row::new("a long table", &with_passages(longest(), 1024), 1024).of_length(8192),
@@ -155,6 +161,20 @@ fn at_once() -> Table {
     let mut table = pairs(0);
     table.version = 2;
     table.bands = (0..table.channels).collect();
+    table
+}
+
+/// Four pairs in version 3, each edge with a budget as long as its shortest window.
+fn budgeted() -> Table {
+    let mut table = with_passages(pairs(10), 1012);
+    let passages = schedule(&table).expect("the table is accepted");
+    let lengths = window_lengths(&table, &passages);
+    (table.version, table.bands) = (3, vec![0; table.channels.into()]);
+    for (own, lengths) in table.components.iter_mut().zip(lengths) {
+        for (edge, lengths) in own.edges.iter_mut().zip(lengths) {
+            edge.budget = lengths.map_or(0, |(shortest, _)| shortest as u16);
+        }
+    }
     table
 }
 
@@ -328,7 +348,7 @@ mod tests {
     /// Each one is asserted to be what it is said to be.
     #[test]
     fn all_tables_can_be_made() {
-        assert_eq!(rows().len(), 12);
+        assert_eq!(rows().len(), 13);
         assert_eq!(slow_rows().len(), 2);
         assert_eq!(apart_rows().len(), 3);
     }

@@ -68,7 +68,7 @@ impl Layout {
             walk.ones(&vec![MAX_BAND; table.bands.len()]);
         }
         for component in &table.components {
-            walk.component(component, table.channels);
+            walk.component(component, table);
         }
         walk.layout
     }
@@ -114,7 +114,7 @@ impl Walk {
         });
     }
 
-    fn component(&mut self, component: &Component, channels: u8) {
+    fn component(&mut self, component: &Component, table: &Table) {
         let start = self.at;
         self.component = Some(start);
         self.two(*LENGTHS.end() as u16);
@@ -125,7 +125,7 @@ impl Walk {
             self.location(component, start + 2);
         }
         for edge in &component.edges {
-            self.edge(component, edge, channels, start + 6);
+            self.edge(component, edge, table, start + 6);
         }
         self.component = None;
         self.part(3, start);
@@ -139,7 +139,7 @@ impl Walk {
         self.part(count_at, start);
     }
 
-    fn edge(&mut self, component: &Component, edge: &Edge, channels: u8, count_at: usize) {
+    fn edge(&mut self, component: &Component, edge: &Edge, table: &Table, count_at: usize) {
         let start = self.at;
         let location = last(component.locations.len());
         let (data_bounds, items) = match edge.action {
@@ -149,13 +149,16 @@ impl Walk {
         };
         let mask = (1 << component.clocks) - 1;
         self.ones(&[2, location, location, mask, 4, data_bounds, items]);
+        if Table::has_budgets(table.version) {
+            self.two(MAX_TICKS);
+        }
         for _ in edge.clock_bounds.iter() {
             self.clock_bound(component, start + 4);
         }
         for _ in edge.data_bounds.iter() {
             self.data_bound(component, start + 5);
         }
-        self.items(component, &edge.action, channels, start + 6);
+        self.items(component, &edge.action, table.channels, start + 6);
         self.part(count_at, start);
     }
 

@@ -25,7 +25,7 @@ macro_rules! wrong {
 
 /// The classes of runs without stored answers.
 fn of_runs(name: &str) -> bool {
-    name.starts_with("runs ")
+    name.starts_with("runs ") || name == "budgets: runs"
 }
 
 #[test]
@@ -42,6 +42,7 @@ fn the_plain_run_agrees_with_the_second() {
 fn each_fault_is_found() {
     let faults = wrong![
         TieToLastTried WindowOfOneTick LowForgotten HighForgotten DataForgotten
+        BudgetForgotten BudgetOneTickMore BudgetOneTickLess BudgetFromEntry
         FailureForgotten KeptNeverForgotten EntersWhenWorkFinishes ReadyFromWorkOn
         AgesByWindow AgesByReady ZeroForgotten ClocksOf16Bits PairedForgotten
         PairedNeverForgotten PairsRun SleepsShorter ListensShorter TickWhileSleepDue

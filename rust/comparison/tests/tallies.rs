@@ -67,8 +67,9 @@ fn all_paths() -> Paths {
 /// A table for each way in which checks 4 to 9 stop, and one that they accept.
 fn all_places() -> Places {
     Places {
-        places: [[1; 3]; 36],
+        places: [[1; 3]; 38],
         on_bands: 1,
+        with_budgets: 1,
         openings: [1; 12],
         none: 1,
     }
@@ -205,7 +206,7 @@ fn what_was_not_tried_is_told() {
         places: Places::default(),
         ..full.clone()
     };
-    assert_eq!(gaps(&[nowhere], &least(0, 0)).len(), 23 + 50 + 2 + 12 + 2);
+    assert_eq!(gaps(&[nowhere], &least(0, 0)).len(), 25 + 52 + 2 + 12 + 3);
     let no_paths = Tally {
         paths: Paths::default(),
         ..full
@@ -243,7 +244,7 @@ fn a_line_tells_all_answers_that_were_given() {
                 3 table refused; 100 choices, 30 observations, 20 messages, 10 timeouts; \
                 2 with an offset above the spread, 1 together, 3 with something filled in, \
                 8 messages of a sender ahead, 9 behind; \
-                108 places: 4: 36, 5: 69, 6: 3; 12 refused openings: 7: 1, 8: 4 at the start, \
+                114 places: 4: 39, 5: 72, 6: 3; 12 refused openings: 7: 1, 8: 4 at the start, \
                 4 later, 9: 1 at the start, 2 later; 1 with neither; \
                 5 paths: 3 below the horizon, 2 to the horizon, 2 to the middle of a tick, \
                 1 with a window ready while waiting, 1 out and in again in one tick, \

@@ -1,14 +1,16 @@
 //! Reasons that are wrong in one point are found out.
 
 mod finding;
+mod retelling;
 
 use comparison::readers::{refused, second_reasons, Reader, Reasons};
 use comparison::reasons::AMPLE;
 use finding::finder;
 use reference::checks::verdict;
 use reference::edge_choice::Entry;
-use reference::schedule::{window, Passage};
-use reference::table::{Component, Edge, Table};
+use reference::schedule::Passage;
+use reference::table::Table;
+use retelling::{retold, ToldEdge};
 use timed_network::{Told, Verdict, REASON};
 
 /// A class of tables with many edges from few locations.
@@ -26,65 +28,6 @@ fn finds(classes: fn(&str) -> bool, reasons: Reasons) -> bool {
     let second = Reader::second();
     let library = Reader { reasons, ..second };
     finder(classes, library, second).is_some()
-}
-
-/// An edge from the location of a passage, and what it may be told by.
-struct ToldEdge<'a> {
-    component: &'a Component,
-    passage: &'a Passage,
-    edge: &'a Edge,
-    number: u8,
-}
-
-impl ToldEdge<'_> {
-    fn failing(&self) -> Option<usize> {
-        let values = &self.passage.variables;
-        let mut bounds = self.edge.data_bounds.iter();
-        bounds.position(|bound| !bound.holds(values[usize::from(bound.variable)]))
-    }
-
-    /// Ready and end of its window, if it has a tick.
-    fn window(&self) -> Option<(u32, u32)> {
-        let location = &self.component.locations[usize::from(self.passage.location)];
-        let window = window(location, self.edge, &self.passage.clocks)?;
-        let entry = self.passage.entry;
-        Some((entry + window.ready, entry + window.end))
-    }
-
-    fn taken(&self) -> bool {
-        self.number == self.passage.edge
-    }
-}
-
-/// The second implementation's answer with the two bytes behind each edge made anew.
-fn retold(
-    (table, component, tick): (&[u8], u32, u32),
-    told: &mut [u8],
-    bytes: fn(&ToldEdge) -> Option<[u8; 2]>,
-) -> Told {
-    let answer = second_reasons(table, component, tick, told);
-    let Ok((read, passages)) = verdict(table) else {
-        return answer;
-    };
-    if answer.verdict != Verdict::Accepted {
-        return answer;
-    }
-    let passage = &passages[answer.passage as usize];
-    let component = &read.components[component as usize];
-    for told in told.chunks_exact_mut(REASON).take(answer.size) {
-        let number = told[0];
-        let edge = &component.edges[usize::from(number)];
-        let told_edge = ToldEdge {
-            component,
-            passage,
-            edge,
-            number,
-        };
-        if let Some(bytes) = bytes(&told_edge) {
-            told[1..].copy_from_slice(&bytes);
-        }
-    }
-    answer
 }
 
 fn window_before_data(table: &[u8], component: u32, tick: u32, told: &mut [u8]) -> Told {

@@ -27,6 +27,7 @@
 #![warn(missing_docs)]
 
 pub mod apart;
+mod lengths;
 mod log;
 pub mod observed;
 pub mod path;
@@ -106,7 +107,7 @@ impl<'a> Demand<'a> {
         Demand {
             table,
             own: components.map(|c| own(c).collect()).collect(),
-            blocks: table.components.iter().map(walk::block_lengths).collect(),
+            blocks: lengths::blocks(table),
         }
     }
 

@@ -3,6 +3,7 @@
 //! node does goes by its own clock (document 02, wish 6); without offsets that
 //! is the tick.
 
+use crate::lengths::work_length;
 use crate::TICK;
 use reference::schedule::{window, Passage};
 use reference::table::*;
@@ -103,28 +104,6 @@ pub struct Walk<'a> {
     tick: u32,
 }
 
-/// The statements in the block of each location: "per edge from it, 0A trial;
-/// 0C high for the invariant; per clock bound 0B low, and 0C high unless
-/// 65,535; per data bound 0D, 0E (low, high); 0F keep [...]. Last 10 take."
-pub fn block_lengths(component: &Component) -> Vec<u32> {
-    let mut lengths = vec![1; component.locations.len()];
-    for edge in &component.edges {
-        let highs = edge.clock_bounds.iter().filter(|b| b.high.is_some());
-        let bounds = edge.clock_bounds.len() + highs.count() + 2 * edge.data_bounds.len();
-        lengths[usize::from(edge.source)] += 3 + bounds as u32;
-    }
-    lengths
-}
-
-/// "Internal: 01 set or 02 add (a = variable) each, then 03 done. Send: 04
-/// [...]. Receive: 05 listen, [...] then pairs [...] skipped when run."
-fn work_length(action: &Action) -> u32 {
-    match action {
-        Action::Internal(updates) => updates.len() as u32 + 1,
-        Action::Send(_) | Action::Receive(_) => 1,
-    }
-}
-
 impl<'a> Walk<'a> {
     /// "It starts at tick 0, [...] each node at its program's start".
     pub fn new(table: &'a Table, own: &'a [Vec<&'a Passage>], blocks: &'a [Vec<u32>]) -> Walk<'a> {
@@ -212,7 +191,8 @@ impl<'a> Walk<'a> {
         }
     }
 
-    /// Whether there is a candidate behind a node's last passage.
+    /// Whether there is a candidate behind a node's last passage: one with a window of
+    /// a tick's length and that of its budget.
     fn goes_on(&self, node: usize) -> bool {
         let component = &self.table.components[node];
         let Some(last) = self.own[node].last() else {
@@ -229,10 +209,12 @@ impl<'a> Walk<'a> {
         let variables = left.updated(&last.variables).unwrap_or(last.variables);
         let number = left.target(self.nodes[node].message);
         let location = &component.locations[usize::from(number)];
+        let long_enough = |edge: &Edge| {
+            let window = window(location, edge, &clocks);
+            window.is_some_and(|w| w.ready + u32::from(edge.budget.max(1)) <= w.end)
+        };
         component.edges.iter().any(|edge| {
-            edge.source == number
-                && edge.data_bounds_hold(&variables)
-                && window(location, edge, &clocks).is_some_and(|w| w.ready < w.end)
+            edge.source == number && edge.data_bounds_hold(&variables) && long_enough(edge)
         })
     }
 

@@ -78,7 +78,7 @@ impl<'a> Question<'a> {
     fn tell(&self, input: &Input, answer: &Result<Reasons, Refused>, printed: &Printed) -> u8 {
         let status = if answer.is_ok() { 0 } else { REFUSED };
         let words = match (self.form, answer) {
-            (Form::Json, Ok(reasons)) => json::told(self, input, reasons, &printed.ready),
+            (Form::Json, Ok(reasons)) => json::told(self, input, reasons, &printed.windows),
             (Form::Json, Err(refused)) => json::refused(self, refused),
             (_, Ok(reasons)) => [&printed.words[..], &self.line_words(input, reasons)].concat(),
             (_, Err(refused)) => return self.refuse(refused, &printed.words),

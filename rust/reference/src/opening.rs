@@ -53,7 +53,8 @@ pub struct NoCandidate {
     pub leaving: usize,
     /// Those of them with a data bound that fails.
     pub blocked: usize,
-    /// The others that leave it: none has a window with ready < end.
+    /// The others that leave it: none has a window with ready < end that is as long
+    /// as its budget.
     pub windowless: usize,
 }
 
@@ -156,7 +157,7 @@ fn no_candidate(component: &Component, entry: &Entry) -> NoCandidate {
         count.leaving += 1;
         if !edge.data_bounds_hold(&entry.variables) {
             count.blocked += 1;
-        } else if window(location, edge, &entry.clocks).is_none_or(|w| w.ready >= w.end) {
+        } else if window(location, edge, &entry.clocks).is_none_or(|w| !w.is_long_enough(edge)) {
             count.windowless += 1;
         }
     }

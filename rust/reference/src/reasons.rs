@@ -14,7 +14,8 @@ pub enum Reason {
     Taken,
     /// "first data bound that fails", by its number within the edge.
     DataBound(u8),
-    /// "no window of at least one tick's length"
+    /// "no window of at least one tick's length"; "a window shorter than the budget is
+    /// under the window reason" (wish 8).
     NoWindow,
     /// "ready later than the taken one"
     ReadyLater,
@@ -101,7 +102,7 @@ fn reason(component: &Component, passage: &Passage, number: u8, edge: &Edge) -> 
     }
     let location = &component.locations[usize::from(passage.location)];
     let ready = match possible_ticks(location, edge, &passage.clocks) {
-        Some((first, last)) if last > first => passage.entry + first,
+        Some((first, last)) if last > first && has_time(edge, first, last) => passage.entry + first,
         _ => return Reason::NoWindow,
     };
     if ready > passage.ready {
@@ -109,6 +110,13 @@ fn reason(component: &Component, passage: &Passage, number: u8, edge: &Edge) -> 
     }
     assert!(ready == passage.ready && number > passage.edge);
     Reason::HigherNumber
+}
+
+/// Whether the work of an edge that is begun at one tick can be done by another: its
+/// budget of ticks is tried out one after the other.
+fn has_time(edge: &Edge, first: u32, last: u32) -> bool {
+    let mut ticks = first..last;
+    (0..edge.budget).all(|_| ticks.next().is_some())
 }
 
 /// The number of the first data bound that fails. "Data bounds are read with the

@@ -47,6 +47,13 @@ pub struct Window {
     pub end: u32,
 }
 
+impl Window {
+    /// Whether it has "at least one tick's length", and that of an edge's budget.
+    pub fn is_long_enough(&self, edge: &Edge) -> bool {
+        self.ready < self.end && self.end - self.ready >= u32::from(edge.budget)
+    }
+}
+
 /// "For an edge from there, ready is the least tick, entry or later, at which
 /// invariant and clock bounds hold; end is the last such tick." Nothing where
 /// there is no such tick. The clocks are those at entry; as they grow
@@ -189,14 +196,15 @@ fn next_to_close(list: &[Passage], open: &[usize], horizon: u16) -> Option<usize
 }
 
 /// "The edge is a candidate if they hold and ready < end": the window of an
-/// edge from the location entered, if it is one.
+/// edge from the location entered, if it is one. Document 02, wish 8: "An edge is a
+/// candidate only if its window length, end − ready, is also at least the budget".
 pub(crate) fn candidate(component: &Component, edge: &Edge, entry: &Entry) -> Option<Window> {
     let location = component.locations.get(usize::from(entry.location))?;
     if edge.source != entry.location || !edge.data_bounds_hold(&entry.variables) {
         return None;
     }
     let window = window(location, edge, &entry.clocks)?;
-    (window.ready < window.end).then_some(window)
+    window.is_long_enough(edge).then_some(window)
 }
 
 /// "The candidate with the least ready is taken, on a tie the lowest number."

@@ -139,6 +139,6 @@ fn updates_at_the_border() {
 fn damaged_parts_are_decoded_too() {
     assert_eq!(decode(&[]), Vec::<String>::new());
     assert_eq!(decode(&[0, 6, 1, 0, 0, 0]), Vec::<String>::new());
-    let part = [0, 15, 1, 0, 0, 0, 0, 1, 0x10, 0, 0, 0, 0x12, 1, 2, 3, 9];
-    assert_eq!(decode(&part), ["  take", "L0:", "  12010203", "  09"]);
+    let part = [0, 15, 1, 0, 0, 0, 0, 1, 0x10, 0, 0, 0, 0x13, 1, 2, 3, 9];
+    assert_eq!(decode(&part), ["  take", "L0:", "  13010203", "  09"]);
 }

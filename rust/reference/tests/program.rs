@@ -108,7 +108,7 @@ fn all_parts(bytes: &[u8]) -> Vec<(usize, usize)> {
 fn statements_and_their_bytes() {
     for byte in 0..=255 {
         let statement = Statement::from_bytes([byte, 1, 0x80, 2]);
-        assert_eq!(statement.is_some(), byte <= 0x11);
+        assert_eq!(statement.is_some(), byte <= 0x12);
         if let Some(statement) = statement {
             assert_eq!(statement.op as u8, byte);
             assert_eq!(statement.to_bytes(), [byte, 1, 0x80, 2]);

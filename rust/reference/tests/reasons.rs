@@ -68,7 +68,7 @@ fn all_vectors() {
         assert_eq!(given, vector.answer, "{}", vector.name);
         counts[usize::from(given.starts_with("refused"))] += 1;
     }
-    assert_eq!(counts, [113, 44]);
+    assert_eq!(counts, [114, 43]);
 }
 
 /// The worked example: each component has one edge from each location.
@@ -183,7 +183,8 @@ fn agrees(table: &Table, passage: &Passage, told: &[(u8, Reason)]) {
     for (number, reason) in told {
         let edge = &component.edges[usize::from(*number)];
         assert_eq!(edge.source, passage.location);
-        let found = window(location, edge, &passage.clocks).filter(|w| w.ready < w.end);
+        let found = window(location, edge, &passage.clocks);
+        let found = found.filter(|w| w.ready < w.end && w.ready + u32::from(edge.budget) <= w.end);
         let ready = found.map(|window| passage.entry + window.ready);
         let holds = edge.data_bounds_hold(&passage.variables);
         match reason {

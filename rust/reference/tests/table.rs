@@ -68,7 +68,7 @@ fn the_directory_tells_where_the_parts_stand() {
 #[test]
 fn check_1_the_first_byte() {
     assert_eq!(refusal(&[]), Some(refused(1, 255)));
-    for version in [0, 3, 255] {
+    for version in [0, 4, 255] {
         assert_eq!(refusal(&with(0, version)), Some(refused(1, 255)));
     }
 }

@@ -8,6 +8,7 @@ use reference::calls;
 use reference::checks::verdict;
 use reference::edge_choice::Entry;
 use reference::plan::Slots;
+use reference::reasons::reasons;
 use reference::run::OBSERVATION;
 use reference::schedule;
 use reference::table::Refusal;
@@ -24,6 +25,9 @@ fn answer(request: &[String]) -> Result<String, Refusal> {
         ("part", [node]) => Ok(hex(calls::part(&bytes, node.parse().unwrap()))),
         ("run", [choices]) => run_answer(&bytes, &unhex(choices)),
         ("looked", []) => looked_answer(&bytes),
+        ("why", [component, tick]) => {
+            why_answer(&bytes, component.parse().unwrap(), tick.parse().unwrap())
+        }
         ("place", []) => Ok(or_none(calls::refusal_place(&bytes))),
         ("opening", []) => Ok(or_none(calls::refused_opening(&bytes))),
         ("chart", []) => chart_answer(&bytes, 552),
@@ -91,6 +95,28 @@ fn looked_answer(bytes: &[u8]) -> Result<String, Refusal> {
     Ok(numbers.join(" "))
 }
 
+/// The passage, then each edge with its reason; what is written into lent bytes must
+/// agree.
+fn why_answer(bytes: &[u8], component: u32, tick: u32) -> Result<String, Refusal> {
+    let (table, passages) = verdict(bytes)?;
+    let reasons = reasons(&table, &passages, component, tick)?;
+    let mut lent = [0; 96];
+    let told = calls::reasons(bytes, component, tick, &mut lent)?;
+    assert_eq!(
+        (told.passage, told.size),
+        (reasons.passage, reasons.edges.len())
+    );
+    let mut words = reasons.passage.to_string();
+    for (written, (edge, reason)) in lent.chunks(calls::REASON).zip(&reasons.edges) {
+        assert_eq!(
+            (written[0], [written[1], written[2]]),
+            (*edge, reason.bytes())
+        );
+        words += &format!("|{edge} {reason}");
+    }
+    Ok(words)
+}
+
 /// The rows without their line feeds, `|` between them.
 fn chart_answer(bytes: &[u8], lent: usize) -> Result<String, Refusal> {
     let mut chart = vec![0; lent];
@@ -139,5 +165,5 @@ fn all_vectors() {
     }
     println!("{counts:?}");
     assert!(wrong.is_empty(), "{}", wrong.join("\n"));
-    assert!(counts.len() == 10);
+    assert!(counts.len() == 11);
 }

@@ -1,4 +1,4 @@
-//! Bytes to text, for a table of version 1 or 2 whose parts all fit.
+//! Bytes to text, for a table of version 1, 2 or 3 whose parts all fit.
 //!
 //! Ranges are not tried: a number out of range is written as it is. What the
 //! text could not say without stated counts or raw bytes is an error.
@@ -26,14 +26,64 @@ pub fn decode(bytes: &[u8]) -> Result<String, DecodeError> {
     let mut cursor = Cursor::new(bytes, 0);
     let mut text = String::new();
     let components = decode_header(&mut cursor, bytes.len(), &mut text)?;
+    let mut budgets = Budgets::of(bytes);
     for number in 0..components {
         let mut inside = component_part(&mut cursor)?;
         text += &format!("component  # {number}\n");
-        decode_component(&mut inside, &mut text)?;
+        decode_component(&mut inside, &mut budgets, &mut text)?;
         inside.expect_end("the component's last part")?;
     }
     cursor.expect_end("the last component")?;
+    budgets.say_version(&mut text);
     Ok(text)
+}
+
+/// The budgets of a table's edges: 0 is said by no line, unless all are.
+struct Budgets {
+    /// Whether the version has them.
+    present: bool,
+    /// Where the lines inside the first edge begin in the text.
+    first_edge: Option<usize>,
+    /// Whether one is said.
+    said: bool,
+}
+
+impl Budgets {
+    fn of(bytes: &[u8]) -> Budgets {
+        Budgets {
+            present: bytes.first().is_some_and(|version| *version >= 3),
+            first_edge: None,
+            said: false,
+        }
+    }
+
+    /// The budget behind an edge's 7 bytes, 0 in a version that has none.
+    fn read(&self, cursor: &mut Cursor) -> Result<u16, DecodeError> {
+        match self.present {
+            true => cursor.word("an edge's budget"),
+            false => Ok(0),
+        }
+    }
+
+    /// Writes the line of a budget behind that of its edge.
+    fn say(&mut self, budget: u16, text: &mut String) {
+        self.first_edge.get_or_insert(text.len());
+        if budget > 0 {
+            *text += &format!("    budget {budget}\n");
+            self.said = true;
+        }
+    }
+
+    /// Where no line makes the table one of version 3, the first edge's budget does,
+    /// or without an edge the version.
+    fn say_version(&self, text: &mut String) {
+        if self.present && !self.said {
+            match self.first_edge {
+                Some(place) => text.insert_str(place, "    budget 0\n"),
+                None => text.insert_str(0, "version 3\n"),
+            }
+        }
+    }
 }
 
 /// Writes the header's lines and answers the number of components.
@@ -44,8 +94,8 @@ fn decode_header(
 ) -> Result<u8, DecodeError> {
     let start = cursor.clone();
     let version = cursor.byte("the version")?;
-    if !(1..=2).contains(&version) {
-        return Err(start.error("only tables of version 1 or 2 are read"));
+    if !(1..=3).contains(&version) {
+        return Err(start.error("only tables of version 1, 2 or 3 are read"));
     }
     let length = cursor.word("the total length")?;
     if usize::from(length) != handed_in {
@@ -82,7 +132,11 @@ fn component_part<'a>(cursor: &mut Cursor<'a>) -> Result<Cursor<'a>, DecodeError
     Ok(Cursor::new(cursor.take(rest, "a component")?, offset))
 }
 
-fn decode_component(cursor: &mut Cursor, text: &mut String) -> Result<(), DecodeError> {
+fn decode_component(
+    cursor: &mut Cursor,
+    budgets: &mut Budgets,
+    text: &mut String,
+) -> Result<(), DecodeError> {
     let locations = cursor.byte("the number of locations")?;
     let initial = cursor.byte("the initial location")?;
     let clocks = cursor.byte("the number of clocks")?;
@@ -95,7 +149,7 @@ fn decode_component(cursor: &mut Cursor, text: &mut String) -> Result<(), Decode
         *text += &format!("  location x{clock} <= {bound}  # {number}\n");
     }
     for number in 0..edges {
-        decode_edge(number, cursor, text)?;
+        decode_edge(number, cursor, budgets, text)?;
     }
     Ok(())
 }
@@ -123,9 +177,15 @@ fn edge_head(cursor: &mut Cursor) -> Result<EdgeHead, DecodeError> {
     })
 }
 
-fn decode_edge(number: u8, cursor: &mut Cursor, text: &mut String) -> Result<(), DecodeError> {
+fn decode_edge(
+    number: u8,
+    cursor: &mut Cursor,
+    budgets: &mut Budgets,
+    text: &mut String,
+) -> Result<(), DecodeError> {
     let start = cursor.clone();
     let head = edge_head(cursor)?;
+    let budget = budgets.read(cursor)?;
     let guards = guard_lines(&head, cursor)?;
     let resets = reset_line(head.reset_mask);
     let (name, channel, items) = match head.kind {
@@ -144,6 +204,7 @@ fn decode_edge(number: u8, cursor: &mut Cursor, text: &mut String) -> Result<(),
         ..
     } = head;
     *text += &format!("  {name} {source} -> {destination}{channel}  # {number}\n");
+    budgets.say(budget, text);
     *text += &(guards + &resets + &items);
     Ok(())
 }

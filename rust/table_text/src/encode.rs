@@ -6,16 +6,18 @@
 //!
 //! With each byte goes the line that it comes from: the one that states it; for
 //! a number that none states that of its block, `component` or edge, and for
-//! one of the header line 1.
+//! one of the header line 1. Bands that none states come from `channels`.
 
 use crate::source::{
     ComponentPart, ComponentSource, EdgePart, EdgeSource, Said, TablePart, TableSource,
 };
 use crate::SourceError;
 
-/// The version of a table without bands, and of one with them.
+/// The version of a table without bands, of one with them, and of one with budgets
+/// too.
 const PLAIN: u8 = 1;
 const BANDED: u8 = 2;
+const BUDGETED: u8 = 3;
 /// Bytes of the header, and of the head of a component.
 const HEADER: usize = 7;
 const COMPONENT_HEAD: usize = 7;
@@ -79,7 +81,11 @@ fn header(table: &TableSource, length: usize) -> Result<Encoded, SourceError> {
     let in_header = Block(FIRST_LINE);
     let length = in_header.stated(table.length, length, "length")?;
     let horizon = in_header.required(table.horizon, "horizon")?;
-    let version = if table.bands.is_some() { BANDED } else { PLAIN };
+    let version = match (table.has_budgets(), &table.bands) {
+        (true, _) => BUDGETED,
+        (false, Some(_)) => BANDED,
+        (false, None) => PLAIN,
+    };
     let mut encoded = Encoded::default();
     encoded.put_byte(in_header.or(table.version, version));
     encoded.put_word(length);
@@ -90,14 +96,19 @@ fn header(table: &TableSource, length: usize) -> Result<Encoded, SourceError> {
 }
 
 fn table_body(table: &TableSource) -> Result<Encoded, SourceError> {
+    let budgets = table.has_budgets();
     let mut encoded = Encoded::default();
-    if let Some(bands) = &table.bands {
-        encoded.put(bands.line, &bands.what);
+    match (&table.bands, table.channels) {
+        (Some(bands), _) => encoded.put(bands.line, &bands.what),
+        (None, Some(channels)) if budgets => {
+            encoded.put(channels.line, &vec![0; channels.what.into()]);
+        }
+        (None, _) => {}
     }
     for part in &table.parts {
         match &part.what {
             TablePart::Component(component) => {
-                encoded.append(encode_component(part.line, component)?);
+                encoded.append(encode_component(part.line, component, budgets)?);
             }
             TablePart::Bytes(raw) => encoded.put(part.line, raw),
         }
@@ -117,8 +128,12 @@ fn cut_end(table: &TableSource, bytes: &mut Vec<u8>) -> Result<(), SourceError> 
     Ok(())
 }
 
-fn encode_component(line: usize, component: &ComponentSource) -> Result<Encoded, SourceError> {
-    let body = component_body(component)?;
+fn encode_component(
+    line: usize,
+    component: &ComponentSource,
+    budgets: bool,
+) -> Result<Encoded, SourceError> {
+    let body = component_body(component, budgets)?;
     let length = COMPONENT_HEAD + body.bytes.len();
     let mut encoded = component_head(Block(line), component, length)?;
     encoded.append(body);
@@ -146,7 +161,7 @@ fn component_head(
     Ok(encoded)
 }
 
-fn component_body(component: &ComponentSource) -> Result<Encoded, SourceError> {
+fn component_body(component: &ComponentSource, budgets: bool) -> Result<Encoded, SourceError> {
     let mut encoded = Encoded::default();
     for part in &component.parts {
         match &part.what {
@@ -157,15 +172,19 @@ fn component_body(component: &ComponentSource) -> Result<Encoded, SourceError> {
                 let [high, low] = invariant_bound.to_be_bytes();
                 encoded.put(part.line, &[*invariant_clock, high, low]);
             }
-            ComponentPart::Edge(edge) => encoded.append(encode_edge(part.line, edge)?),
+            ComponentPart::Edge(edge) => encoded.append(encode_edge(part.line, edge, budgets)?),
             ComponentPart::Bytes(raw) => encoded.put(part.line, raw),
         }
     }
     Ok(encoded)
 }
 
-fn encode_edge(line: usize, edge: &EdgeSource) -> Result<Encoded, SourceError> {
+/// An edge; where edges have budgets, one that no line states is 0.
+fn encode_edge(line: usize, edge: &EdgeSource, budgets: bool) -> Result<Encoded, SourceError> {
     let mut encoded = edge_head(Block(line), edge)?;
+    if budgets && !edge.has_budget() {
+        encoded.put(line, &[0, 0]);
+    }
     for part in &edge.parts {
         encoded.put(part.line, &edge_part(&part.what));
     }
@@ -210,6 +229,7 @@ fn is_item(part: &EdgePart) -> bool {
 
 fn edge_part(part: &EdgePart) -> Vec<u8> {
     match part {
+        EdgePart::Budget(budget) => budget.to_be_bytes().to_vec(),
         EdgePart::ClockGuard { clock, low, high } => {
             let (low, high) = (low.to_be_bytes(), high.to_be_bytes());
             [&[*clock], &low[..], &high[..]].concat()

@@ -38,11 +38,11 @@ impl Kind {
 /// So many bytes at the front tell a text from something else.
 const LOOKED_AT: usize = 16;
 /// The last op of a statement.
-const LAST_OP: u8 = 17;
+const LAST_OP: u8 = 18;
 
 /// The kind of some bytes.
 pub fn kind(bytes: &[u8]) -> Kind {
-    let versioned = matches!(bytes.first(), Some(1..=2));
+    let versioned = matches!(bytes.first(), Some(1..=3));
     if versioned && is_table(bytes) {
         Kind::Table
     } else if versioned && is_program(bytes) {

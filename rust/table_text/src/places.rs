@@ -3,11 +3,12 @@
 
 use crate::kind::word;
 
-/// Bytes of the header, of the head of a component and of an edge, of a
-/// location, of a bound, and of an update.
+/// Bytes of the header, of the head of a component and of an edge, of a budget, of
+/// a location, of a bound, and of an update.
 const HEADER: usize = 7;
 const COMPONENT_HEAD: usize = 7;
 const EDGE_HEAD: usize = 7;
+const BUDGET: usize = 2;
 const LOCATION: usize = 3;
 const BOUND: usize = 5;
 const UPDATE: usize = 4;
@@ -48,7 +49,8 @@ pub fn edge_start(table: &[u8], component: u8, edge: u8) -> Option<usize> {
 /// Where the items of the edge that starts there begin.
 fn items_start(table: &[u8], edge: usize) -> Option<usize> {
     let bounds = byte(table, edge + 4)? + byte(table, edge + 5)?;
-    Some(edge + EDGE_HEAD + BOUND * bounds)
+    let budget = if byte(table, 0)? < 3 { 0 } else { BUDGET };
+    Some(edge + EDGE_HEAD + budget + BOUND * bounds)
 }
 
 fn byte(table: &[u8], place: usize) -> Option<usize> {

@@ -19,7 +19,7 @@ pub struct TableSource {
     pub components: Option<Said<u8>>,
     pub channels: Option<Said<u8>>,
     pub horizon: Option<Said<u16>>,
-    /// The bytes behind the header in version 2, as many as the line lists.
+    /// The bytes behind the header from version 2 on, as many as the line lists.
     pub bands: Option<Said<Vec<u8>>>,
     pub parts: Vec<Said<TablePart>>,
     /// Bytes dropped from the end of the whole table.
@@ -62,6 +62,33 @@ pub enum EdgeKind {
     Receive = 2,
 }
 
+impl TableSource {
+    /// Whether a line states a budget, so that each edge has one.
+    pub fn has_budgets(&self) -> bool {
+        self.parts.iter().any(|part| match &part.what {
+            TablePart::Component(component) => component.has_budgets(),
+            TablePart::Bytes(_) => false,
+        })
+    }
+}
+
+impl ComponentSource {
+    fn has_budgets(&self) -> bool {
+        self.parts.iter().any(|part| match &part.what {
+            ComponentPart::Edge(edge) => edge.has_budget(),
+            ComponentPart::Location { .. } | ComponentPart::Bytes(_) => false,
+        })
+    }
+}
+
+impl EdgeSource {
+    /// Whether a line states its budget.
+    pub fn has_budget(&self) -> bool {
+        let is_budget = |part: &EdgePart| matches!(part, EdgePart::Budget(_));
+        self.parts.iter().any(|part| is_budget(&part.what))
+    }
+}
+
 /// One edge line with what is indented under it.
 #[derive(Debug, Clone, PartialEq, Eq)]
 pub struct EdgeSource {
@@ -81,6 +108,7 @@ pub struct EdgeSource {
 /// What follows an edge's 7 bytes. A guard is a "bound" in document 01.
 #[derive(Debug, Clone, PartialEq, Eq)]
 pub enum EdgePart {
+    Budget(u16),
     ClockGuard { clock: u8, low: u16, high: u16 },
     DataGuard { variable: u8, low: i16, high: i16 },
     Update { variable: u8, op: u8, number: i16 },

@@ -55,6 +55,52 @@ fn bands_stand_behind_the_header_and_make_version_2() {
 }
 
 #[test]
+fn a_budget_makes_version_3_with_one_for_each_edge() {
+    let edges = "  internal 0 -> 1\n    budget 258\n    when x0 from 1\n  send 0 -> 0 on 0\n";
+    let first = [0, 0, 1, 0, 1, 0, 0, 1, 2, 0, 0, 1, 255, 255];
+    let second = [1, 0, 0, 0, 0, 0, 1, 0, 0, 0];
+    let head = "horizon 1\nchannels 1\ncomponent\n  clocks 4\n  variables 3\n  initial 2\n";
+    let bytes = encode(&format!("{head}{edges}")).unwrap();
+    assert_eq!(
+        bytes[..8],
+        [3, 0, 39, 1, 1, 0, 1, 0],
+        "all channels on band 0"
+    );
+    assert_eq!(bytes[15..], [&first[..], &second].concat());
+    let banded = encode(&format!("bands 2\n{head}{edges}")).unwrap();
+    assert_eq!((banded[7], &banded[8..]), (2, &bytes[8..]));
+    let fewer = encode(&format!("bands\n{head}{edges}")).unwrap();
+    assert_eq!(
+        fewer[..8],
+        [3, 0, 38, 1, 1, 0, 1, 0],
+        "as many as are listed"
+    );
+    assert_eq!(fewer[7..], bytes[8..]);
+    let stated = encode(&format!("version 1\n{head}{edges}")).unwrap();
+    assert_eq!((stated[0], &stated[1..]), (1, &bytes[1..]));
+    let zero = encode(&format!("{head}  internal 0 -> 1\n    budget 0\n")).unwrap();
+    assert_eq!(zero[15..], [0, 0, 1, 0, 0, 0, 0, 0, 0]);
+}
+
+#[test]
+fn version_3_stated_alone_writes_no_band_and_no_budget() {
+    let edge = "  internal 0 -> 1\n    when x0 from 1\n";
+    let head = "horizon 1\nchannels 1\ncomponent\n  clocks 4\n  variables 3\n  initial 2\n";
+    let plain = encode(&format!("{head}{edge}")).unwrap();
+    let stated = encode(&format!("version 3\n{head}{edge}")).unwrap();
+    assert_eq!((stated[0], &stated[1..]), (3, &plain[1..]));
+}
+
+#[test]
+fn the_channel_of_a_send_follows_its_budget() {
+    let component = "component\n  clocks 1\n  variables 0\n  initial 0\n";
+    let edge = "  send 0 -> 1 on 9\n    bytes aa\n    budget 5\n    bytes bb\n";
+    let text = format!("horizon 1\nchannels 0\n{component}{edge}");
+    let bytes = [1, 0, 1, 0, 0, 0, 1, 0xaa, 0, 5, 9, 0xbb];
+    assert_eq!(encode(&text).unwrap()[14..], bytes);
+}
+
+#[test]
 fn bytes_of_the_table_count_in_its_length_alone() {
     let bytes = header_of("bytes 0a ff\n");
     assert_eq!(bytes, [1, 0, 9, 0, 3, 1, 2, 10, 255]);

@@ -22,7 +22,7 @@ fn stored(ending: &str) -> Vec<(PathBuf, Vec<u8>)> {
 fn vectors() -> Vec<(String, String)> {
     let folder = corpus_folder().join("../vectors");
     let mut cases = Vec::new();
-    for name in ["named.tsv", "random.tsv", "bands.tsv"] {
+    for name in ["named.tsv", "random.tsv", "bands.tsv", "budgets.tsv"] {
         let text = fs::read_to_string(folder.join(name)).unwrap();
         let case = |line: &str| {
             let mut words = line.split('\t').skip(1);
@@ -121,7 +121,7 @@ fn what_is_damaged_is_no_program_any_more() {
     assert_eq!(kind(&longer), Kind::Other);
     assert_eq!(kind(&program[..program.len() - 1]), Kind::Other);
     // A start, an op, the zero byte, the count of edges.
-    for (place, byte) in [(13, 1), (program.len() - 4, 18), (11, 1), (9, 0)] {
+    for (place, byte) in [(13, 1), (program.len() - 4, 19), (11, 1), (9, 0)] {
         let mut damaged = program.clone();
         damaged[place] = byte;
         assert_eq!(kind(&damaged), Kind::Other, "{place}");
@@ -158,6 +158,7 @@ fn first_bytes() {
     for damaged in [
         &b"\x01"[..],
         b"\x02",
+        b"\x03",
         b"\x01horizon",
         b"\x02\x00\x07\x01\x00\x00\x01",
         b"\xff\xff\xff",

@@ -164,6 +164,16 @@ fn places_of_the_worked_example() {
     let banded = encode(&format!("bands 0\n{CELLAR}")).unwrap();
     assert_eq!(location_start(&banded, 1, 2), Some(59));
     assert_eq!(update_start(&banded, 1, 1, 0), Some(88));
+    let budgeted = CELLAR.replace("    when x0 from 2\n", "    budget 4\n    when x0 from 2\n");
+    let budgeted = encode_with_lines(&budgeted).unwrap();
+    let table = &budgeted.bytes;
+    // One band, then two budgets of the probe and two of the hub.
+    assert_eq!((table.len(), location_start(table, 1, 2)), (114, Some(63)));
+    assert_eq!(update_start(table, 1, 1, 0), Some(96));
+    // The band, the budget that is stated and one that is not.
+    let lines = [7, 73, 74, 89, 90].map(|place| budgeted.line_of(place));
+    assert_eq!(lines, [2, 24, 24, 27, 27].map(Some));
+    let table = encode(CELLAR).unwrap();
     for short in [0, 4, 7, 46, 75] {
         assert_eq!(update_start(&table[..short], 1, 1, 0), None, "{short}");
     }

@@ -50,7 +50,7 @@ impl Draws {
     }
 }
 
-fn drawn_edge(draws: &mut Draws) -> Vec<u8> {
+fn drawn_edge(draws: &mut Draws, version: u8) -> Vec<u8> {
     let kind = draws.below(3);
     let clock_guards = draws.below(5);
     let data_guards = draws.below(5);
@@ -59,12 +59,17 @@ fn drawn_edge(draws: &mut Draws) -> Vec<u8> {
     let mut bytes = vec![kind];
     draws.fill(&mut bytes, 3);
     bytes.extend([clock_guards, data_guards, items]);
+    match version {
+        3 if draws.below(2) == 0 => draws.fill(&mut bytes, 2),
+        3 => bytes.extend([0, 0]),
+        _ => {}
+    }
     let guards = 5 * usize::from(clock_guards + data_guards);
     draws.fill(&mut bytes, guards + item_length * usize::from(items));
     bytes
 }
 
-fn drawn_component(draws: &mut Draws) -> Vec<u8> {
+fn drawn_component(draws: &mut Draws, version: u8) -> Vec<u8> {
     let locations = draws.below(6);
     let edges = draws.below(9);
     let mut body = vec![locations];
@@ -72,7 +77,7 @@ fn drawn_component(draws: &mut Draws) -> Vec<u8> {
     body.push(edges);
     draws.fill(&mut body, 3 * usize::from(locations));
     for _ in 0..edges {
-        body.extend(drawn_edge(draws));
+        body.extend(drawn_edge(draws, version));
     }
     let mut bytes = u16::try_from(body.len() + 2)
         .unwrap()
@@ -84,16 +89,16 @@ fn drawn_component(draws: &mut Draws) -> Vec<u8> {
 
 /// A table whose parts fit, with numbers of any size in them.
 fn drawn_table(draws: &mut Draws) -> Vec<u8> {
-    let version = 1 + draws.below(2);
+    let version = 1 + draws.below(3);
     let components = draws.below(9);
     let channels = draws.below(256);
     let mut body = vec![components, channels];
     draws.fill(&mut body, 2);
-    if version == 2 {
+    if version >= 2 {
         draws.fill(&mut body, channels.into());
     }
     for _ in 0..components {
-        body.extend(drawn_component(draws));
+        body.extend(drawn_component(draws, version));
     }
     let mut bytes = vec![version];
     bytes.extend(u16::try_from(body.len() + 3).unwrap().to_be_bytes());
@@ -127,7 +132,8 @@ fn drawn_tables_with_one_byte_changed() {
 fn what_does_not_decode_says_where() {
     let say = |bytes: &[u8]| decode(bytes).unwrap_err().to_string();
     assert_eq!(say(&[]), "byte 0: the version does not fit");
-    assert_eq!(say(&[3]), "byte 0: only tables of version 1 or 2 are read");
+    let version = "byte 0: only tables of version 1, 2 or 3 are read";
+    assert_eq!(say(&[4]), version);
     let band = "byte 8: a channel's band does not fit";
     assert_eq!(say(&[2, 0, 8, 1, 2, 0, 9, 3]), band);
     let length = "byte 0: the stated length is 8, the table has 7 bytes";
@@ -138,4 +144,8 @@ fn what_does_not_decode_says_where() {
         1, 0, 21, 1, 0, 0, 9, 0, 14, 0, 0, 1, 0, 1, 3, 0, 0, 0, 0, 0, 0,
     ];
     assert_eq!(say(&kind), "byte 14: an edge's kind must be 0, 1 or 2");
+    let budget = [
+        3, 0, 22, 1, 0, 0, 9, 0, 15, 0, 0, 1, 0, 1, 0, 0, 0, 0, 0, 0, 0, 0,
+    ];
+    assert_eq!(say(&budget), "byte 21: an edge's budget does not fit");
 }

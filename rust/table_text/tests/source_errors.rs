@@ -58,6 +58,12 @@ fn lines_of_another_form() {
         inside("  receive 0 -> 1 on 0\n"),
         "line 7: write: receive N -> N"
     );
+    let place = "line 7: 'budget' stands inside an edge, with 4 spaces before it";
+    assert_eq!(inside("  budget 3\n"), place);
+    let write = "line 8: write: budget N";
+    assert_eq!(in_edge("internal 0 -> 0", "    budget\n"), write);
+    let large = "line 8: 65536 does not fit a field of 2 bytes (0 to 65535)";
+    assert_eq!(in_edge("internal 0 -> 0", "    budget 65536\n"), large);
     let reset = "line 8: write: reset x0, or: reset x0 x1";
     assert_eq!(in_edge("internal 0 -> 0", "    reset\n"), reset);
 }
@@ -108,6 +114,9 @@ fn said_twice() {
     assert_eq!(say("horizon 5\nhorizon 5\n"), format!("line 2: {twice}"));
     assert_eq!(say("cut 1\ncut 1\n"), format!("line 2: {twice}"));
     assert_eq!(inside("  clocks 2\n"), format!("line 7: {twice}"));
+    let budget = "line 9: the budget is stated a second time";
+    let lines = "    budget 1\n    budget 1\n";
+    assert_eq!(in_edge("internal 0 -> 0", lines), budget);
     let reset = "line 8: x0 is reset a second time";
     assert_eq!(in_edge("internal 0 -> 0", "    reset x0 x0\n"), reset);
 }
@@ -116,10 +125,12 @@ fn said_twice() {
 fn order_and_kind() {
     let location = "line 8: a location after an edge; the table has all locations first";
     assert_eq!(in_edge("internal 0 -> 0", "  location x0 <= 5\n"), location);
-    let order = "line 9: out of order: first 'when', then 'data', then the items";
+    let order = "line 9: out of order: first 'budget', then 'when', then 'data', then the items";
     let lines = "    data v0 from 0 to 1\n    when x0 from 2\n";
     assert_eq!(in_edge("internal 0 -> 0", lines), order);
     let lines = "    set v0 1\n    data v0 from 0 to 1\n";
+    assert_eq!(in_edge("internal 0 -> 0", lines), order);
+    let lines = "    when x0 from 2\n    budget 1\n";
     assert_eq!(in_edge("internal 0 -> 0", lines), order);
     let update = "line 8: updates belong to internal edges";
     assert_eq!(in_edge("send 0 -> 0 on 0", "    set v0 1\n"), update);

@@ -55,6 +55,9 @@ pub const NO_MESSAGE: u32 = 255;
 /// cells and a line feed.
 pub const CHART_ROW: usize = 69;
 
+/// The most ticks that the budget of an edge has.
+pub const MAX_BUDGET: u16 = 60_000;
+
 /// The most bytes that the table of a plan has.
 pub const MAX_PLAN: usize = 414;
 

@@ -32,11 +32,13 @@ pub enum Part {
     ComponentEnd = 10,
     /// 11: what is left over behind the last component.
     TableEnd = 11,
+    /// 12: the budget of an edge in version 3, 2 bytes.
+    Budget = 12,
 }
 
 impl Part {
     /// All parts, in the order of their numbers, which start with 1.
-    pub const ALL: [Part; 11] = [
+    pub const ALL: [Part; 12] = [
         Part::ComponentLength,
         Part::ComponentHead,
         Part::Location,
@@ -48,9 +50,10 @@ impl Part {
         Part::Pair,
         Part::ComponentEnd,
         Part::TableEnd,
+        Part::Budget,
     ];
 
-    /// Its number, 1 to 11.
+    /// Its number, 1 to 12.
     pub fn number(self) -> u8 {
         self as u8
     }
@@ -80,6 +83,7 @@ impl fmt::Display for Part {
             Part::Pair => "pair",
             Part::ComponentEnd => "component's end",
             Part::TableEnd => "table's end",
+            Part::Budget => "budget",
         })
     }
 }
@@ -171,7 +175,8 @@ pub struct RefusedOpening {
     pub leaving: u8,
     /// Of how many of them a data bound fails.
     pub blocked: u8,
-    /// How many others have no window of at least one tick's length.
+    /// How many others have no window of at least one tick's length, or one that is
+    /// shorter than their budget.
     pub windowless: u8,
     /// With 9, the edge taken and the number, counted from 0, of its first
     /// update that leaves -32,768 to 32,767.

@@ -30,7 +30,8 @@ pub enum Reason {
     Taken,
     /// 1: a data bound fails, the first of them by its number within the edge.
     DataBound(u8),
-    /// 2: it has no window of at least one tick's length.
+    /// 2: it has no window of at least one tick's length, or one that is shorter than
+    /// its budget.
     NoWindow,
     /// 3: it is ready later than the edge taken.
     ReadyLater,
@@ -81,7 +82,7 @@ impl fmt::Display for Reason {
         match self {
             Reason::Taken => out.pad("taken"),
             Reason::DataBound(bound) => out.pad(&format!("data bound {bound} fails")),
-            Reason::NoWindow => out.pad("no window of at least one tick"),
+            Reason::NoWindow => out.pad("no window of at least one tick, or of its budget"),
             Reason::ReadyLater => out.pad("ready later"),
             Reason::HigherNumber => out.pad("ready together, numbered higher"),
         }

@@ -33,13 +33,14 @@ pub enum Refusal {
     Header = 3,
     /// 4: a part does not fit its component, or bytes are left over.
     Layout = 4,
-    /// 5: a number is out of its range.
+    /// 5: a number, or a budget, is out of its range.
     Range = 5,
     /// 6: a receive edge lists a channel twice.
     ChannelTwice = 6,
     /// 7: there are more than 1,024 passages up to the horizon.
     Passages = 7,
-    /// 8: a passage opens and no edge is a candidate.
+    /// 8: a passage opens and no edge is a candidate; it may be that every window is
+    /// shorter than its budget.
     NoEdge = 8,
     /// 9: an update leaves its range.
     Update = 9,
@@ -72,14 +73,14 @@ pub enum Refusal {
 
 /// The question of each refusal, in the order of their numbers.
 const QUESTIONS: [&str; 21] = [
-    "Is the first byte 1 or 2?",
+    "Is the first byte 1, 2 or 3?",
     "Is the stated length the length handed in, from 7 to 8,192?",
     "Are components, channels, horizon and bands in range?",
     "Does each part fit its component and end exactly there?",
     "Is every number in its range and every mask bit a clock?",
     "Does no receive edge list a channel twice?",
     "Are there at most 1,024 passages up to the horizon?",
-    "Has the location entered an edge with a window of one tick's length?",
+    "Is there an edge with a window of a tick's length, no shorter than its budget?",
     "Does each update of the edge taken stay in range?",
     "Do no two send windows of different components on one band share a tick?",
     "Does a receive window on its channel share a tick with the send window?",
@@ -169,7 +170,7 @@ impl Error for UnknownNumber {}
 ///
 /// let refused = passages(&[]).unwrap_err();
 /// assert_eq!((refused.refusal, refused.component), (Refusal::Version, None));
-/// let words = "refused 1 255: the answer is no: Is the first byte 1 or 2?";
+/// let words = "refused 1 255: the answer is no: Is the first byte 1, 2 or 3?";
 /// assert_eq!(refused.to_string(), words);
 /// assert_eq!(Verdict::from(refused).to_string(), "refused 1 255");
 /// ```
@@ -242,7 +243,7 @@ impl Verdict {
     /// fn is_accepted(table: &[u8]) -> Result<(), Refused> {
     ///     check(table).into_result()
     /// }
-    /// let words = "refused 1 255: the answer is no: Is the first byte 1 or 2?";
+    /// let words = "refused 1 255: the answer is no: Is the first byte 1, 2 or 3?";
     /// assert_eq!(is_accepted(&[]).unwrap_err().to_string(), words);
     /// ```
     pub fn into_result(self) -> Result<(), Refused> {

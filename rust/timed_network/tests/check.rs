@@ -3,7 +3,7 @@
 mod common;
 
 use common::*;
-use timed_network::{check, Verdict};
+use timed_network::{check, refusal_place, refused_opening, Part, Verdict, MAX_BUDGET};
 
 #[test]
 fn the_worked_example_is_accepted() {
@@ -17,7 +17,7 @@ fn the_empty_table_is_refused() {
 
 #[test]
 fn a_refusal_gives_its_number_and_its_component() {
-    assert_eq!(check(&with(0, 3)), refused(1, 255));
+    assert_eq!(check(&with(0, 4)), refused(1, 255));
     assert_eq!(check(&PROBE_AND_HUB[..102]), refused(2, 255));
     assert_eq!(check(&with(6, 0)), refused(3, 255));
     assert_eq!(check(&with(8, 37)), refused(4, 0));
@@ -39,6 +39,37 @@ fn version_2_has_a_band_for_each_channel_behind_the_header() {
     assert_eq!(check(&on_band(4)), refused(3, 255));
     assert_eq!(check(&[2, 0, 7, 1, 1, 0, 20]), refused(3, 255));
     assert_eq!(check(&with(0, 2)), refused(4, 0));
+}
+
+/// A valve with the invariant x0 ≤ 10 and one edge, whose work needs so many ticks.
+#[test]
+fn version_3_has_a_budget_behind_each_edge_s_seven_bytes() {
+    let valve = |budget: u16| {
+        let mut table = vec![3, 0, 26, 1, 0, 0, 30, 0, 19, 1, 0, 1, 0, 1, 0, 0, 10];
+        table.extend([0, 0, 0, 1, 0, 0, 0]);
+        table.extend(budget.to_be_bytes());
+        table
+    };
+    for budget in [0, 1, 9, 10] {
+        assert_eq!(check(&valve(budget)), Verdict::Accepted, "{budget}");
+    }
+    for budget in [11, 59_999, MAX_BUDGET] {
+        assert_eq!(check(&valve(budget)), refused(8, 0), "{budget}");
+    }
+    for budget in [MAX_BUDGET + 1, 65_535] {
+        assert_eq!(check(&valve(budget)), refused(5, 0), "{budget}");
+        let place = refusal_place(&valve(budget)).unwrap();
+        assert_eq!((place.part, place.start), (Part::Budget, 24));
+        assert_eq!((place.width, place.value), (2, budget.into()));
+        assert_eq!((place.least, place.limit), (0, 60_001));
+    }
+    let opening = refused_opening(&valve(11)).unwrap();
+    let edges = (opening.leaving, opening.blocked, opening.windowless);
+    assert_eq!(edges, (1, 0, 1));
+    let mut short = valve(5)[..25].to_vec();
+    (short[2], short[8]) = (25, 18);
+    assert_eq!(check(&short), refused(4, 0));
+    assert_eq!(check(&with(0, 3)), refused(4, 0));
 }
 
 #[test]

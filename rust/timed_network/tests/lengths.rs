@@ -43,6 +43,7 @@ fn programs() -> Vec<(Vec<u8>, Vec<u8>)> {
         "vectors/random.tsv",
         "vectors/bands.tsv",
         "vectors/hearings.tsv",
+        "vectors/budgets.tsv",
     ] {
         let text = fs::read_to_string(root().join(file)).unwrap();
         for line in text.lines() {

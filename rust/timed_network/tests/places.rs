@@ -162,7 +162,7 @@ fn parts_have_numbers() {
     for number in 0..=u8::MAX {
         let part = Part::try_from(number);
         match number {
-            1..=11 => assert_eq!(part.map(Part::number), Ok(number)),
+            1..=12 => assert_eq!(part.map(Part::number), Ok(number)),
             _ => assert_eq!(part, Err(UnknownNumber(number))),
         }
     }

@@ -72,7 +72,7 @@ fn the_corpus() {
             count += 1;
         }
     }
-    assert_eq!(count, 632);
+    assert_eq!(count, 658);
 }
 
 /// One edge leaves each location of the worked example; the hub takes edge 1 from
@@ -139,7 +139,11 @@ fn reasons_have_numbers_and_words() {
     let all = [
         ([0, 255], Reason::Taken, "taken"),
         ([1, 3], Reason::DataBound(3), "data bound 3 fails"),
-        ([2, 255], Reason::NoWindow, "no window of at least one tick"),
+        (
+            [2, 255],
+            Reason::NoWindow,
+            "no window of at least one tick, or of its budget",
+        ),
         ([3, 255], Reason::ReadyLater, "ready later"),
         (
             [4, 255],

@@ -164,7 +164,7 @@ fn a_part_of_65_536_bytes_is_left() {
 
 #[test]
 fn without_a_statement_nothing_changes() {
-    let part = one_statement([18, 0, 0, 0]);
+    let part = one_statement([19, 0, 0, 0]);
     for pc in [0, 8, 9, 12, usize::MAX] {
         let mut node = Node::start(&part);
         node.pc = pc;
@@ -172,6 +172,17 @@ fn without_a_statement_nothing_changes() {
         node.step(if pc == 0 { &[] } else { &part }, 4, 4);
         assert_eq!(node, before, "at {pc}");
     }
+}
+
+/// Statement 12, hexadecimal: a trial whose end is not lowered yet meets any budget.
+#[test]
+fn a_budget_outside_a_trial_goes_on() {
+    let part = one_statement([18, 0, 0xff, 0xff]);
+    let mut node = Node::start(&part);
+    let before = node;
+    node.step(&part, 0, 0);
+    assert_eq!(node.pc, before.pc + 4);
+    assert_eq!(node.tried, before.tried);
 }
 
 #[test]

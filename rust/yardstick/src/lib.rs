@@ -151,7 +151,7 @@ impl Yardstick {
     pub fn refusal_place(&mut self, bytes: &[u8]) -> Option<Place> {
         let (channels, rest) = read::header(bytes, &mut self.table).ok()?;
         let first = bytes.len() - rest.len();
-        place::locate(bytes, self.table.count, channels, first)
+        place::locate(bytes, &self.table, channels, first)
     }
 
     /// Where checks 7 to 9 stop, if one of them refuses the table.

@@ -38,7 +38,7 @@ pub(crate) fn taken(
     best(component.location(location).from, |number| {
         let edge = &component.edges[number % EDGES];
         let (ready, end) = window(edge, &signed);
-        let holds = ready < end && data_bounds_hold(edge, variables);
+        let holds = edge.has_time(ready, end) && data_bounds_hold(edge, variables);
         holds.then_some((ready, end))
     })
 }
@@ -80,7 +80,8 @@ fn taken_first(
     best(place.from, |number| {
         let edge = &component.edges[number % EDGES];
         let (ready, end) = window_read(place, edge, bytes, clocks);
-        let candidate = ready < end && first_failing(edge, bytes, variables).is_none();
+        let candidate =
+            edge.has_time(ready, end) && first_failing(edge, bytes, variables).is_none();
         candidate.then_some((ready, end))
     })
 }

@@ -19,10 +19,12 @@ type Part<T> = Result<T, u8>;
 /// Decodes a table.
 pub(crate) fn read(bytes: &[u8], table: &mut Table) -> Result<(), Refusal> {
     let (channels, mut rest) = header(bytes, table)?;
+    let budgets = table.has_budgets();
     for number in 0..table.count {
         let start = bytes.len() - rest.len();
         let own = split_component(&mut rest).map_err(|fault| Refusal::of(fault, number))?;
         let component = &mut table.components[number % COMPONENTS];
+        component.budgets = budgets;
         let read = read_component(own, start, channels, component);
         read.map_err(|fault| Refusal::of(fault, number))?;
     }
@@ -35,7 +37,7 @@ pub(crate) fn read(bytes: &[u8], table: &mut Table) -> Result<(), Refusal> {
 
 /// Checks 1 to 3: the channels, and the bytes behind the header and the bands.
 pub(crate) fn header<'a>(bytes: &'a [u8], table: &mut Table) -> Result<(u8, &'a [u8]), Refusal> {
-    let Some(version @ 1..=2) = bytes.first().copied() else {
+    let Some(version @ 1..=3) = bytes.first().copied() else {
         return Err(Refusal::whole(1));
     };
     let Some((&[_, high, low, components, channels, first, second], rest)) =
@@ -88,6 +90,7 @@ struct Limits {
     clocks: u8,
     variables: u8,
     channels: u8,
+    budgets: bool,
 }
 
 /// Decodes a component that starts at a place of the table.
@@ -105,6 +108,7 @@ fn read_component(own: &[u8], start: usize, channels: u8, component: &mut Compon
         clocks,
         variables,
         channels,
+        budgets: component.budgets,
     };
     component.initial = initial;
     component.clocks = clocks;
@@ -114,8 +118,8 @@ fn read_component(own: &[u8], start: usize, channels: u8, component: &mut Compon
         *place = location(&mut rest, clocks)?;
     }
     for number in 0..usize::from(edges).min(EDGES) {
-        let at = start + own.len() - rest.len();
-        read_edge(&mut rest, at as u16, number, &limits, component)?;
+        let end = start + own.len();
+        read_edge(&mut rest, end, number, &limits, component)?;
     }
     demand(rest.is_empty(), FIT)
 }
@@ -134,11 +138,11 @@ fn location(rest: &mut &[u8], clocks: u8) -> Part<Location> {
     })
 }
 
-/// Decodes an edge that stands at a place of the table.
+/// Decodes an edge of a component that ends at a place of the table.
 #[inline]
 fn read_edge(
     rest: &mut &[u8],
-    at: u16,
+    end: usize,
     number: usize,
     limits: &Limits,
     component: &mut Component,
@@ -158,7 +162,8 @@ fn read_edge(
     };
     component.locations[usize::from(source) % LOCATIONS].from |= 1 << number;
     let edge = &mut component.edges[number % EDGES];
-    edge.at = at;
+    edge.budget = read_budget(rest, limits)?;
+    edge.at = (end - rest.len()) as u16;
     edge.kind = kind;
     edge.source = source;
     edge.destination = destination;
@@ -169,6 +174,18 @@ fn read_edge(
     edge.highs = read_bounds(rest, limits, clock_bounds, data_bounds)?;
     edge.channels = read_items(rest, limits, kind, items)?;
     Ok(())
+}
+
+/// "a 2-byte budget (0 to 60,000), a part of its own"; 0 in versions without.
+#[inline]
+fn read_budget(rest: &mut &[u8], limits: &Limits) -> Part<u16> {
+    if !limits.budgets {
+        return Ok(0);
+    }
+    let &[high, low] = take::<BUDGET>(rest)?;
+    let budget = two(high, low);
+    demand(budget <= MAX_TICKS, RANGE)?;
+    Ok(budget)
 }
 
 /// Tries the clock bounds, then the data bounds; how many have a high.

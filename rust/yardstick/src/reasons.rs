@@ -91,7 +91,7 @@ impl Visit<'_> {
         let (ready, end) = window_read(location, edge, bytes, &self.clocks);
         let least = (self.passage.ready - self.passage.entry) as i32;
         let reason = match () {
-            () if ready >= end => 2,
+            () if !edge.has_time(ready, end) => 2,
             () if ready > least => 3,
             () => 4,
         };

@@ -18,7 +18,7 @@ pub struct RefusedOpening {
     pub leaving: u8,
     /// With 8, how many of them have a data bound that fails, else 0.
     pub blocked: u8,
-    /// With 8, how many others leave it, none of which has a window, else 0.
+    /// With 8, how many others leave it, none of which has a window long enough, else 0.
     pub windowless: u8,
     /// With 9, the edge taken, else [`NONE`].
     pub edge: u8,

@@ -18,7 +18,7 @@ pub(crate) const EDGES: usize = 32;
 pub(crate) const CLOCKS: usize = 4;
 /// "variables 0 to 4".
 pub(crate) const VARIABLES: usize = 4;
-/// The greatest bound and the greatest horizon.
+/// The greatest bound, horizon and budget.
 pub(crate) const MAX_TICKS: u16 = 60_000;
 /// The stored form of no high bound: "65,535 for none".
 pub(crate) const NO_HIGH: u16 = 65_535;
@@ -27,6 +27,8 @@ pub(crate) const FAR: i32 = 1 << 30;
 
 /// The bytes of the header, of a component's head and of an edge's.
 pub(crate) const HEAD: usize = 7;
+/// The bytes of a budget.
+pub(crate) const BUDGET: usize = 2;
 /// The bytes of a location.
 pub(crate) const LOCATION: usize = 3;
 /// The bytes of a clock bound, and of a data bound.
@@ -89,8 +91,11 @@ pub(crate) struct Edge {
     pub(crate) data_low: Variables,
     /// The least high of each variable.
     pub(crate) data_high: Variables,
-    /// Where its seven bytes stand in the table.
+    /// Where its first bound, or else its first item, stands in the table.
     pub(crate) at: u16,
+    /// The least length of its window, where one of a tick is asked for anyway; 0 in
+    /// versions without budgets.
+    pub(crate) budget: u16,
     /// The channel of a send or the channels of a receive, as bits.
     pub(crate) channels: u16,
     pub(crate) kind: Kind,
@@ -105,6 +110,12 @@ pub(crate) struct Edge {
 }
 
 impl Edge {
+    /// Whether a window has a tick's length and that of the budget.
+    #[inline]
+    pub(crate) fn has_time(&self, ready: i32, end: i32) -> bool {
+        end - ready >= i32::from(self.budget.max(1))
+    }
+
     /// The channel of a send.
     pub(crate) fn channel(&self) -> u8 {
         self.channels.trailing_zeros() as u8
@@ -112,13 +123,13 @@ impl Edge {
 
     /// The bytes of its clock bounds.
     pub(crate) fn clock_bounds<'a>(&self, bytes: &'a [u8]) -> &'a [[u8; BOUND]] {
-        part(bytes, self.at as usize + HEAD, self.clock_bounds)
+        part(bytes, self.at.into(), self.clock_bounds)
     }
 
     /// The bytes of its data bounds.
     pub(crate) fn data_bounds<'a>(&self, bytes: &'a [u8]) -> &'a [[u8; BOUND]] {
         let bounds = BOUND * usize::from(self.clock_bounds);
-        part(bytes, self.at as usize + HEAD + bounds, self.data_bounds)
+        part(bytes, usize::from(self.at) + bounds, self.data_bounds)
     }
 
     /// The bytes of its updates, if it is internal.
@@ -133,7 +144,7 @@ impl Edge {
 
     fn first_item(&self) -> usize {
         let bounds = usize::from(self.clock_bounds) + usize::from(self.data_bounds);
-        self.at as usize + HEAD + BOUND * bounds
+        usize::from(self.at) + BOUND * bounds
     }
 
     /// The location that a receive leads to after a message, else its
@@ -158,6 +169,8 @@ pub(crate) struct Component {
     pub(crate) clocks: u8,
     pub(crate) location_count: u8,
     pub(crate) edge_count: u8,
+    /// Whether its edges have budgets.
+    pub(crate) budgets: bool,
     pub(crate) locations: [Location; LOCATIONS],
     pub(crate) edges: [Edge; EDGES],
 }
@@ -203,6 +216,7 @@ impl Default for Table {
             clocks: 0,
             location_count: 0,
             edge_count: 0,
+            budgets: false,
             locations: [Location::default(); LOCATIONS],
             edges: [Edge::default(); EDGES],
         };
@@ -217,6 +231,11 @@ impl Default for Table {
 }
 
 impl Table {
+    /// Whether a budget stands behind each edge's seven bytes.
+    pub(crate) fn has_budgets(&self) -> bool {
+        self.version == 3
+    }
+
     /// The band of a channel.
     #[inline]
     pub(crate) fn band(&self, channel: u8) -> u8 {

@@ -29,6 +29,7 @@ pub(crate) mod op {
     pub(crate) const KEEP: u8 = 0x0f;
     pub(crate) const TAKE: u8 = 0x10;
     pub(crate) const CHOOSE: u8 = 0x11;
+    pub(crate) const BUDGET: u8 = 0x12;
 }
 
 /// What takes the statements of a block, one after the other.
@@ -46,16 +47,16 @@ pub(crate) fn length(table: &Table) -> usize {
 fn part_length(component: &Component) -> usize {
     let locations = usize::from(component.location_count);
     let edges = component.present_edges();
-    let one = |edge: &Edge| trial_length(edge) + edge_length(component, edge);
+    let one = |edge: &Edge| trial_length(component, edge) + edge_length(component, edge);
     let statements = locations + edges.iter().map(one).sum::<usize>();
     PART_HEAD + 2 * (locations + edges.len()) + STATEMENT * statements
 }
 
 /// The statements that try an edge.
 #[inline]
-fn trial_length(edge: &Edge) -> usize {
+fn trial_length(component: &Component, edge: &Edge) -> usize {
     let bounds = edge.clock_bounds + edge.highs + 2 * edge.data_bounds;
-    3 + usize::from(bounds)
+    3 + usize::from(bounds) + usize::from(component.budgets)
 }
 
 /// The statements of an edge's block.
@@ -127,7 +128,7 @@ fn write_part(component: &Component, bytes: &[u8], out: &mut Out) {
 fn write_starts(component: &Component, out: &mut Out) {
     let mut lengths = [1; LOCATIONS];
     for edge in component.present_edges() {
-        lengths[usize::from(edge.source) % LOCATIONS] += trial_length(edge);
+        lengths[usize::from(edge.source) % LOCATIONS] += trial_length(component, edge);
     }
     let mut start = 0;
     for length in lengths.iter().take(component.location_count.into()) {
@@ -142,7 +143,8 @@ fn write_starts(component: &Component, out: &mut Out) {
 
 /// "Location block: per edge from it, 0A trial; 0C high for the invariant;
 /// per clock bound 0B low, and 0C high unless 65,535; per data bound 0D, 0E
-/// (low, high); 0F keep, k = edge. Last 10 take."
+/// (low, high); 0F keep, k = edge. Last 10 take." "A new statement 12, k = budget,
+/// stands before keep in version 3 programs only".
 #[inline]
 pub(crate) fn location_block(
     component: &Component,
@@ -164,6 +166,10 @@ pub(crate) fn location_block(
         for &[variable, a, b, c, d] in edge.data_bounds(bytes) {
             code.put([op::DATA_LOW, variable, a, b]);
             code.put([op::DATA_HIGH, variable, c, d]);
+        }
+        if component.budgets {
+            let [high, low] = edge.budget.to_be_bytes();
+            code.put([op::BUDGET, 0, high, low]);
         }
         code.put([op::KEEP, 0, 0, number as u8]);
     }

@@ -13,19 +13,19 @@ use Rattle.blocks.proofs.put_location_block.Statement.{statement}
 use Rattle.blocks.proofs.put_location_block.Tie as tie
 
 abbrev Inv-loop : tie.InvT-loop
-Inv-loop h n here l out₀ at place₀ next₀ e₀ out place next e =
-    (e ≤ n) × (place ≤ length h) × ArcsFit (n - e) (drop place h)
-    × Writing out₀ at (blockFrom l here 0 n h) out next (blockFrom l here e (n - e) (drop place h))
+Inv-loop h n here l out₀ at b place₀ next₀ e₀ out place next e =
+    (e ≤ n) × (place ≤ length h) × ArcsFit b (n - e) (drop place h)
+    × Writing out₀ at (blockFrom b l here 0 n h) out next (blockFrom b l here e (n - e) (drop place h))
 
 abbrev μ-loop : tie.MeasureT-loop
-μ-loop h n here l out₀ at place₀ next₀ e₀ out place next e = n - e
+μ-loop h n here l out₀ at b place₀ next₀ e₀ out place next e = n - e
 
 loop-holds : tie.Need-loop-holds Inv-loop μ-loop
 loop-holds c =
     let args = c .before .before .args in
     let pre = c .before .before .pre in
     let z : args .count - 0 ≡ args .count = omega arith in
-    (omega arith, omega arith, rw z (pre .0), rw z (begin (args .out .now) (args .at) (blockFrom (args .location) (args .here) 0 (args .count) (args .bytes .now))))
+    (omega arith, omega arith, rw z (pre .0), rw z (begin (args .out .now) (args .at) (blockFrom (args .budgets) (args .location) (args .here) 0 (args .count) (args .bytes .now))))
 
 sub-put-trial-from : tie.Need-sub-put-trial-from Inv-loop μ-loop
 sub-put-trial-from c = search needs
@@ -42,7 +42,7 @@ put-trial-from-requires c κs =
     let loop = c .before .before .before .loop in
     let loop-test = c .before .before .loop-test in
     let pre = c .before .before .before .before .before .before .pre in
-    (edge-whole (args .bytes .now) (loop .place) (args .count - loop .e) (some-left (args .location) (args .here) (loop .e) (args .count) (args .bytes .now) (loop .place) (loop-test .taken) (loop .inv .3)) (loop .inv .1) (loop .inv .2), trial-room (args .location) (args .here) (loop .e) (args .count) (args .bytes .now) (loop .place) (loop-test .taken) (loop .inv .3) (pre .1))
+    (edge-head (args .budgets) (args .bytes .now) (loop .place) (args .count - loop .e) (some-left (args .budgets) (args .location) (args .here) (loop .e) (args .count) (args .bytes .now) (loop .place) (loop-test .taken) (loop .inv .3)) (loop .inv .1) (loop .inv .2), edge-whole (args .budgets) (args .bytes .now) (loop .place) (args .count - loop .e) (some-left (args .budgets) (args .location) (args .here) (loop .e) (args .count) (args .bytes .now) (loop .place) (loop-test .taken) (loop .inv .3)) (loop .inv .1) (loop .inv .2), trial-room (args .budgets) (args .location) (args .here) (loop .e) (args .count) (args .bytes .now) (loop .place) (loop-test .taken) (loop .inv .3) (pre .1))
 
 sub-arc-length : tie.Need-sub-arc-length Inv-loop μ-loop
 sub-arc-length c = search needs
@@ -58,7 +58,7 @@ arc-length-requires c κs =
     let args = c .before .before .before .before .before .before .before .before .before .before .args in
     let loop = c .before .before .before .before .before .before .before .loop in
     let loop-test = c .before .before .before .before .before .before .loop-test in
-    edge-head (args .bytes .now) (loop .place) (args .count - loop .e) (some-left (args .location) (args .here) (loop .e) (args .count) (args .bytes .now) (loop .place) (loop-test .taken) (loop .inv .3)) (loop .inv .1) (loop .inv .2)
+    edge-head (args .budgets) (args .bytes .now) (loop .place) (args .count - loop .e) (some-left (args .budgets) (args .location) (args .here) (loop .e) (args .count) (args .bytes .now) (loop .place) (loop-test .taken) (loop .inv .3)) (loop .inv .1) (loop .inv .2)
 
 add-place : tie.Need-add-place Inv-loop μ-loop
 add-place c =
@@ -66,7 +66,7 @@ add-place c =
     let loop = c .before .before .before .before .before .before .before .before .loop in
     let loop-test = c .before .before .before .before .before .before .before .loop-test in
     let arc-length = c .arc-length in
-    omega (arith, edge-on (args .bytes .now) (loop .place) (args .count - loop .e) (some-left (args .location) (args .here) (loop .e) (args .count) (args .bytes .now) (loop .place) (loop-test .taken) (loop .inv .3)) (loop .inv .1) (loop .inv .2) (arc-length .result) (arc-length .ensures))
+    omega (arith, edge-on (args .budgets) (args .bytes .now) (loop .place) (args .count - loop .e) (some-left (args .budgets) (args .location) (args .here) (loop .e) (args .count) (args .bytes .now) (loop .place) (loop-test .taken) (loop .inv .3)) (loop .inv .1) (loop .inv .2) (arc-length .result) (arc-length .ensures))
 
 add-e : tie.Need-add-e Inv-loop μ-loop
 add-e c = search needs
@@ -83,9 +83,9 @@ loop-again c =
     let put-trial-from = c .before .before .before .before .put-trial-from in
     let k : args .count - loop .e - 1 ≡ args .count - (loop .e + 1) = omega arith in (
       omega arith,
-      edge-on (args .bytes .now) (loop .place) (args .count - loop .e) (some-left (args .location) (args .here) (loop .e) (args .count) (args .bytes .now) (loop .place) (loop-test .taken) (loop .inv .3)) (loop .inv .1) (loop .inv .2) (arc-length .result) (arc-length .ensures),
-      rw (← k) (edges-on (args .bytes .now) (loop .place) (args .count - loop .e) (some-left (args .location) (args .here) (loop .e) (args .count) (args .bytes .now) (loop .place) (loop-test .taken) (loop .inv .3)) (loop .inv .1) (loop .inv .2) (arc-length .result) (arc-length .ensures)),
-      trial-put (args .location) (args .here) (loop .e) (args .count) (args .bytes .now) (loop .place) (loop-test .taken) (loop .inv .3) (arc-length .result) (arc-length .ensures) (put-trial-from .ensures),
+      edge-on (args .budgets) (args .bytes .now) (loop .place) (args .count - loop .e) (some-left (args .budgets) (args .location) (args .here) (loop .e) (args .count) (args .bytes .now) (loop .place) (loop-test .taken) (loop .inv .3)) (loop .inv .1) (loop .inv .2) (arc-length .result) (arc-length .ensures),
+      rw (← k) (edges-on (args .budgets) (args .bytes .now) (loop .place) (args .count - loop .e) (some-left (args .budgets) (args .location) (args .here) (loop .e) (args .count) (args .bytes .now) (loop .place) (loop-test .taken) (loop .inv .3)) (loop .inv .1) (loop .inv .2) (arc-length .result) (arc-length .ensures)),
+      trial-put (args .budgets) (args .location) (args .here) (loop .e) (args .count) (args .bytes .now) (loop .place) (loop-test .taken) (loop .inv .3) (arc-length .result) (arc-length .ensures) (put-trial-from .ensures),
     )
 
 put-quad-requires : tie.Need-put-quad-requires Inv-loop μ-loop
@@ -94,7 +94,7 @@ put-quad-requires c κs =
     let loop = c .before .before .loop in
     let loop-test = c .before .loop-test in
     let pre = c .before .before .before .before .before .pre in
-    room-left (take-left (args .location) (args .here) (loop .e) (args .count) (drop (loop .place) (args .bytes .now)) (loop-test .left) (loop .inv .3)) (pre .1)
+    room-left (take-left (args .budgets) (args .location) (args .here) (loop .e) (args .count) (drop (loop .place) (args .bytes .now)) (loop-test .left) (loop .inv .3)) (pre .1)
 
 same-length : tie.Need-same-length Inv-loop μ-loop
 same-length c = same-end (c .before .before .before .before .before .loop .inv .3) (c .before .before .put-quad .ensures)
@@ -105,7 +105,7 @@ returns c =
     let loop = c .before .before .before .before .before .loop in
     let loop-test = c .before .before .before .before .loop-test in
     let put-quad = c .before .before .put-quad in
-    put-all (put-on [] (take-left (args .location) (args .here) (loop .e) (args .count) (drop (loop .place) (args .bytes .now)) (loop-test .left) (loop .inv .3)) (put-quad .ensures))
+    put-all (put-on [] (take-left (args .budgets) (args .location) (args .here) (loop .e) (args .count) (drop (loop .place) (args .bytes .now)) (loop-test .left) (loop .inv .3)) (put-quad .ensures))
 
 pub put-location-block-spec : {M : Type 1} → statement M
 put-location-block-spec =

@@ -14,7 +14,7 @@ returns c =
     let args = c .before .before .before .before .before .args in
     let edge = c .before .before .edge-at in
     let if1 = c .if1 in
-    put-is (skipped (args .location) (args .here) (args .number) (args .bytes .now) (edge .result) (edge .ensures) (if1 .taken)) (put-none (args .out .now) (args .at))
+    put-is (skipped (args .location) (args .here) (args .number) (args .budgets) (args .bytes .now) (edge .result) (edge .ensures) (if1 .taken)) (put-none (args .out .now) (args .at))
 
 put-trial-requires : tie.Need-put-trial-requires
 put-trial-requires c κs =
@@ -22,7 +22,7 @@ put-trial-requires c κs =
     let args = c .before .before .before .before .before .before .args in
     let edge = c .before .before .before .edge-at in
     let if1 = c .before .if1 in
-    (pre .0, room-is (args .out .now) (args .at) (sym (tried (args .location) (args .here) (args .number) (args .bytes .now) (edge .result) (edge .ensures) (if1 .left))) (pre .1))
+    (pre .0, pre .1, room-is (args .out .now) (args .at) (sym (tried (args .location) (args .here) (args .number) (args .budgets) (args .bytes .now) (edge .result) (edge .ensures) (if1 .left))) (pre .2))
 
 same-length : tie.Need-same-length
 same-length c = search needs
@@ -33,7 +33,7 @@ returns-2 c =
     let edge = c .before .before .before .before .before .before .edge-at in
     let if1 = c .before .before .before .before .if1 in
     let put-trial = c .before .before .put-trial in
-    put-is (tried (args .location) (args .here) (args .number) (args .bytes .now) (edge .result) (edge .ensures) (if1 .left)) (put-trial .ensures)
+    put-is (tried (args .location) (args .here) (args .number) (args .budgets) (args .bytes .now) (edge .result) (edge .ensures) (if1 .left)) (put-trial .ensures)
 
 pub put-trial-from-spec : {M : Type 1} → statement M
 put-trial-from-spec =

@@ -41,8 +41,8 @@ put-parts-requires c κs =
     let h = args .bytes .now in
     let is = sym (c .before .before .before .enum-told .given .1) ∙ c .before .before .before .before .before .action-at .ensures in
     let i = c .before .before .before .before .before .before .items-place in
-    let r = room-is (args .out .now) (args .at) (sym (internal-work h is)) (pre .1) in
-    parts-asked Updates (byte h 6) h (i .result) (itemsPlace h) (i .ensures) (args .out .now) (args .at) (updates-stand h is (pre .0)) (room-first (args .out .now) (args .at) (allMade Updates (byte h 6) (drop (itemsPlace h) h)) (quad 0x03 0 0) r)
+    let r = room-is (args .out .now) (args .at) (sym (internal-work (args .budgets) h is)) (pre .2) in
+    parts-asked Updates (byte h 6) h (i .result) (itemsPlace (args .budgets) h) (i .ensures .0) (args .out .now) (args .at) (updates-stand (args .budgets) h is (pre .1)) (room-first (args .out .now) (args .at) (allMade Updates (byte h 6) (drop (itemsPlace (args .budgets) h) h)) (quad 0x03 0 0) r)
 
 put-quad-requires : tie.Need-put-quad-requires
 put-quad-requires c κs =
@@ -51,8 +51,8 @@ put-quad-requires c κs =
     let h = args .bytes .now in
     let is = sym (c .before .before .before .before .before .before .before .enum-told .given .1) ∙ c .before .before .before .before .before .before .before .before .before .action-at .ensures in
     let i = c .before .before .before .before .before .before .before .before .before .before .items-place in
-    let r = room-is (args .out .now) (args .at) (sym (internal-work h is)) (pre .1) in
-    room-next (parts-there Updates (byte h 6) h (i .result) (itemsPlace h) (i .ensures) (c .before .before .before .put-parts .ensures)) (quad 0x03 0 0) r
+    let r = room-is (args .out .now) (args .at) (sym (internal-work (args .budgets) h is)) (pre .2) in
+    room-next (parts-there Updates (byte h 6) h (i .result) (itemsPlace (args .budgets) h) (i .ensures .0) (c .before .before .before .put-parts .ensures)) (quad 0x03 0 0) r
 
 enum-known-action : tie.Need-enum-known-action
 enum-known-action c = search needs
@@ -63,7 +63,7 @@ put-quad-requires-2 c κs =
     let pre = c .before .before .before .before .before .before .before .before .pre in
     let h = args .bytes .now in
     let is = sym (c .before .before .action .given .1) ∙ c .before .before .before .before .action-at .ensures in
-    room-is (args .out .now) (args .at) (sym (send-work h _ is)) (pre .1)
+    room-is (args .out .now) (args .at) (sym (send-work (args .budgets) h _ is)) (pre .2)
 
 enum-told-2 : tie.Need-enum-told-2
 enum-told-2 c = search needs
@@ -77,8 +77,8 @@ put-quad-requires-3 c κs =
     let pre = c .before .before .before .before .before .before .before .before .pre in
     let h = args .bytes .now in
     let is = sym (c .before .before .enum-told2 .given .1) ∙ c .before .before .before .before .action-at .ensures in
-    let r = room-is (args .out .now) (args .at) (sym (receive-work h is)) (pre .1) in
-    room-first (args .out .now) (args .at) (quad 0x05 (byte h 6) 0) (allMade Pairs (byte h 6) (drop (itemsPlace h) h)) r
+    let r = room-is (args .out .now) (args .at) (sym (receive-work (args .budgets) h is)) (pre .2) in
+    room-first (args .out .now) (args .at) (quad 0x05 (byte h 6) 0) (allMade Pairs (byte h 6) (drop (itemsPlace (args .budgets) h) h)) r
 
 sub-put-parts-2 : tie.Need-sub-put-parts-2
 sub-put-parts-2 c = search needs
@@ -99,9 +99,9 @@ put-parts-requires-2 c κs =
     let h = args .bytes .now in
     let is = sym (c .before .before .before .before .before .before .before .before .enum-told2 .given .1) ∙ c .before .before .before .before .before .before .before .before .before .before .action-at .ensures in
     let i = c .before .before .before .before .before .before .before .before .before .before .before .items-place in
-    let r = room-is (args .out .now) (args .at) (sym (receive-work h is)) (pre .1) in
+    let r = room-is (args .out .now) (args .at) (sym (receive-work (args .budgets) h is)) (pre .2) in
     let first = c .before .before .before .before .before .put-quad3 in
-    parts-asked Pairs (byte h 6) h (i .result) (itemsPlace h) (i .ensures) (first .last .0) (first .result) (pairs-stand h is (pre .0)) (room-next (first .ensures) (allMade Pairs (byte h 6) (drop (itemsPlace h) h)) r)
+    parts-asked Pairs (byte h 6) h (i .result) (itemsPlace (args .budgets) h) (i .ensures .0) (first .last .0) (first .result) (pairs-stand (args .budgets) h is (pre .1)) (room-next (first .ensures) (allMade Pairs (byte h 6) (drop (itemsPlace (args .budgets) h) h)) r)
 
 same-length : tie.Need-same-length
 same-length c = search needs
@@ -112,7 +112,7 @@ returns c =
     let h = args .bytes .now in
     let is = sym (c .before .before .before .before .before .before .before .before .before .before .enum-told .given .1) ∙ c .before .before .before .before .before .before .before .before .before .before .before .before .action-at .ensures in
     let i = c .before .before .before .before .before .before .before .before .before .before .before .before .before .items-place in
-    put-is (internal-work h is) (put-join (parts-there Updates (byte h 6) h (i .result) (itemsPlace h) (i .ensures) (c .before .before .before .before .before .before .put-parts .ensures)) (c .before .before .put-quad .ensures))
+    put-is (internal-work (args .budgets) h is) (put-join (parts-there Updates (byte h 6) h (i .result) (itemsPlace (args .budgets) h) (i .ensures .0) (c .before .before .before .before .before .before .put-parts .ensures)) (c .before .before .put-quad .ensures))
 
 same-length-2 : tie.Need-same-length-2
 same-length-2 c = search needs
@@ -122,7 +122,7 @@ returns-2 c =
     let args = c .before .before .before .before .before .before .before .before .before .before .before .args in
     let h = args .bytes .now in
     let is = sym (c .before .before .before .before .before .action .given .1) ∙ c .before .before .before .before .before .before .before .action-at .ensures in
-    put-is (send-work h _ is) (c .before .before .put-quad2 .ensures)
+    put-is (send-work (args .budgets) h _ is) (c .before .before .put-quad2 .ensures)
 
 same-length-3 : tie.Need-same-length-3
 same-length-3 c = search needs
@@ -133,7 +133,7 @@ returns-3 c =
     let h = args .bytes .now in
     let is = sym (c .before .before .before .before .before .before .before .before .before .before .before .enum-told2 .given .1) ∙ c .before .before .before .before .before .before .before .before .before .before .before .before .before .action-at .ensures in
     let i = c .before .before .before .before .before .before .before .before .before .before .before .before .before .before .items-place in
-    put-is (receive-work h is) (put-join (c .before .before .before .before .before .before .before .before .put-quad3 .ensures) (parts-there Pairs (byte h 6) h (i .result) (itemsPlace h) (i .ensures) (c .before .before .put-parts2 .ensures)))
+    put-is (receive-work (args .budgets) h is) (put-join (c .before .before .before .before .before .before .before .before .put-quad3 .ensures) (parts-there Pairs (byte h 6) h (i .result) (itemsPlace (args .budgets) h) (i .ensures .0) (c .before .before .put-parts2 .ensures)))
 
 pub put-work-spec : {M : Type 1} → statement M
 put-work-spec =

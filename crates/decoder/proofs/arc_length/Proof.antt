@@ -22,7 +22,7 @@ add-result : tie.Need-add-result
 add-result c =
     let h = c .before .before .before .before .before .args .bytes .now in
     let g = c .before .before .before .before .shared-slice-known .given in
-    omega (arith, c .before .before .before .items-place .ensures, c .items-length .ensures, g 4, g 5, few (getD h 0 0) (getD h 6 0) (omega (arith, g 6)))
+    omega (arith, c .before .before .before .items-place .ensures .1, c .items-length .ensures, g 4, g 5, few (getD h 0 0) (getD h 6 0) (omega (arith, g 6)))
 
 returns : tie.Need-returns
 returns c = search needs

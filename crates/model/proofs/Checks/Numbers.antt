@@ -10,8 +10,8 @@ use lib.ListN.{length, take, drop}
 use Rattle.model.specs.declared.Sizes.{Sizes}
 use Rattle.model.specs.declared.Pair.{Pair}
 use Rattle.model.specs.Lists.{snoc, Answer, accepted, refused, _after_}
-use Rattle.model.specs.Table.{Component, Table, Read, size, componentOf, arcOf}
-use Rattle.model.specs.Reader.{byte, word, Parsed, ok, fault, _then_, part, many, updateFine, updateAt, readUpdate, channelFine, readChannel, pairFine, pairAt, readPair, readPairs, listed, readItems, clockGuardFine, clockGuardAt, readClockGuard, dataGuardFine, dataGuardAt, readDataGuard, locationFine, locationAt, readLocation, readArcBody, edgeFine, readArc, headFine, sizesAt, componentWith, finished, readBody, readComponent, about, atEnd, lengthFits, readComponents, versionFine, lengthFine, countFine, bandsFine, bodyStart, readWith, readTable}
+use Rattle.model.specs.Table.{TableHeader, Component, Table, Read, size, componentOf, arcOf}
+use Rattle.model.specs.Reader.{headerAt, budgetFine, readBudget, readArcParts, byte, word, Parsed, ok, fault, _then_, part, many, updateFine, updateAt, readUpdate, channelFine, readChannel, pairFine, pairAt, readPair, readPairs, listed, readItems, clockGuardFine, clockGuardAt, readClockGuard, dataGuardFine, dataGuardAt, readDataGuard, locationFine, locationAt, readLocation, readArcBody, edgeFine, readArc, headFine, sizesAt, componentWith, finished, readBody, readComponent, about, atEnd, lengthFits, readComponents, versionFine, lengthFine, countFine, bandsFine, bodyStart, readWith, readTable}
 use Rattle.model.specs.Window.{Entry, Pick, channelOf, choice, updated}
 use Rattle.model.specs.Schedule.{Passage, startEntry, passageOf, ranged, picked, opening, OpenedSoFar, begin, next, closing, opened, whileBelow, goOn, schedule}
 use Rattle.model.specs.Schedule.{finished as withMessages}
@@ -72,18 +72,24 @@ fails-items s zero n bs = fails-then (many (readUpdate s) n bs) _ (fails-many (r
 fails-items s (suc zero) n bs = fails-then (readChannel s bs) _ (fails-part 1 (channelFine s) (λ bs. byte bs 0) bs) (λ k r. tt)
 fails-items s (suc (suc k)) n bs = fails-then (readPairs s n [] bs) _ (fails-pairs s n [] bs) (λ l r. tt)
 
+fails-budget : (b : Bool) (bs : List ℕ) → Fails (readBudget b bs)
+fails-budget true bs = fails-then (part 2 budgetFine (λ r. word r 0) bs) _ (fails-part 2 budgetFine (λ r. word r 0) bs) (λ k r. tt)
+fails-budget false bs = tt
+
 fails-arc : (s : Sizes) (bs : List ℕ) → Fails (readArc s bs)
 unfolding readArc
 fails-arc s bs =
     fails-then (part 7 (edgeFine s) (λ h. h) bs) (readArcBody s) (fails-part 7 (edgeFine s) (λ h. h) bs)
     (λ h r.
-    fails-then (many (readClockGuard s) (byte h 4) r) _ (fails-many (readClockGuard s) (fails-part 5 (clockGuardFine s) clockGuardAt) (byte h 4) r)
+    fails-then (readBudget (s .budgets) r) (readArcParts s h) (fails-budget (s .budgets) r)
+    (λ b r₀.
+    fails-then (many (readClockGuard s) (byte h 4) r₀) _ (fails-many (readClockGuard s) (fails-part 5 (clockGuardFine s) clockGuardAt) (byte h 4) r₀)
     (λ cs r₁.
     fails-then (many (readDataGuard s) (byte h 5) r₁) _ (fails-many (readDataGuard s) (fails-part 5 (dataGuardFine s) dataGuardAt) (byte h 5) r₁)
     (λ ds r₂.
-    fails-then (readItems s (byte h 0) (byte h 6) r₂) _ (fails-items s (byte h 0) (byte h 6) r₂) (λ i r₃. tt))))
+    fails-then (readItems s (byte h 0) (byte h 6) r₂) _ (fails-items s (byte h 0) (byte h 6) r₂) (λ i r₃. tt)))))
 
-fails-component : (channels : ℕ) (bs : List ℕ) → Fails (readComponent channels bs)
+fails-component : (channels : TableHeader) (bs : List ℕ) → Fails (readComponent channels bs)
 unfolding readComponent
 fails-component channels bs =
     fails-then (part 7 headFine (λ h. h) bs) (readBody channels) (fails-part 7 headFine (λ h. h) bs)
@@ -97,7 +103,7 @@ fails-component channels bs =
     left C [] = tt
     left C (b ∷ r) = omega arith
 
-components-up-to : (channels n c : ℕ) (bs : List ℕ) → UpTo 6 (readComponents channels n c bs)
+components-up-to : (channels : TableHeader) (n c : ℕ) (bs : List ℕ) → UpTo 6 (readComponents channels n c bs)
 unfolding readComponents
 components-up-to channels zero c bs = left bs
   where
@@ -121,7 +127,7 @@ read-up-to bs =
     up-to-cond 6 (versionFine bs) _ (refused 1 255)
     (up-to-cond 6 (lengthFine bs) _ (refused 2 255)
     (up-to-cond 6 (countFine bs && bandsFine bs) _ (refused 3 255)
-    (up-to-after 6 (readComponents (byte bs 4) (byte bs 3) 0 (drop (bodyStart bs) bs)) (λ l. accepted (readWith bs l)) (components-up-to (byte bs 4) (byte bs 3) 0 (drop (bodyStart bs) bs)) (λ l. tt))
+    (up-to-after 6 (readComponents (headerAt bs) (byte bs 3) 0 (drop (bodyStart bs) bs)) (λ l. accepted (readWith bs l)) (components-up-to (headerAt bs) (byte bs 3) 0 (drop (bodyStart bs) bs)) (λ l. tt))
     (omega arith))
     (omega arith))
     (omega arith)

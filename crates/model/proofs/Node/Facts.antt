@@ -11,7 +11,7 @@ use Rattle.model.specs.declared.Update.{Update}
 use Rattle.model.specs.Table.{Component, arcOf}
 use Rattle.model.specs.Window.{Entry, Pick}
 use Rattle.model.specs.Schedule.{Passage}
-use Rattle.model.specs.Program.{Statement, sleep, setTo, addTo, done, send, listen, age, reset, enter, trial, low, high, dataLow, dataHigh, keep, takeEdge, choose, updateOf}
+use Rattle.model.specs.Program.{Statement, sleep, setTo, addTo, done, send, listen, age, reset, enter, trial, low, high, dataLow, dataHigh, keep, budget, takeEdge, choose, updateOf}
 use Rattle.model.specs.Machine.{Node, exec, takes}
 use Rattle.model.specs.Run.{Setting, Stand, sleeping, sending, listening, finishing, adding, working, taking, elsewhere, nowhere, stand, standAt, standOf, windowEnd, overdue, late}
 use Rattle.model.specs.Demand3.{endBefore, readyBefore, lateIn}
@@ -41,6 +41,7 @@ sleepsAfter (high i k) n = n
 sleepsAfter (dataLow v k) n = n
 sleepsAfter (dataHigh v k) n = n
 sleepsAfter (keep e) n = n
+sleepsAfter (budget k) n = n
 sleepsAfter takeEdge n = n
 sleepsAfter choose n = n
 
@@ -62,6 +63,7 @@ exec-sleeps p r (high i k) = refl
 exec-sleeps p r (dataLow v k) = refl
 exec-sleeps p r (dataHigh v k) = refl
 exec-sleeps p r (keep e) = refl
+exec-sleeps p r (budget k) = refl
 exec-sleeps p r takeEdge = go (r .kept)
   where
     go : (o : Option Pick) → takes r p o .sleeps ≡ r .sleeps

@@ -6,7 +6,7 @@ use mathlib.Core.Option.{Option, some}
 use Prim.Native.Nat.{ℕ, _+_}
 use lib.IntN.{ℤ}
 use lib.ListN.{length-replicate}
-use Rattle.model.specs.Table.{Component, arcOf}
+use Rattle.model.specs.Table.{TableHeader, headerOf, Component, arcOf}
 use Rattle.model.specs.Limits.{ComponentIn}
 use Rattle.model.specs.Reader.{byte}
 use Rattle.model.specs.Window.{Entry, Pick, choice, readyOf, updated, channelOf, leaves}
@@ -25,11 +25,11 @@ use Rattle.model.proofs.Node.Facts.{asleep-end, working-end}
 -- ## The start
 
 -- the start entry is to a location that is there
-pub placed-start : {channels : ℕ} {C : Component} → ComponentIn channels C → Placed C (startEntry C)
+pub placed-start : {channels : TableHeader} {C : Component} → ComponentIn channels C → Placed C (startEntry C)
 placed-start {channels} {C} fits = record { location = fits .initial; clocks = length-replicate (C .clocks) 0 }
 
 -- "It starts there with t, n, d all 0": a node starts in the block of its initial location, with nothing finished
-pub starts : {p : List ℕ} {channels : ℕ} {C : Component} → Coded p C → ComponentIn channels C → byte p 4 ≡ C .initial
+pub starts : {p : List ℕ} {channels : TableHeader} {C : Component} → Coded p C → ComponentIn channels C → byte p 4 ≡ C .initial
     → Heading C 0 (startEntry C) (startNode p (C .clocks) (C .variables))
 unfolding locationBlock
 starts {p} {channels} {C} coded fits e =
@@ -96,7 +96,7 @@ module _ {c : ℕ} {C : Component} {at : Entry} {w : Passage} (b : Begins c C at
       ∙ (ap (λ (n : ℕ). leaves (arcOf C (w .edge)) m n at) (sym (k .2)) ∙ ap (leaves (arcOf C (w .edge)) m (w .end)) (sym (b .opens .entry)))
 
   -- its finished sleep leads to its work, since its updates stay in range
-  pub passage-works : {channels i : ℕ} {j : Pick} {r : Node} (p : List ℕ) → ComponentIn channels C → Asleep C i at j r → Working C i at j (finish p r (r .rest))
+  pub passage-works : {channels : TableHeader} {i : ℕ} {j : Pick} {r : Node} (p : List ℕ) → ComponentIn channels C → Asleep C i at j r → Working C i at j (finish p r (r .rest))
   passage-works {channels} {i} {j} {r} p fits g =
       sleep-step p fits g (b .opens .values)
       (subst (λ (n : ℕ). updated (arcOf C n .updates) (at .values) ≡ some (b .opens .values)) (passage-pick (g .chosen) .0) (b .opens .updates))

@@ -12,7 +12,7 @@ use Rattle.model.specs.declared.Action.the-variants.{Internal, Send, Rec
 use Rattle.model.specs.declared.Pair.{Pair}
 use Rattle.model.specs.declared.Update.{Update}
 use Rattle.model.specs.Lists.{any, orElse}
-use Rattle.model.specs.Table.{Arc, Component, arcOf}
+use Rattle.model.specs.Table.{TableHeader, headerOf, Arc, Component, arcOf}
 use Rattle.model.specs.Limits.{ComponentIn}
 use Rattle.model.specs.Window.{Entry, Pick, choice, valueAt, inRange, updated, receives, paired, leadsTo, leaves}
 use Rattle.model.specs.Program.{Statement, setTo, addTo, done, send, listen, updateOf}
@@ -120,7 +120,7 @@ module _ (p : List ℕ) (C : Component) (i : ℕ) (at : Entry) (r : Node) where
 
 -- ## The law
 
-module _ {p : List ℕ} {channels : ℕ} {C : Component} (coded : Coded p C) (fits : ComponentIn channels C) {i : ℕ} {at : Entry} {r : Node} where
+module _ {p : List ℕ} {channels : TableHeader} {C : Component} (coded : Coded p C) (fits : ComponentIn channels C) {i : ℕ} {at : Entry} {r : Node} where
   ageing-at : Ageing C i at r → OnWay p C i at r
   ageing-at g = record { heading = isAgeing g; next = go (g .young) refl }
     where

@@ -9,7 +9,7 @@ use native.Mathlib.Omega.{arith}
 use lib.Dec.{eqb}
 use Rattle.model.specs.declared.Action.the-variants.{Send, Receive}
 use Rattle.model.specs.Lists.{isNone}
-use Rattle.model.specs.Table.{Component}
+use Rattle.model.specs.Table.{TableHeader, headerOf, Component}
 use Rattle.model.specs.Limits.{ComponentIn}
 use Rattle.model.specs.Window.{Entry, Pick, choice}
 use Rattle.model.specs.Run.{Setting, ownTick, Run, forbidden, on, Stand, sleeping, sending, listening, finishing, adding, working, taking, elsewhere, nowhere, standOf, nodeOf, windowEnd, listeners, sent, finishes}
@@ -50,7 +50,7 @@ nobody g s c k [] e = refl
 nobody g s c k (i ∷ is) e = on-clash _ e
 
 -- a node's choice that is not allowed
-pub not-allowed : {p : List ℕ} {channels : ℕ} {C : Component} {i : ℕ} {at : Entry} (g : Setting) (s : Run) (c : ℕ) → Coded p C → ComponentIn channels C
+pub not-allowed : {p : List ℕ} {channels : TableHeader} {C : Component} {i : ℕ} {at : Entry} (g : Setting) (s : Run) (c : ℕ) → Coded p C → ComponentIn channels C
     → Phase C i at (nodeOf s c) → finishes g s c (standOf (nodeOf s c)) ≡ forbidden → NotAllowed g C i at s c
 not-allowed {p} {channels} {C} {i} {at} g s c coded fits phase e = go (standOf (nodeOf s c)) refl (phase-at coded fits phase) e
   where

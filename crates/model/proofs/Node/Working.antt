@@ -14,7 +14,7 @@ use Rattle.model.specs.declared.Pair.{Pair}
 use Rattle.model.specs.declared.Update.{Update}
 use Rattle.model.specs.declared.Sizes.{Sizes}
 use Rattle.model.specs.Lists.{All, empty, more, any, orElse}
-use Rattle.model.specs.Table.{Arc, Component, noArc, arcOf, sizesOf}
+use Rattle.model.specs.Table.{TableHeader, headerOf, Arc, Component, noArc, arcOf, sizesOf}
 use Rattle.model.specs.Limits.{PairIn, ActionIn, ArcIn, ComponentIn}
 use Rattle.model.specs.Window.{Entry, Pick, choice, valueAt, inRange, newValue, updated, aged, receives, paired, leadsTo, leaves}
 use Rattle.model.specs.Program.{Statement, setTo, addTo, done, send, listen, updateOf, workOf, edgeBlock}
@@ -52,11 +52,11 @@ leads-in {s} {a} h (some k) = go (a .edge .action) (h .action)
     go Receive i = paired-in k (a .edge .destination) (i .pairs) (h .destination)
 
 -- edge e of a component within the limits
-pub arc-in : {channels : ℕ} {C : Component} → ComponentIn channels C → (e : ℕ) → e < length (C .arcs) → ArcIn (sizesOf channels C) (arcOf C e)
+pub arc-in : {channels : TableHeader} {C : Component} → ComponentIn channels C → (e : ℕ) → e < length (C .arcs) → ArcIn (sizesOf channels C) (arcOf C e)
 arc-in h e l = all-at noArc (h .arcs) e l
 
 -- the entry that a passage leads to
-pub placed-after : {channels : ℕ} {C : Component} {at : Entry} → ComponentIn channels C → Placed C at → (e : ℕ) → e < length (C .arcs) → (m : Option ℕ) (end : ℕ)
+pub placed-after : {channels : TableHeader} {C : Component} {at : Entry} → ComponentIn channels C → Placed C at → (e : ℕ) → e < length (C .arcs) → (m : Option ℕ) (end : ℕ)
     → Placed C (leaves (arcOf C e) m end at)
 unfolding leaves
 placed-after {channels} {C} {at} fits h e l m end =
@@ -107,7 +107,7 @@ unfolding updated
 unchanged us vs ws e h = some-same (rw e at h)
 
 -- a finished sleep leads to the work of the passage
-pub sleep-step : {channels : ℕ} {C : Component} {i : ℕ} {at : Entry} {k : Pick} {r : Node} (p : List ℕ) → ComponentIn channels C → Asleep C i at k r → (ws : List ℤ)
+pub sleep-step : {channels : TableHeader} {C : Component} {i : ℕ} {at : Entry} {k : Pick} {r : Node} (p : List ℕ) → ComponentIn channels C → Asleep C i at k r → (ws : List ℤ)
     → updated (arcOf C (k .edge) .updates) (at .values) ≡ some ws → Working C i at k (finish p r (r .rest))
 unfolding exec edgeBlock
 sleep-step {channels} {C} {i} {at} {k} {r} p fits g ws ranged =
@@ -194,7 +194,7 @@ abbrev pub behind : Component → Pick → Node → Option ℕ → Node
 behind C k r taken = withPlace (to r (afterWork C (arcOf C (k .edge)))) (r .location) taken
 
 -- it heads for the entry that the passage leads to with that message, at the window's end
-pub work-ends : {channels : ℕ} {C : Component} {i : ℕ} {at : Entry} {k : Pick} {r : Node} → ComponentIn channels C → (g : Working C i at k r) → r .values ≡ g .results
+pub work-ends : {channels : TableHeader} {C : Component} {i : ℕ} {at : Entry} {k : Pick} {r : Node} → ComponentIn channels C → (g : Working C i at k r) → r .values ≡ g .results
     → (m taken : Option ℕ) → orElse taken (arcOf C (k .edge) .edge .destination) ≡ leadsTo (arcOf C (k .edge)) m
     → Ageing C (suc i) (leaves (arcOf C (k .edge)) m (at .tick + k .end) at) (behind C k r taken)
 unfolding leaves

@@ -3,7 +3,7 @@
 use mathlib.Core.Path.{_≡_, refl, sym, ap, subst, _∙_}
 use mathlib.Core.Bool.{Bool, true, false, cond, _&&_}
 use mathlib.Core.List.{List, [], _∷_, _++_, append-assoc}
-use mathlib.Core.Option.{Option, none}
+use mathlib.Core.Option.{Option, none, some}
 use Prim.Native.Nat.{ℕ, zero, suc, _≤_}
 use lib.Dec.{eqb}
 use lib.IntN.{ℤ}
@@ -15,7 +15,7 @@ use Rattle.model.specs.declared.DataGuard.{DataGuard}
 use Rattle.model.specs.Lists.{all}
 use Rattle.model.specs.Table.{Arc, Component, locationOf}
 use Rattle.model.specs.Window.{Entry, Pick, candidate, windowOf, better, chosen, choice}
-use Rattle.model.specs.Program.{Statement, sleep, setTo, addTo, done, send, listen, age, reset, enter, trial, low, high, dataLow, dataHigh, keep, takeEdge, choose, clockTests, dataTests, trialOf, trials, locationBlock}
+use Rattle.model.specs.Program.{Statement, sleep, setTo, addTo, done, send, listen, age, reset, enter, trial, low, high, dataLow, dataHigh, keep, budget, takeEdge, choose, clockTests, dataTests, budgetTest, trialOf, trials, locationBlock}
 use Rattle.model.specs.Machine.{Trial, Node, exec, finish, to}
 use Rattle.model.specs.Run.{stand, elsewhere}
 use Rattle.model.proofs.Basics.Bools.{clash, and-is}
@@ -59,6 +59,7 @@ tests (high i k) = true
 tests (dataLow v k) = true
 tests (dataHigh v k) = true
 tests (keep e) = true
+tests (budget k) = true
 tests takeEdge = false
 tests choose = false
 
@@ -84,8 +85,12 @@ data-test [] = refl
 data-test (g ∷ gs) = data-test gs
 
 trial-test : (l : Location) (e : ℕ) (a : Arc) → all tests (trialOf l e a) ≡ true
-trial-test l e a = tests-append (clockTests (a .clockGuards)) (dataTests (a .dataGuards) ++ (keep e ∷ []))
-    ∙ rw (clocks-test (a .clockGuards)) (tests-append (dataTests (a .dataGuards)) (keep e ∷ []) ∙ rw (data-test (a .dataGuards)))
+trial-test l e a = tests-append (clockTests (a .clockGuards)) (dataTests (a .dataGuards) ++ (budgetTest (a .budget) ++ (keep e ∷ [])))
+    ∙ rw (clocks-test (a .clockGuards)) (tests-append (dataTests (a .dataGuards)) (budgetTest (a .budget) ++ (keep e ∷ [])) ∙ rw (data-test (a .dataGuards)) (last (a .budget)))
+  where
+    last : (o : Option ℕ) → all tests (budgetTest o ++ (keep e ∷ [])) ≡ true
+    last none = refl
+    last (some b) = refl
 
 -- all of them are tests
 pub trials-test : (l : Location) (here e : ℕ) (as′ : List Arc) → all tests (trials l here e as′) ≡ true
@@ -114,6 +119,7 @@ tests-elsewhere (high i k) e = refl
 tests-elsewhere (dataLow v k) e = refl
 tests-elsewhere (dataHigh v k) e = refl
 tests-elsewhere (keep k) e = refl
+tests-elsewhere (budget k) e = refl
 tests-elsewhere takeEdge e = clash e
 tests-elsewhere choose e = clash e
 
@@ -173,6 +179,7 @@ tested p r (high i k) ss e = record { rest = refl; stays = stay r ss _ _; judged
 tested p r (dataLow v k) ss e = record { rest = refl; stays = stay r ss _ _; judged = refl }
 tested p r (dataHigh v k) ss e = record { rest = refl; stays = stay r ss _ _; judged = refl }
 tested p r (keep k) ss e = record { rest = refl; stays = stay r ss _ _; judged = refl }
+tested p r (budget k) ss e = record { rest = refl; stays = stay r ss _ _; judged = refl }
 tested p r takeEdge ss e = clash e
 tested p r choose ss e = clash e
 

@@ -4,10 +4,10 @@ use Prim.Native.Nat.{ℕ, zero, suc, _+_, _*_, _≤_, _<_}
 use native.Mathlib.Omega.{arith}
 use lib.ListN.{length, length-append}
 use Rattle.model.specs.Lists.{All, empty, more, Bytes, each, from}
-use Rattle.model.specs.Table.{Component, Read}
+use Rattle.model.specs.Table.{TableHeader, headerOf, Component, Read}
 use Rattle.model.specs.Bytes.{unsigned}
 use Rattle.model.specs.Limits.{Int16, ComponentIn, InLimits}
-use Rattle.model.specs.Program.{Statement, sleep, setTo, addTo, done, send, listen, age, reset, enter, trial, low, high, dataLow, dataHigh, keep, takeEdge, choose, quad, pairQuad, code, blockBytes, statements, locationBlock, edgeBlock, blocks, startBytes, nodeBody, nodeBytes, programBytes}
+use Rattle.model.specs.Program.{Statement, sleep, setTo, addTo, done, send, listen, age, reset, enter, trial, low, high, dataLow, dataHigh, keep, budget, takeEdge, choose, quad, pairQuad, code, blockBytes, statements, locationBlock, edgeBlock, blocks, startBytes, nodeBody, nodeBytes, programBytes}
 use Rattle.model.proofs.Basics.Words.{all-join, each-bytes, be16-bytes, unsigned-small}
 use Rattle.model.proofs.Program.Statement.{Fitting}
 use Rattle.model.proofs.Program.Size.{four}
@@ -48,6 +48,7 @@ code-bytes (high i k) h = quad-bytes 0x0C i k (omega arith) (h .0) (h .1)
 code-bytes (dataLow v k) h = signed 0x0D v k (omega arith) (h .0) (h .1)
 code-bytes (dataHigh v k) h = signed 0x0E v k (omega arith) (h .0) (h .1)
 code-bytes (keep e) h = quad-bytes 0x0F 0 e (omega arith) (omega arith) (omega (arith, h))
+code-bytes (budget k) h = quad-bytes 0x12 0 k (omega arith) (omega arith) h
 code-bytes takeEdge h = short 0x10 0 (omega arith) (omega arith)
 code-bytes choose h = short 0x11 0 (omega arith) (omega arith)
 
@@ -72,7 +73,7 @@ starts-bytes at (b ∷ bs) h =
     all-join (be16-bytes at (omega arith))
     (starts-bytes (at + statements b) bs (omega (arith, four b, length-append (blockBytes b) (each blockBytes bs))))
 
-module _ (channels : ℕ) (C : Component) (small : channels ≤ 16) (h : ComponentIn channels C) where
+module _ (channels : TableHeader) (C : Component) (small : channels .channels ≤ 16) (h : ComponentIn channels C) where
   -- all blocks of a node are blocks
   pub blocks-are : All Block (blocks C)
   unfolding blocks
@@ -99,4 +100,4 @@ program-bytes t h small =
     let R = each nodeBytes (t .table .components) in
     more {x = t .version} (omega (arith, h .mostVersion)) (all-join (be16-bytes (6 + length R) (omega arith))
     (more {x = length (t .table .components)} (omega arith) (all-join (be16-bytes (t .horizon) (omega arith))
-    (each-bytes nodeBytes (λ C k. node-bytes (t .table .channels) C (h .channels) k) (h .components)))))
+    (each-bytes nodeBytes (λ C k. node-bytes (headerOf t) C (h .channels) k) (h .components)))))

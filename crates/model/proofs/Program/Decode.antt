@@ -9,7 +9,7 @@ use lib.Dec.{leb, ltb}
 use lib.ListN.{length, getD, take}
 use lib.Seq.{take-append-seam}
 use Rattle.model.specs.Lists.{be16, each}
-use Rattle.model.specs.Table.{Component, Read, noComponent, size, componentOf}
+use Rattle.model.specs.Table.{TableHeader, headerOf, Component, Read, noComponent, size, componentOf}
 use Rattle.model.specs.Limits.{ComponentIn, InLimits}
 use Rattle.model.specs.Reader.{byte, word}
 use Rattle.model.specs.Program.{locationBlock, edgeBlock, nodeBytes, programBytes, Range, noPart, partFrom, partOf, within}
@@ -139,7 +139,7 @@ module _ (t : Read) where
 
 module _ (t : Read) (h : InLimits t) (c : ℕ) (k : c < size (t .table)) where
   -- component c is in the limits
-  limits : ComponentIn (t .table .channels) (componentOf (t .table) c)
+  limits : ComponentIn (headerOf t) (componentOf (t .table) c)
   limits = all-at noComponent (h .components) c k
 
   -- the numbers of locations and edges and the initial location, as the part of node c says them
@@ -151,11 +151,11 @@ module _ (t : Read) (h : InLimits t) (c : ℕ) (k : c < size (t .table)) where
   -- the code of a location in the part of node c is the location's block
   pub location-code : (l : ℕ) → l < length (componentOf (t .table) c .locations)
       → locationCode (partBytes (programBytes t) c) l ≡ locationBlock (componentOf (t .table) c) l
-  location-code l i = rw (part-is t c k) (node-location (t .table .channels) (componentOf (t .table) c) (h .channels) limits l i)
+  location-code l i = rw (part-is t c k) (node-location (headerOf t) (componentOf (t .table) c) (h .channels) limits l i)
 
   -- the code of an edge in the part of node c is the edge's block
   pub edge-code : (e : ℕ) → e < length (componentOf (t .table) c .arcs) → edgeCode (partBytes (programBytes t) c) e ≡ edgeBlock (componentOf (t .table) c) e
-  edge-code e i = rw (part-is t c k) (node-edge (t .table .channels) (componentOf (t .table) c) (h .channels) limits e i)
+  edge-code e i = rw (part-is t c k) (node-edge (headerOf t) (componentOf (t .table) c) (h .channels) limits e i)
 
   -- the code in which node c starts is the block of its initial location
   pub start-code : locationCode (partBytes (programBytes t) c) (byte (partBytes (programBytes t) c) 4) ≡ locationBlock (componentOf (t .table) c) (componentOf (t .table) c .initial)

@@ -2,6 +2,7 @@
 use mathlib.Core.Path.{_≡_, refl}
 use mathlib.Core.Bool.{Bool, true, false, cond}
 use mathlib.Core.Logic.{_⊎_, inl, inr}
+use mathlib.Core.Option.{Option, none, some}
 use mathlib.Core.List.{List, _∷_, _++_, map}
 use Prim.Native.Nat.{ℕ, zero, suc, _+_, _≤_, _<_}
 use native.Mathlib.Omega.{arith}
@@ -16,10 +17,10 @@ use Rattle.model.specs.declared.Update.{Update}
 use Rattle.model.specs.declared.Pair.{Pair}
 use Rattle.model.specs.declared.Sizes.{Sizes}
 use Rattle.model.specs.Lists.{All, empty, more, from}
-use Rattle.model.specs.Table.{Arc, Component, sizesOf, noLocation, noArc, locationOf, arcOf}
-use Rattle.model.specs.Limits.{LocationIn, ClockGuardIn, DataGuardIn, UpdateIn, PairIn, ActionIn, ArcIn, ComponentIn}
+use Rattle.model.specs.Table.{TableHeader, headerOf, Arc, Component, sizesOf, noLocation, noArc, locationOf, arcOf}
+use Rattle.model.specs.Limits.{BudgetIn, LocationIn, ClockGuardIn, DataGuardIn, UpdateIn, PairIn, ActionIn, ArcIn, ComponentIn}
 use Rattle.model.specs.Window.{masked}
-use Rattle.model.specs.Program.{Statement, sleep, setTo, addTo, done, send, listen, age, reset, enter, trial, low, high, dataLow, dataHigh, keep, clockTests, dataTests, trialOf, trials, locationBlock, updateOf, workOf, ageing, edgeBlockOf, edgeBlock}
+use Rattle.model.specs.Program.{Statement, sleep, setTo, addTo, done, send, listen, age, reset, enter, trial, low, high, dataLow, dataHigh, keep, budget, clockTests, dataTests, budgetTest, trialOf, trials, locationBlock, updateOf, workOf, ageing, edgeBlockOf, edgeBlock}
 use Rattle.model.proofs.Basics.Words.{all-join}
 use Rattle.model.proofs.Basics.Walk.{all-at}
 use Rattle.model.proofs.Program.Statement.{PairFits, Fitting, ends}
@@ -58,13 +59,20 @@ module _ (s : Sizes) (channels : s .channels ≤ 16) (locations : s .locations �
       more (inside (dataLow (g .variable) (g .low)) (omega arith, h .low) refl)
       (more (inside (dataHigh (g .variable) (g .high)) (omega arith, h .high) refl) (datas-inside a))
 
+  -- the test of the budget
+  budget-inside : (b : Bool) (o : Option ℕ) → BudgetIn b o → All Inside (budgetTest o)
+  budget-inside true none h = absurd h
+  budget-inside true (some n) h = more (inside (budget n) (omega arith) refl) empty
+  budget-inside false none h = empty
+  budget-inside false (some n) h = absurd h
+
   module _ (l : Location) (lh : LocationIn s l) where
     -- the trial of an edge
     trial-inside : (e : ℕ) (a : Arc) → e < 256 → ArcIn s a → All Inside (trialOf l e a)
     trial-inside e a k h =
         more (inside trial tt refl)
         (more (inside (high (l .clock) (l .bound)) (omega arith) refl)
-        (all-join (clocks-inside (h .clockGuards)) (all-join (datas-inside (h .dataGuards)) (more (inside (keep e) k refl) empty))))
+        (all-join (clocks-inside (h .clockGuards)) (all-join (datas-inside (h .dataGuards)) (all-join (budget-inside (s .budgets) (a .budget) (h .budget)) (more (inside (keep e) k refl) empty)))))
 
     -- the trials of the edges from number e on
     trials-inside : (here e : ℕ) {as′ : List Arc} → All (ArcIn s) as′ → e + length as′ ≤ 256 → All Inside (trials l here e as′)
@@ -107,7 +115,7 @@ module _ (s : Sizes) (channels : s .channels ≤ 16) (locations : s .locations �
 
 -- ## The laws
 
-module _ (channels : ℕ) (C : Component) (small : channels ≤ 16) (h : ComponentIn channels C) where
+module _ (channels : TableHeader) (C : Component) (small : channels .channels ≤ 16) (h : ComponentIn channels C) where
   -- each location's block is a block
   pub location-block : (l : ℕ) → l < length (C .locations) → Block (locationBlock C l)
   unfolding locationBlock

@@ -6,7 +6,7 @@ use native.Mathlib.Omega.{arith}
 use lib.ListN.{length, getD, drop, length-map, List·getD-append}
 use lib.Seq.{getD-append-add}
 use Rattle.model.specs.Lists.{be16, each, below}
-use Rattle.model.specs.Table.{Component}
+use Rattle.model.specs.Table.{TableHeader, headerOf, Component}
 use Rattle.model.specs.Limits.{ComponentIn}
 use Rattle.model.specs.Reader.{byte, word}
 use Rattle.model.specs.Program.{locationBlock, edgeBlock, blockBytes, blocks, startBytes, nodeBody, nodeBytes}
@@ -99,7 +99,7 @@ module _ (C : Component) where
 
 -- ## The laws
 
-module _ (channels : ℕ) (C : Component) (small : channels ≤ 16) (h : ComponentIn channels C) where
+module _ (channels : TableHeader) (C : Component) (small : channels .channels ≤ 16) (h : ComponentIn channels C) where
   -- the code of a location is its block
   pub node-location : (l : ℕ) → l < length (C .locations) → locationCode (nodeBytes C) l ≡ locationBlock C l
   node-location l k =

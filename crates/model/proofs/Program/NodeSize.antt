@@ -11,12 +11,12 @@ use Rattle.model.specs.declared.Action.the-variants.{Internal, Send, Rec
 use Rattle.model.specs.declared.Location.{Location}
 use Rattle.model.specs.declared.Sizes.{Sizes}
 use Rattle.model.specs.Lists.{All, empty, more, each, from, below}
-use Rattle.model.specs.Table.{Arc, Component, sizesOf, noArc, locationOf, arcOf}
+use Rattle.model.specs.Table.{TableHeader, headerOf, Arc, Component, sizesOf, noArc, locationOf, arcOf}
 use Rattle.model.specs.Limits.{ActionIn, ArcIn, ComponentIn}
 use Rattle.model.specs.Program.{Statement, takeEdge, trialOf, trials, locationBlock, edgeBlockOf, edgeBlock, blockBytes, blocks, startBytes, nodeBody, nodeBytes}
 use Rattle.model.proofs.Basics.Walk.{all-at}
 use Rattle.model.proofs.Basics.Sums.{each-join}
-use Rattle.model.proofs.Program.Size.{allQuads, quads-length, block-length, trial-length, clock-tests-most, trial-parts, workLength, edge-block-length, start-bytes-length, blocks-count}
+use Rattle.model.proofs.Program.Size.{allQuads, quads-length, block-length, trial-length, clock-tests-most, budget-test-most, trial-parts, workLength, edge-block-length, start-bytes-length, blocks-count}
 
 -- ## Counts of statements
 
@@ -31,18 +31,18 @@ module _ (s : Sizes) where
   guards-count a (Send k) h = h .guards
   guards-count a Receive h = omega (arith, ap length (h .guards))
 
-  -- at most 19 for the trial of an edge
-  trial-count : (l : Location) (e : ℕ) (a : Arc) → ArcIn s a → allQuads (trialOf l e a) ≤ 19
+  -- at most 20 for the trial of an edge
+  trial-count : (l : Location) (e : ℕ) (a : Arc) → ArcIn s a → allQuads (trialOf l e a) ≤ 20
   trial-count l e a h =
-      omega (arith, quads-length (trialOf l e a), trial-length l e a, trial-parts a, clock-tests-most (a .clockGuards), guards-count a (a .edge .action) (h .action))
+      omega (arith, quads-length (trialOf l e a), trial-length l e a, trial-parts a, budget-test-most (a .budget), clock-tests-most (a .clockGuards), guards-count a (a .edge .action) (h .action))
 
-  -- at most 19 for each edge
-  trials-count : (l : Location) (here e : ℕ) {as′ : List Arc} → All (ArcIn s) as′ → allQuads (trials l here e as′) ≤ length as′ * 19
+  -- at most 20 for each edge
+  trials-count : (l : Location) (here e : ℕ) {as′ : List Arc} → All (ArcIn s) as′ → allQuads (trials l here e as′) ≤ length as′ * 20
   unfolding trials
   trials-count l here e empty = omega arith
   trials-count l here e (more {x = a} {xs = as′} h t) = go (trials l here (suc e) as′) (trials-count l here (suc e) t) (eqb (a .edge .source) here)
     where
-      go : (r : List Statement) → allQuads r ≤ length as′ * 19 → (u : Bool) → allQuads (cond u (trialOf l e a ++ r) r) ≤ suc (length as′) * 19
+      go : (r : List Statement) → allQuads r ≤ length as′ * 20 → (u : Bool) → allQuads (cond u (trialOf l e a ++ r) r) ≤ suc (length as′) * 20
       go r k true = omega (arith, quads-join (trialOf l e a) r, trial-count l e a h)
       go r k false = omega arith
 
@@ -71,9 +71,9 @@ module _ (f : ℕ → List Statement) (m : ℕ) where
 
 -- ## The laws
 
-module _ (channels : ℕ) (C : Component) (h : ComponentIn channels C) where
-  -- at most 609 statements for a location
-  pub location-count : (l : ℕ) → allQuads (locationBlock C l) ≤ 609
+module _ (channels : TableHeader) (C : Component) (h : ComponentIn channels C) where
+  -- at most 641 statements for a location
+  pub location-count : (l : ℕ) → allQuads (locationBlock C l) ≤ 641
   unfolding locationBlock
   location-count l =
       let T = trials (locationOf C l) l 0 (C .arcs) in
@@ -84,18 +84,18 @@ module _ (channels : ℕ) (C : Component) (h : ComponentIn channels C) where
   unfolding edgeBlock
   edge-counted e k = edge-count (sizesOf channels C) (C .clocks) (arcOf C e) (h .mostClocks) (all-at noArc (h .arcs) e k)
 
-  -- the blocks of a node have at most 41,024 bytes
-  pub blocks-length : length (each blockBytes (blocks C)) ≤ 41024
+  -- the blocks of a node have at most 43,072 bytes
+  pub blocks-length : length (each blockBytes (blocks C)) ≤ 43072
   unfolding blocks
   blocks-length =
       let L = map (locationBlock C) (below (length (C .locations))) in
       let E = map (edgeBlock C) (below (length (C .arcs))) in
-      let x = row-length (locationBlock C) 2436 0 (length (C .locations)) (λ i u. omega (arith, quads-length (locationBlock C i), location-count i)) in
+      let x = row-length (locationBlock C) 2564 0 (length (C .locations)) (λ i u. omega (arith, quads-length (locationBlock C i), location-count i)) in
       let y = row-length (edgeBlock C) 64 0 (length (C .arcs)) (λ i u. omega (arith, quads-length (edgeBlock C i), edge-counted i (omega arith))) in
       omega (arith, ap length (each-join blockBytes L E), length-append (each blockBytes L) (each blockBytes E))
 
-  -- a node has at most 41,126 bytes
-  pub node-small : length (nodeBytes C) ≤ 41126
+  -- a node has at most 43,174 bytes
+  pub node-small : length (nodeBytes C) ≤ 43174
   unfolding nodeBytes nodeBody
   node-small =
       let S = startBytes 0 (blocks C) in

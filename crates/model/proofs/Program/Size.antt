@@ -2,6 +2,7 @@
 -- as its table and 32 bytes more for each edge: at most 24,576 bytes. Assumes nothing.
 use mathlib.Core.Path.{_≡_, refl, sym, ap, _∙_}
 use mathlib.Core.Bool.{Bool, true, false, cond}
+use mathlib.Core.Option.{Option, none, some}
 use mathlib.Core.List.{List, [], _∷_, _++_, map}
 use Prim.Native.Nat.{ℕ, zero, suc, _+_, _*_, _≤_, _<_}
 use native.Mathlib.Omega.{arith}
@@ -15,15 +16,15 @@ use Rattle.model.specs.declared.ClockGuard.{ClockGuard}
 use Rattle.model.specs.declared.DataGuard.{DataGuard}
 use Rattle.model.specs.declared.Update.{Update}
 use Rattle.model.specs.Lists.{All, empty, more, each, from, below}
-use Rattle.model.specs.Table.{Arc, Component, Read, sizesOf, noLocation, noArc, noComponent, size, componentOf, locationOf}
-use Rattle.model.specs.Bytes.{locationBytes, kindOf, itemCount, arcBytes, bodyBytes, componentBytes, bandBytes, tableBytes}
+use Rattle.model.specs.Table.{TableHeader, headerOf, Arc, Component, Read, sizesOf, noLocation, noArc, noComponent, size, componentOf, locationOf}
+use Rattle.model.specs.Bytes.{budgetBytes, locationBytes, kindOf, itemCount, arcBytes, bodyBytes, componentBytes, bandBytes, tableBytes}
 use Rattle.model.specs.Limits.{ArcIn, ComponentIn, InLimits}
 use Rattle.model.specs.Places.{itemsLength}
 use Rattle.model.specs.Window.{masked}
-use Rattle.model.specs.Program.{Statement, setTo, addTo, done, listen, age, reset, enter, low, high, keep, takeEdge, choose, clockTests, dataTests, trialOf, trials, locationBlock, updateOf, workOf, ageing, edgeBlockOf, edgeBlock, pairQuad, code, blockBytes, statements, blocks, startBytes, nodeBody, nodeBytes, programBytes}
+use Rattle.model.specs.Program.{Statement, setTo, addTo, done, listen, age, reset, enter, low, high, keep, takeEdge, choose, clockTests, dataTests, budgetTest, trialOf, trials, locationBlock, updateOf, workOf, ageing, edgeBlockOf, edgeBlock, pairQuad, code, blockBytes, statements, blocks, startBytes, nodeBody, nodeBytes, programBytes}
 use Rattle.model.proofs.Basics.Walk.{each-length}
 use Rattle.model.proofs.Basics.Sums.{total, each-join, each-total, total-sum, total-same, total-most, total-const, total-one, total-map, total-exchange, length-from, by-number}
-use Rattle.model.proofs.Reader.ArcPlaces.{arc-length}
+use Rattle.model.proofs.Reader.ArcPlaces.{head-long, arc-length}
 use Rattle.model.proofs.Program.Statement.{quads, coded}
 
 -- ## Statements
@@ -68,11 +69,14 @@ unfolding trialLength blockBytes each code
 trial-length l e a =
     let G = clockTests (a .clockGuards) in
     let D = dataTests (a .dataGuards) in
-    let k = block-length G (D ++ (keep e ∷ [])) in
-    let k′ = block-length D (keep e ∷ []) in
-    let z = block-length G (D ++ (keep 0 ∷ [])) in
-    let z′ = block-length D (keep 0 ∷ []) in
-    omega (arith, k, k′, z, z′)
+    let B = budgetTest (a .budget) in
+    let k = block-length G (D ++ (B ++ (keep e ∷ []))) in
+    let k′ = block-length D (B ++ (keep e ∷ [])) in
+    let k″ = block-length B (keep e ∷ []) in
+    let z = block-length G (D ++ (B ++ (keep 0 ∷ []))) in
+    let z′ = block-length D (B ++ (keep 0 ∷ [])) in
+    let z″ = block-length B (keep 0 ∷ []) in
+    omega (arith, k, k′, k″, z, z′, z″)
 
 -- ### Its trial
 
@@ -91,12 +95,23 @@ unfolding blockBytes each code
 data-tests-length [] = refl
 data-tests-length (g ∷ gs) = omega (arith, data-tests-length gs)
 
+-- the test of a budget has twice its bytes in the table
+pub budget-test : (o : Option ℕ) → length (blockBytes (budgetTest o)) ≡ 2 * length (budgetBytes o)
+unfolding blockBytes each code
+budget-test none = refl
+budget-test (some b) = refl
+
+pub budget-test-most : (o : Option ℕ) → length (blockBytes (budgetTest o)) ≤ 4
+budget-test-most none = omega (arith, budget-test none)
+budget-test-most (some b) = omega (arith, budget-test (some b))
+
 -- the trial's parts
-pub trial-parts : (a : Arc) → trialLength a ≡ 12 + length (blockBytes (clockTests (a .clockGuards))) + 8 * length (a .dataGuards)
+pub trial-parts : (a : Arc) → trialLength a ≡ 12 + length (blockBytes (clockTests (a .clockGuards))) + 8 * length (a .dataGuards) + length (blockBytes (budgetTest (a .budget)))
 unfolding trialLength blockBytes each code
 trial-parts a =
     let D = dataTests (a .dataGuards) in
-    omega (arith, block-length (clockTests (a .clockGuards)) (D ++ (keep 0 ∷ [])), block-length D (keep 0 ∷ []), data-tests-length (a .dataGuards))
+    let B = budgetTest (a .budget) in
+    omega (arith, block-length (clockTests (a .clockGuards)) (D ++ (B ++ (keep 0 ∷ []))), block-length D (B ++ (keep 0 ∷ [])), block-length B (keep 0 ∷ []), data-tests-length (a .dataGuards))
 
 -- ### Its block
 
@@ -151,15 +166,15 @@ work-most a Internal = omega arith
 work-most a (Send k) = omega arith
 work-most a Receive = omega arith
 
-arc-bytes-length : (a : Arc) → length (arcBytes a) ≡ 7 + (length (a .clockGuards) + length (a .dataGuards)) * 5 + itemsLength (kindOf (a .edge .action)) (itemCount a (a .edge .action))
+arc-bytes-length : (a : Arc) → length (arcBytes a) ≡ 7 + length (budgetBytes (a .budget)) + (length (a .clockGuards) + length (a .dataGuards)) * 5 + itemsLength (kindOf (a .edge .action)) (itemCount a (a .edge .action))
 unfolding arcBytes
-arc-bytes-length a = sym (arc-length a [])
+arc-bytes-length a = sym (arc-length a []) ∙ omega (arith, head-long (a .budget))
 
 -- an edge adds at most twice its bytes, and 32
 pub share-most : (clocks : ℕ) (a : Arc) → clocks ≤ 4 → arcShare clocks a ≤ 2 * length (arcBytes a) + 32
 unfolding arcShare
 share-most clocks a h =
-    omega (arith, trial-parts a, clock-tests-most (a .clockGuards), edge-block-length clocks a, work-most a (a .edge .action), arc-bytes-length a)
+    omega (arith, trial-parts a, budget-test (a .budget), clock-tests-most (a .clockGuards), edge-block-length clocks a, work-most a (a .edge .action), arc-bytes-length a)
 
 -- ## Components
 
@@ -270,7 +285,7 @@ node-length C h =
     let B = each blockBytes (blocks C) in
     omega (arith, length-append S B, start-bytes-length 0 (blocks C), blocks-count C, blocks-length C h, shares (C .clocks) (C .arcs))
 
-pub sourced : (channels : ℕ) (C : Component) → ComponentIn channels C → Sourced C
+pub sourced : (channels : TableHeader) (C : Component) → ComponentIn channels C → Sourced C
 sourced channels C h = go (h .arcs)
   where
     go : {as′ : List Arc} → All (ArcIn (sizesOf channels C)) as′ → All (λ a. a .edge .source < length (C .locations)) as′
@@ -283,7 +298,7 @@ shares-most clocks h [] = omega arith
 shares-most clocks h (a ∷ as′) = omega (arith, share-most clocks a h, shares-most clocks h as′)
 
 -- a node's part is at most twice its component's bytes, and 32 for each edge
-pub node-most : (channels : ℕ) (C : Component) → ComponentIn channels C → length (nodeBytes C) ≤ 2 * length (componentBytes C) + 32 * length (C .arcs)
+pub node-most : (channels : TableHeader) (C : Component) → ComponentIn channels C → length (nodeBytes C) ≤ 2 * length (componentBytes C) + 32 * length (C .arcs)
 unfolding componentBytes bodyBytes
 node-most channels C h =
     let L = each locationBytes (C .locations) in
@@ -297,7 +312,7 @@ unfoldable pub arcCount : Read → ℕ
 unfolding total
 arcCount t = total (λ C. length (C .arcs)) (t .table .components)
 
-nodes-most : (channels : ℕ) {Cs : List Component} → All (ComponentIn channels) Cs
+nodes-most : (channels : TableHeader) {Cs : List Component} → All (ComponentIn channels) Cs
     → total (λ C. length (nodeBytes C)) Cs ≤ 2 * total (λ C. length (componentBytes C)) Cs + 32 * total (λ C. length (C .arcs)) Cs
 unfolding total
 nodes-most channels empty = omega arith
@@ -308,7 +323,7 @@ pub program-size : (t : Read) → InLimits t → length (programBytes t) ≤ 2 *
 unfolding programBytes tableBytes arcCount
 program-size t h =
     let Cs = t .table .components in
-    omega (arith, each-total nodeBytes Cs, each-total componentBytes Cs, nodes-most (t .table .channels) (h .components), length-append (bandBytes (t .version) (t .table .bands)) (each componentBytes Cs))
+    omega (arith, each-total nodeBytes Cs, each-total componentBytes Cs, nodes-most (headerOf t) (h .components), length-append (bandBytes (t .version) (t .table .bands)) (each componentBytes Cs))
 
 few-arcs : (t : Read) → InLimits t → arcCount t ≤ 256
 unfolding arcCount

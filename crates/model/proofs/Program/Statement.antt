@@ -14,7 +14,7 @@ use Rattle.model.specs.Bytes.{unsigned}
 use Rattle.model.specs.Limits.{Int16}
 use Rattle.model.specs.Reader.{byte}
 use Rattle.model.specs.Places.{listAt}
-use Rattle.model.specs.Program.{Statement, sleep, setTo, addTo, done, send, listen, age, reset, enter, trial, low, high, dataLow, dataHigh, keep, takeEdge, choose, pairQuad, code}
+use Rattle.model.specs.Program.{Statement, sleep, setTo, addTo, done, send, listen, age, reset, enter, trial, low, high, dataLow, dataHigh, keep, budget, takeEdge, choose, pairQuad, code}
 use Rattle.model.specs.Machine.{pairAt, decodings, statementAt, statementLength, endsBlock}
 use Rattle.model.proofs.Basics.Words.{word-back, complement-back}
 use Rattle.model.proofs.Basics.Walk.{each-length, list-back}
@@ -43,6 +43,7 @@ Fitting (high i k) = (i < 256) × (k < 65536)
 Fitting (dataLow v k) = (v < 256) × Int16 k
 Fitting (dataHigh v k) = (v < 256) × Int16 k
 Fitting (keep e) = e < 256
+Fitting (budget k) = k < 65536
 Fitting takeEdge = Unit {0}
 Fitting choose = Unit {0}
 
@@ -65,6 +66,7 @@ behind (high i k) = 0
 behind (dataLow v k) = 0
 behind (dataHigh v k) = 0
 behind (keep e) = 0
+behind (budget k) = 0
 behind takeEdge = 0
 behind choose = 0
 
@@ -91,6 +93,7 @@ ends (high i k) = false
 ends (dataLow v k) = false
 ends (dataHigh v k) = false
 ends (keep e) = false
+ends (budget k) = false
 
 -- a statement's length, the length that its bytes tell, and whether they say that a block ends
 pub coded : (s : Statement) (r : List ℕ)
@@ -111,6 +114,7 @@ coded (high i k) r = (refl, refl, refl)
 coded (dataLow v k) r = (refl, refl, refl)
 coded (dataHigh v k) r = (refl, refl, refl)
 coded (keep e) r = (refl, refl, refl)
+coded (budget k) r = (refl, refl, refl)
 coded takeEdge r = (refl, refl, refl)
 coded choose r = (refl, refl, refl)
 
@@ -150,6 +154,7 @@ found (high i k) r h = rw (word-back k)
 found (dataLow v k) r h = rw (word-back (unsigned k), complement-back k (h .1))
 found (dataHigh v k) r h = rw (word-back (unsigned k), complement-back k (h .1))
 found (keep e) r h = rw (low-back e h)
+found (budget k) r h = rw (word-back k)
 found takeEdge r h = refl
 found choose r h = refl
 

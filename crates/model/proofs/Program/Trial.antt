@@ -3,8 +3,8 @@ use mathlib.Core.Path.{_≡_, refl, ap, _∙_}
 use mathlib.Core.Logic.{_⊎_, inl, inr, ⊎-elim}
 use mathlib.Core.Bool.{Bool, true, false, cond, _&&_, and-false}
 use mathlib.Core.List.{List, [], _∷_, _++_}
-use mathlib.Core.Option.{Option, some}
-use Prim.Native.Nat.{ℕ, suc, pred, _-_, min, max}
+use mathlib.Core.Option.{Option, none, some}
+use Prim.Native.Nat.{ℕ, _+_, suc, pred, _-_, min, max}
 use native.Mathlib.Omega.{arith}
 use borrow.Author.Tests.{leb-true, leb-false, le-ltb}
 use lib.Dec.{leb, ltb, eqb, leb·suc-suc}
@@ -14,9 +14,9 @@ use Rattle.model.specs.declared.Location.{Location}
 use Rattle.model.specs.declared.ClockGuard.{ClockGuard}
 use Rattle.model.specs.declared.DataGuard.{DataGuard}
 use Rattle.model.specs.Table.{Arc}
-use Rattle.model.specs.Window.{Pick, clockAt, valueAt, readyOf, pastOf, dataHolds, candidate, windowOf, better}
-use Rattle.model.specs.Program.{Statement, sleep, setTo, addTo, done, send, listen, age, reset, enter, trial, low, high, dataLow, dataHigh, keep, takeEdge, choose, clockTests, dataTests, trialOf}
-use Rattle.model.specs.Machine.{Trial, noTrial, raised, lowered, met, keeps}
+use Rattle.model.specs.Window.{meetsBudget, Pick, clockAt, valueAt, readyOf, pastOf, dataHolds, candidate, windowOf, better}
+use Rattle.model.specs.Program.{Statement, sleep, setTo, addTo, done, send, listen, age, reset, enter, trial, low, high, dataLow, dataHigh, keep, budget, takeEdge, choose, clockTests, dataTests, budgetTest, trialOf}
+use Rattle.model.specs.Machine.{Trial, noTrial, raised, lowered, met, keeps, spans}
 use Rattle.model.proofs.Basics.Bools.{and-is}
 
 -- what a trial's statements change: the trial, and what is kept
@@ -59,6 +59,7 @@ module _ (xs : List ℕ) (vs : List ℤ) where
   judge m (dataLow v k) = mind (met (m .tried) (leZ k (valueAt vs v))) (m .kept)
   judge m (dataHigh v k) = mind (met (m .tried) (leZ (valueAt vs v) k)) (m .kept)
   judge m (keep e) = mind (m .tried) (keeps (m .tried) e (m .tried .end) (m .kept))
+  judge m (budget k) = mind (met (m .tried) (spans (m .tried) k (m .tried .end))) (m .kept)
   judge m takeEdge = m
   judge m choose = m
 
@@ -182,15 +183,48 @@ module _ (xs : List ℕ) (vs : List ℤ) where
   data-judge (g ∷ gs) x k = data-judge gs (met (met x (leZ (g .low) (valueAt vs (g .variable)))) (leZ (valueAt vs (g .variable)) (g .high))) k
       ∙ ap (withGood x k) (regroup (x .good) (leZ (g .low) (valueAt vs (g .variable))) (leZ (valueAt vs (g .variable)) (g .high)) (dataHolds gs vs))
 
+  -- whether the window is as long as the budget, as statement 12 asks
+  asLong : Option ℕ → Trial → Bool
+  asLong none x = true
+  asLong (some b) x = spans x b (x .end)
+
+  -- the budget of an edge: a window that is shorter fails the trial
+  budget-judge : (o : Option ℕ) (x : Trial) (k : Option Pick) → judges (mind x k) (budgetTest o) ≡ mind (met x (asLong o x)) k
+  unfolding asLong
+  budget-judge none x k = ap (withGood x k) (idle (x .good))
+  budget-judge (some b) x k = refl
+
   -- "Keep applies the candidate rule."
-  keep-judge : (x : Trial) (D : Bool) (e r p : ℕ) (k : Option Pick) → Stands x r p
-      → keeps (met x D) e (x .end) k ≡ cond (D && ltb (suc r) p) (better k (record { edge = e; ready = r; end = pred p })) k
-  keep-judge x D e r p k s = rw (s .is, s .from) (go (x .good) refl)
+  keep-judge : (x : Trial) (D : Bool) (o : Option ℕ) (e r p : ℕ) (k : Option Pick) → Stands x r p
+      → keeps (met (met x D) (asLong o (met x D))) e (x .end) k ≡ cond (D && (ltb (suc r) p && meetsBudget o r p)) (better k (record { edge = e; ready = r; end = pred p })) k
+  unfolding asLong
+  keep-judge x D none e r p k s = rw (s .is, s .from) (go (x .good) refl)
     where
+      regroup2 : (d w : Bool) → d && true && w ≡ d && (w && true)
+      regroup2 true true = refl
+      regroup2 true false = refl
+      regroup2 false w = refl
+
       go : (g : Bool) → x .good ≡ g
-          → cond (g && D && ltb r (s .last)) (better k (record { edge = e; ready = r; end = s .last })) k
-          ≡ cond (D && ltb (suc r) p) (better k (record { edge = e; ready = r; end = pred p })) k
-      go true q = let h : suc (s .last) ≡ p = s .good q in rw (← h, leb·suc-suc (suc r) (s .last))
+          → cond (g && D && true && ltb r (s .last)) (better k (record { edge = e; ready = r; end = s .last })) k
+          ≡ cond (D && (ltb (suc r) p && true)) (better k (record { edge = e; ready = r; end = pred p })) k
+      go true q = let h : suc (s .last) ≡ p = s .good q in rw (← h, leb·suc-suc (suc r) (s .last)) (ap (λ t. cond t (better k (record { edge = e; ready = r; end = s .last })) k) (regroup2 D (ltb r (s .last))))
+      go false q = rw (s .bad q, le-ltb (suc r) 0 (omega arith), and-false D)
+  keep-judge x D (some b) e r p k s = rw (s .is, s .from) (go (x .good) refl)
+    where
+      regroup2 : (d z w : Bool) → d && z && w ≡ d && (w && z)
+      regroup2 true true true = refl
+      regroup2 true true false = refl
+      regroup2 true false true = refl
+      regroup2 true false false = refl
+      regroup2 false z w = refl
+
+      go : (g : Bool) → x .good ≡ g
+          → cond (g && D && leb (r + b) (s .last) && ltb r (s .last)) (better k (record { edge = e; ready = r; end = s .last })) k
+          ≡ cond (D && (ltb (suc r) p && ltb (r + b) p)) (better k (record { edge = e; ready = r; end = pred p })) k
+      go true q =
+          let h : suc (s .last) ≡ p = s .good q in
+          rw (← h, leb·suc-suc (suc r) (s .last), leb·suc-suc (r + b) (s .last)) (ap (λ t. cond t (better k (record { edge = e; ready = r; end = s .last })) k) (regroup2 D (leb (r + b) (s .last)) (ltb r (s .last))))
       go false q = rw (s .bad q, le-ltb (suc r) 0 (omega arith), and-false D)
 
   -- ## The trial of one edge
@@ -198,7 +232,7 @@ module _ (xs : List ℕ) (vs : List ℤ) where
   -- whatever was tried before it: afterwards that edge is kept exactly if it is a candidate and beats what was kept
   pub trial-judge : (l : Location) (e : ℕ) (a : Arc) (x : Trial) (k : Option Pick)
       → (y : Trial) × (judges (mind x k) (trialOf l e a) ≡ mind y (cond (candidate l a xs vs) (better k (windowOf l e a xs)) k))
-  trial-judge l e a x k = (met y D, path)
+  trial-judge l e a x k = (met (met y D) (asLong (a .budget) (met y D)), path)
     where
       D : Bool
       D = dataHolds (a .dataGuards) vs
@@ -226,10 +260,12 @@ module _ (xs : List ℕ) (vs : List ℤ) where
       st : Stands y (readyOf (a .clockGuards) xs) (pastOf l (a .clockGuards) xs)
       st = rw (ready-same (a .clockGuards), past-same l (a .clockGuards)) at (c .2)
 
-      path : judges (mind x k) (trialOf l e a) ≡ mind (met y D) (cond (candidate l a xs vs) (better k (windowOf l e a xs)) k)
+      path : judges (mind x k) (trialOf l e a) ≡ mind (met (met y D) (asLong (a .budget) (met y D))) (cond (candidate l a xs vs) (better k (windowOf l e a xs)) k)
       path =
-          judges-append (mind x₀ k) (clockTests (a .clockGuards)) (dataTests (a .dataGuards) ++ (keep e ∷ []))
-          ∙ (ap (λ (m : Mind). judges m (dataTests (a .dataGuards) ++ (keep e ∷ []))) (c .1)
-          ∙ (judges-append (mind y k) (dataTests (a .dataGuards)) (keep e ∷ [])
-          ∙ (ap (λ (m : Mind). judge m (keep e)) (data-judge (a .dataGuards) y k)
-          ∙ ap (mind (met y D)) (keep-judge y D e (readyOf (a .clockGuards) xs) (pastOf l (a .clockGuards) xs) k st))))
+          judges-append (mind x₀ k) (clockTests (a .clockGuards)) (dataTests (a .dataGuards) ++ (budgetTest (a .budget) ++ (keep e ∷ [])))
+          ∙ (ap (λ (m : Mind). judges m (dataTests (a .dataGuards) ++ (budgetTest (a .budget) ++ (keep e ∷ [])))) (c .1)
+          ∙ (judges-append (mind y k) (dataTests (a .dataGuards)) (budgetTest (a .budget) ++ (keep e ∷ []))
+          ∙ (ap (λ (m : Mind). judges m (budgetTest (a .budget) ++ (keep e ∷ []))) (data-judge (a .dataGuards) y k)
+          ∙ (judges-append (mind (met y D) k) (budgetTest (a .budget)) (keep e ∷ [])
+          ∙ (ap (λ (m : Mind). judge m (keep e)) (budget-judge (a .budget) (met y D) k)
+          ∙ ap (mind (met (met y D) (asLong (a .budget) (met y D)))) (keep-judge y D (a .budget) e (readyOf (a .clockGuards) xs) (pastOf l (a .clockGuards) xs) k st))))))

@@ -1,4 +1,4 @@
--- How much a node has to do in one block: at most 609 in a location's, at most 626 in an edge's, the choose at its end included. Assumes nothing.
+-- How much a node has to do in one block: at most 641 in a location's, at most 658 in an edge's, the choose at its end included. Assumes nothing.
 use mathlib.Core.Path.{_≡_, refl, sym, ap, _∙_}
 use mathlib.Core.Bool.{Bool, true, false, cond}
 use mathlib.Core.List.{List, [], _∷_, _++_, map, append-assoc}
@@ -9,7 +9,7 @@ use Rattle.model.specs.declared.Action.{Action}
 use Rattle.model.specs.declared.Action.the-variants.{Internal, Send, Receive}
 use Rattle.model.specs.declared.Update.{Update}
 use Rattle.model.specs.Lists.{all, All, empty, more, below}
-use Rattle.model.specs.Table.{Arc, Component, arcOf}
+use Rattle.model.specs.Table.{TableHeader, Arc, Component, arcOf}
 use Rattle.model.specs.Limits.{ComponentIn}
 use Rattle.model.specs.Window.{masked}
 use Rattle.model.specs.Program.{Statement, setTo, addTo, age, reset, enter, takeEdge, choose, updateOf, workOf, ageing, locationBlock, edgeBlock}
@@ -37,9 +37,9 @@ quads-after : (xs ys : List Statement) → allQuads ys ≤ allQuads (xs ++ ys)
 quads-after [] ys = omega arith
 quads-after (x ∷ xs) ys = omega (arith, quads-after xs ys)
 
--- what is left of a location's block weighs at most 609
-pub location-light : {channels : ℕ} {C : Component} → ComponentIn channels C → (xs ys : List Statement) (l : ℕ) → xs ++ ys ≡ trialsAt C l → all tests ys ≡ true
-    → weight (ys ++ (takeEdge ∷ [])) ≤ 609
+-- what is left of a location's block weighs at most 641
+pub location-light : {channels : TableHeader} {C : Component} → ComponentIn channels C → (xs ys : List Statement) (l : ℕ) → xs ++ ys ≡ trialsAt C l → all tests ys ≡ true
+    → weight (ys ++ (takeEdge ∷ [])) ≤ 641
 unfolding locationBlock
 location-light {channels} {C} fits xs ys l e h =
     omega (
@@ -79,8 +79,8 @@ work-plain a Internal = all-join (made-plain updateOf update-plain (a .updates))
 work-plain a (Send k) = more refl empty
 work-plain a Receive = more refl empty
 
--- an edge's block weighs at most 626
-pub edge-light : {channels : ℕ} {C : Component} → ComponentIn channels C → (e : ℕ) → e < length (C .arcs) → weight (edgeBlock C e) ≤ 626
+-- an edge's block weighs at most 658
+pub edge-light : {channels : TableHeader} {C : Component} → ComponentIn channels C → (e : ℕ) → e < length (C .arcs) → weight (edgeBlock C e) ≤ 658
 unfolding edgeBlock
 edge-light {channels} {C} fits e h =
     let a = arcOf C e in

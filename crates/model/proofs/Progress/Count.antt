@@ -1,4 +1,4 @@
--- How many choices a run carries out: at most one for each tick below the horizon, 626 for each passage and 1,235 for each node. Assumes nothing.
+-- How many choices a run carries out: at most one for each tick below the horizon, 658 for each passage and 1,299 for each node. Assumes nothing.
 use mathlib.Core.Path.{_≡_, refl, ap}
 use mathlib.Core.List.{List, []}
 use Prim.Native.Nat.{ℕ, zero, suc, _+_, _*_, _≤_, _<_}
@@ -35,7 +35,7 @@ own-few : (n : ℕ) (S : List Passage) → total n (λ c. length (own c S)) ≤ 
 own-few n S = omega (arith, own-counted n S, only-few (λ (v : Passage). ltb (v .component) n) S)
 
 -- so much for each of each, and so much for each besides
-total-times : (n : ℕ) (f : ℕ → ℕ) → total n (λ c. f c * 626 + 1235) ≡ total n f * 626 + n * 1235
+total-times : (n : ℕ) (f : ℕ → ℕ) → total n (λ c. f c * 658 + 1299) ≡ total n f * 658 + n * 1299
 total-times zero f = omega arith
 total-times (suc n) f = omega (arith, total-times n f)
 
@@ -47,7 +47,7 @@ module _ {t : Read} {H : ℕ} {S : List Passage} {offs : List ℕ} (G : Given t 
   start-live = record { tied = tied-start G; below = omega (arith, G .least) }
 
   -- a node starts in the block of its initial location
-  start-light : (c : ℕ) → c < size (t .table) → weight (nodeOf (startRun (settingAt t H S offs)) c .rest) ≤ 609
+  start-light : (c : ℕ) → c < size (t .table) → weight (nodeOf (startRun (settingAt t H S offs)) c .rest) ≤ 641
   unfolding locationBlock
   start-light c h =
       let C = componentOf (t .table) c in
@@ -59,13 +59,13 @@ module _ {t : Read} {H : ℕ} {S : List Passage} {offs : List ℕ} (G : Given t 
       )
 
   -- what all nodes have to do
-  start-toil : toilOf t S (startRun (settingAt t H S offs)) ≤ length S * 626 + size (t .table) * 1235
+  start-toil : toilOf t S (startRun (settingAt t H S offs)) ≤ length S * 658 + size (t .table) * 1299
   start-toil =
       let n = size (t .table) in
-      let each = total-least n (λ c. length (own c S) * 626 + 1235) (toilAt S (startRun (settingAt t H S offs))) (λ c h. omega (arith, start-light c h)) in
+      let each = total-least n (λ c. length (own c S) * 658 + 1299) (toilAt S (startRun (settingAt t H S offs))) (λ c h. omega (arith, start-light c h)) in
       omega (arith, each, total-times n (λ c. length (own c S)), own-few n S)
 
   -- a run carries out no more choices than that and the ticks
-  pub carried-few : (cs : List ℕ) → run (settingAt t H S offs) cs .state .used ≤ H + (length S * 626 + size (t .table) * 1235)
+  pub carried-few : (cs : List ℕ) → run (settingAt t H S offs) cs .state .used ≤ H + (length S * 658 + size (t .table) * 1299)
   unfolding run
   carried-few cs = omega (arith, uses G cs start-live, start-toil)

@@ -7,7 +7,7 @@ use Prim.Native.Nat.{ℕ, suc, _≤_, _<_}
 use native.Mathlib.Omega.{arith}
 use lib.ListN.{length, length-append}
 use Rattle.model.specs.Lists.{all, isNone}
-use Rattle.model.specs.Table.{Component, Read, size, componentOf, arcOf}
+use Rattle.model.specs.Table.{TableHeader, headerOf, Component, Read, size, componentOf, arcOf}
 use Rattle.model.specs.Limits.{ComponentIn}
 use Rattle.model.specs.Window.{Entry, Pick, choice}
 use Rattle.model.specs.Schedule.{Passage, own}
@@ -28,7 +28,7 @@ use Rattle.model.proofs.Progress.Block.{location-light, update-plain, a
 
 -- ## One phase
 
-module _ {p : List ℕ} {channels : ℕ} {C : Component} (codes : Coded p C) (fits : ComponentIn channels C) (most i : ℕ) {at : Entry} {r : Node} where
+module _ {p : List ℕ} {channels : TableHeader} {C : Component} (codes : Coded p C) (fits : ComponentIn channels C) (most i : ℕ) {at : Entry} {r : Node} where
   -- between the work and the enter
   ageing-falls : Ageing C i at r → toil most (finish p r (r .rest)) < toil most r
   ageing-falls g = go (g .young) refl
@@ -50,7 +50,7 @@ module _ {p : List ℕ} {channels : ℕ} {C : Component} (codes : Coded p C) (fi
       q : Choosing C i at (finish p r (r .rest))
       q = choose-step codes g
 
-      light : weight (finish p r (r .rest) .rest) < 611
+      light : weight (finish p r (r .rest) .rest) < 643
       light = omega (arith, ap weight (q .rest), location-light fits (q .past) (q .left) (at .location) (q .block) (left-tests q))
 
   -- in the location's block

@@ -140,9 +140,9 @@ module _ {t : Read} {H : ℕ} {S : List Passage} {offs : List ℕ} (G : Given t 
   unfolding run
   go-on cs e = let a = arrive-after G cs (start-live G) e in (a .more, subst (ReachesByApart t H S offs) (a .is) (reaches-by (a .arrival)))
 
--- no run carries out more than 710,904 choices
+-- no run carries out more than 744,184 choices
 uses-apart : (spread : ℕ) (t : Read) (S : List Passage) (offs : List ℕ) → InLimits t → acceptedScheduleAt spread t ≡ accepted S → Permitted spread (size (t .table)) offs
-    → UsesAtMostApart 710904 t (t .horizon) S offs
+    → UsesAtMostApart 744184 t (t .horizon) S offs
 uses-apart spread t S offs l a p cs = omega (
   arith,
   carried-few (given-apart spread t S offs l a p) cs,
@@ -179,8 +179,8 @@ reaches t S l a = let r = reach (given t S l a) in (r .0, reached-together t (t 
 pub continues : (t : Read) (S : List Passage) → InLimits t → acceptedScheduleOf t ≡ accepted S → Continues t (t .horizon) S
 continues t S l a cs e = let r = go-on (given t S l a) cs e in (r .0, reached-together t (t .horizon) S (cs ++ r .0) (r .1))
 
--- and no run of it carries out more than 710,904 choices
-pub uses-at-most : (t : Read) (S : List Passage) → InLimits t → acceptedScheduleOf t ≡ accepted S → UsesAtMost 710904 t (t .horizon) S
+-- and no run of it carries out more than 744,184 choices
+pub uses-at-most : (t : Read) (S : List Passage) → InLimits t → acceptedScheduleOf t ≡ accepted S → UsesAtMost 744184 t (t .horizon) S
 uses-at-most t S l a = uses-apart 0 t S [] l a (λ c h. omega arith)
 
 -- all three, for every list of numbers that is read as a table and accepted

@@ -5,7 +5,7 @@ use mathlib.Core.List.{List, [], _∷_, _++_}
 use Prim.Native.Nat.{ℕ, suc, _+_, _-_, _*_, _≤_, _<_}
 use native.Mathlib.Omega.{arith}
 use Rattle.model.specs.Lists.{All, empty, more}
-use Rattle.model.specs.Program.{Statement, sleep, setTo, addTo, done, send, listen, age, reset, enter, trial, low, high, dataLow, dataHigh, keep, takeEdge, choose}
+use Rattle.model.specs.Program.{Statement, sleep, setTo, addTo, done, send, listen, age, reset, enter, trial, low, high, dataLow, dataHigh, keep, budget, takeEdge, choose}
 use Rattle.model.specs.Machine.{Node, exec, finish, to}
 use Rattle.model.specs.Run.{Stand, sleeping, sending, listening, finishing, adding, working, taking, elsewhere, nowhere, stand, standAt, standOf}
 use Rattle.model.proofs.Basics.Bools.{clash}
@@ -32,8 +32,9 @@ cost (high i k) = 1
 cost (dataLow v k) = 1
 cost (dataHigh v k) = 1
 cost (keep e) = 1
+cost (budget k) = 1
 cost takeEdge = 1
-cost choose = 611
+cost choose = 643
 
 -- all statements of a list
 abbrev pub weight : List Statement → ℕ
@@ -58,7 +59,7 @@ taken r = r .sleeps + atSleep (standOf r)
 
 -- What a node of so many passages has yet to do: each take yet to finish counts for more than any edge's block.
 abbrev pub toil : ℕ → Node → ℕ
-toil most r = (suc most - taken r) * 626 + weight (r .rest)
+toil most r = (suc most - taken r) * 658 + weight (r .rest)
 
 -- ## One statement
 
@@ -79,6 +80,7 @@ plain (high i k) = true
 plain (dataLow v k) = true
 plain (dataHigh v k) = true
 plain (keep e) = true
+plain (budget k) = true
 plain takeEdge = false
 plain choose = false
 
@@ -99,6 +101,7 @@ tests-plain (high i k) e = refl
 tests-plain (dataLow v k) e = refl
 tests-plain (dataHigh v k) e = refl
 tests-plain (keep e) f = refl
+tests-plain (budget k) f = refl
 tests-plain takeEdge e = clash e
 tests-plain choose e = clash e
 
@@ -119,6 +122,7 @@ plain-cost (high i k) e = refl
 plain-cost (dataLow v k) e = refl
 plain-cost (dataHigh v k) e = refl
 plain-cost (keep e) f = refl
+plain-cost (budget k) f = refl
 plain-cost takeEdge e = clash e
 plain-cost choose e = clash e
 
@@ -140,6 +144,7 @@ plain-rest p r (high i k) e = refl
 plain-rest p r (dataLow v k) e = refl
 plain-rest p r (dataHigh v k) e = refl
 plain-rest p r (keep e) f = refl
+plain-rest p r (budget k) f = refl
 plain-rest p r takeEdge e = clash e
 plain-rest p r choose e = clash e
 
@@ -160,6 +165,7 @@ sleeps-after (high i k) n = omega arith
 sleeps-after (dataLow v k) n = omega arith
 sleeps-after (dataHigh v k) n = omega arith
 sleeps-after (keep e) n = omega arith
+sleeps-after (budget k) n = omega arith
 sleeps-after takeEdge n = omega arith
 sleeps-after choose n = omega arith
 
@@ -205,7 +211,7 @@ module _ (p : List ℕ) (most : ℕ) (r : Node) where
     less-falls h = omega (arith, taken-before, ap weight e)
 
     -- a statement that leads to a sleep
-    pub sleep-falls : r .sleeps ≤ most → atSleep (stand x) ≡ 0 → standOf next ≡ sleeping → weight (next .rest) ≤ 626 → 1 ≤ cost x → toil most next < toil most r
+    pub sleep-falls : r .sleeps ≤ most → atSleep (stand x) ≡ 0 → standOf next ≡ sleeping → weight (next .rest) ≤ 658 → 1 ≤ cost x → toil most next < toil most r
     sleep-falls l z s w c =
         omega (
           arith,

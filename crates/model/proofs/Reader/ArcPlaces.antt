@@ -1,5 +1,7 @@
 -- An edge with its lists: what stands in its bytes is the edge, and it is as long as its counts say. Assumes nothing.
 use mathlib.Core.Path.{_≡_, refl, sym, ap, _∙_}
+use mathlib.Core.Bool.{Bool, true, false}
+use mathlib.Core.Option.{Option, none, some}
 use mathlib.Core.List.{List, _++_, append-assoc}
 use Prim.Native.Nat.{ℕ, _+_, _*_}
 use native.Mathlib.Omega.{arith}
@@ -14,12 +16,13 @@ use Rattle.model.specs.declared.Pair.{Pair}
 use Rattle.model.specs.declared.Sizes.{Sizes}
 use Rattle.model.specs.Lists.{each}
 use Rattle.model.specs.Table.{Arc}
-use Rattle.model.specs.Bytes.{clockGuardBytes, dataGuardBytes, updateBytes, pairBytes, kindOf, itemCount, itemBytes, arcBytes}
-use Rattle.model.specs.Limits.{ClockGuardIn, DataGuardIn, UpdateIn, PairIn, ActionIn, ArcIn}
+use Rattle.model.specs.Bytes.{budgetBytes, arcHead, clockGuardBytes, dataGuardBytes, updateBytes, pairBytes, kindOf, itemCount, itemBytes, arcBytes}
+use Rattle.model.specs.Limits.{BudgetIn, ClockGuardIn, DataGuardIn, UpdateIn, PairIn, ActionIn, ArcIn}
 use Rattle.model.specs.Reader.{byte, clockGuardFine, clockGuardAt, dataGuardFine, dataGuardAt, updateFine, updateAt, pairFine, pairAt}
-use Rattle.model.specs.Places.{listAt, itemsLength, itemsPlace, arcLength, actionAt, updatesAt, pairsAt, arcAt}
+use Rattle.model.specs.Places.{arcHeadLength, budgetAt, listAt, itemsLength, itemsPlace, arcLength, actionAt, updatesAt, pairsAt, arcAt}
 use Rattle.model.proofs.Reader.Parts.{part-ok}
 use Rattle.model.proofs.Reader.Fixed.{clockGuard-agrees, dataGuard-agrees, update-agrees, pair-agrees}
+use Rattle.model.proofs.Basics.Words.{word-back}
 use Rattle.model.proofs.Basics.Walk.{first-drop, each-length, list-back}
 
 -- ## The parts of an edge
@@ -74,12 +77,12 @@ items-length a Receive = sym (each-length pairBytes 2 (λ q. refl) (a .pairs))
 -- ## The edge
 
 -- edges of the same parts
-arc-same : (source destination mask : ℕ) {x y : Action} {cs cs′ : List ClockGuard} {ds ds′ : List DataGuard} {us us′ : List Update} {ps ps′ : List Pair}
-    → x ≡ y → cs ≡ cs′ → ds ≡ ds′ → us ≡ us′ → ps ≡ ps′
+arc-same : (source destination mask : ℕ) {x y : Action} {o o′ : Option ℕ} {cs cs′ : List ClockGuard} {ds ds′ : List DataGuard} {us us′ : List Update} {ps ps′ : List Pair}
+    → x ≡ y → o ≡ o′ → cs ≡ cs′ → ds ≡ ds′ → us ≡ us′ → ps ≡ ps′
     → _≡_ {A = Arc}
-    (record { edge = record { source = source; destination = destination; mask = mask; action = x }; clockGuards = cs; dataGuards = ds; updates = us; pairs = ps })
-    (record { edge = record { source = source; destination = destination; mask = mask; action = y }; clockGuards = cs′; dataGuards = ds′; updates = us′; pairs = ps′ })
-arc-same source destination mask p q r t u = rw (p, q, r, t, u)
+    (record { edge = record { source = source; destination = destination; mask = mask; action = x }; budget = o; clockGuards = cs; dataGuards = ds; updates = us; pairs = ps })
+    (record { edge = record { source = source; destination = destination; mask = mask; action = y }; budget = o′; clockGuards = cs′; dataGuards = ds′; updates = us′; pairs = ps′ })
+arc-same source destination mask p w q r t u = rw (p, w, q, r, t, u)
 
 -- the clock bounds have five bytes each
 clocks-length : (a : Arc) → length (each clockGuardBytes (a .clockGuards)) ≡ length (a .clockGuards) * 5
@@ -89,39 +92,79 @@ clocks-length a = each-length clockGuardBytes 5 (λ g. refl) (a .clockGuards)
 datas-length : (a : Arc) → length (each dataGuardBytes (a .dataGuards)) ≡ length (a .dataGuards) * 5
 datas-length a = each-length dataGuardBytes 5 (λ g. refl) (a .dataGuards)
 
+-- whether an edge has a budget
+abbrev pub hasBudget : Option ℕ → Bool
+hasBudget none = false
+hasBudget (some b) = true
+
+-- 7 bytes, and the budget's
+pub head-long : (o : Option ℕ) → arcHeadLength (hasBudget o) ≡ 7 + length (budgetBytes o)
+head-long none = refl
+head-long (some b) = refl
+
+-- where edges have a budget, this one has
+pub has-budget : (b : Bool) (o : Option ℕ) → BudgetIn b o → hasBudget o ≡ b
+has-budget true none h = absurd h
+has-budget true (some n) h = refl
+has-budget false none h = refl
+has-budget false (some n) h = absurd h
+
 module _ (a : Arc) (r : List ℕ) where
+  abbrev b : Bool
+  b = hasBudget (a .budget)
+
   -- from the clock bounds on
-  clocks-there : drop 7 (arcBytes a ++ r)
+  clocks-there : drop (arcHeadLength b) (arcBytes a ++ r)
       ≡ each clockGuardBytes (a .clockGuards) ++ (each dataGuardBytes (a .dataGuards) ++ (itemBytes a (a .edge .action) ++ r))
   unfolding arcBytes
-  clocks-there = simp append-assoc
+  clocks-there = simp append-assoc (go (a .budget))
+    where
+      R : List ℕ
+      R = each clockGuardBytes (a .clockGuards) ++ (each dataGuardBytes (a .dataGuards) ++ (itemBytes a (a .edge .action) ++ r))
+
+      go : (o : Option ℕ) → drop (arcHeadLength (hasBudget o)) (arcHead a ++ (budgetBytes o ++ R)) ≡ R
+      go none = refl
+      go (some n) = refl
 
   -- from the data bounds on
-  datas-there : drop (7 + length (a .clockGuards) * 5) (arcBytes a ++ r) ≡ each dataGuardBytes (a .dataGuards) ++ (itemBytes a (a .edge .action) ++ r)
+  datas-there : drop (arcHeadLength b + length (a .clockGuards) * 5) (arcBytes a ++ r) ≡ each dataGuardBytes (a .dataGuards) ++ (itemBytes a (a .edge .action) ++ r)
   datas-there =
       let n = length (a .clockGuards) * 5 in
-      sym (drop-drop n 7 (arcBytes a ++ r)) ∙ ap (drop n) clocks-there ∙ drop-at (each clockGuardBytes (a .clockGuards)) _ n (clocks-length a)
+      sym (drop-drop n (arcHeadLength b) (arcBytes a ++ r)) ∙ ap (drop n) clocks-there ∙ drop-at (each clockGuardBytes (a .clockGuards)) _ n (clocks-length a)
 
   -- from the items on
-  items-there : drop (7 + (length (a .clockGuards) + length (a .dataGuards)) * 5) (arcBytes a ++ r) ≡ itemBytes a (a .edge .action) ++ r
+  items-there : drop (arcHeadLength b + (length (a .clockGuards) + length (a .dataGuards)) * 5) (arcBytes a ++ r) ≡ itemBytes a (a .edge .action) ++ r
   items-there =
       let n = length (a .clockGuards) * 5 in
       let m = length (a .dataGuards) * 5 in
-      let e : 7 + (length (a .clockGuards) + length (a .dataGuards)) * 5 ≡ 7 + n + m = omega arith in
-      ap (λ k. drop k (arcBytes a ++ r)) e ∙ sym (drop-drop m (7 + n) (arcBytes a ++ r)) ∙ ap (drop m) datas-there
+      let e : arcHeadLength b + (length (a .clockGuards) + length (a .dataGuards)) * 5 ≡ arcHeadLength b + n + m = omega arith in
+      ap (λ k. drop k (arcBytes a ++ r)) e ∙ sym (drop-drop m (arcHeadLength b + n) (arcBytes a ++ r)) ∙ ap (drop m) datas-there
       ∙ drop-at (each dataGuardBytes (a .dataGuards)) _ m (datas-length a)
 
   -- an edge is as long as its counts say
-  pub arc-length : arcLength (arcBytes a ++ r) ≡ length (arcBytes a)
+  pub arc-length : arcLength b (arcBytes a ++ r) ≡ length (arcBytes a)
   unfolding arcBytes
   arc-length =
       let C = each clockGuardBytes (a .clockGuards) in
       let D = each dataGuardBytes (a .dataGuards) in
       let I = itemBytes a (a .edge .action) in
-      omega (arith, clocks-length a, datas-length a, items-length a (a .edge .action), length-append (C ++ D) I, length-append C D)
+      let B = budgetBytes (a .budget) in
+      omega (arith, head-long (a .budget), clocks-length a, datas-length a, items-length a (a .edge .action), length-append (B ++ C ++ D) I, length-append (B ++ C) D, length-append B C)
+
+  -- the budget stands behind the 7 bytes
+  budget-back : budgetAt b (arcBytes a ++ r) ≡ a .budget
+  unfolding arcBytes
+  budget-back = simp append-assoc (go (a .budget))
+    where
+      R : List ℕ
+      R = each clockGuardBytes (a .clockGuards) ++ (each dataGuardBytes (a .dataGuards) ++ (itemBytes a (a .edge .action) ++ r))
+
+      go : (o : Option ℕ) → budgetAt (hasBudget o) (arcHead a ++ (budgetBytes o ++ R)) ≡ o
+      go none = refl
+      go (some n) = ap some (word-back n)
 
   -- an edge written stands there
-  pub arc-back : (s : Sizes) → ArcIn s a → arcAt (arcBytes a ++ r) ≡ a
+  pub arc-back : (s : Sizes) → ArcIn s a → arcAt b (arcBytes a ++ r) ≡ a
   unfolding arcAt arcBytes
   arc-back s h =
       let act = a .edge .action in
@@ -129,7 +172,8 @@ module _ (a : Arc) (r : List ℕ) where
       let D = each dataGuardBytes (a .dataGuards) ++ I in
       let bs = arcBytes a ++ r in
       arc-same (a .edge .source) (a .edge .destination) (a .edge .mask)
-      (ap (actionAt (kindOf act)) (first-drop bs (itemsPlace bs) ∙ ap (λ l. byte l 0) items-there) ∙ action-back a act r)
+      (ap (actionAt (kindOf act)) (first-drop bs (itemsPlace b bs) ∙ ap (λ l. byte l 0) items-there) ∙ action-back a act r)
+      budget-back
       (ap (listAt clockGuardAt 5 (length (a .clockGuards))) clocks-there
       ∙ list-back clockGuardBytes 5 (λ g. refl) clockGuardAt (ClockGuardIn s) (clockGuard-back s) (h .clockGuards) D)
       (ap (listAt dataGuardAt 5 (length (a .dataGuards))) datas-there

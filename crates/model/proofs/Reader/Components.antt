@@ -9,7 +9,7 @@ use lib.Seq.{length-take-le, getD-take, take-append-seam, drop-append-seam}
 use Rattle.model.specs.declared.Location.{Location}
 use Rattle.model.specs.declared.Sizes.{Sizes}
 use Rattle.model.specs.Lists.{All, empty, more, Bytes, be16, each, accepted}
-use Rattle.model.specs.Table.{Arc, Component, sizesOf}
+use Rattle.model.specs.Table.{TableHeader, headerOf, Arc, Component, sizesOf}
 use Rattle.model.specs.Bytes.{locationBytes, arcBytes, bodyBytes, componentBytes}
 use Rattle.model.specs.Limits.{LocationIn, ArcIn, ComponentIn}
 use Rattle.model.specs.Reader.{byte, word, ok, many, readLocation, readArc, headFine, sizesAt, componentWith, readBody, readComponent, about, atEnd, lengthFits, readComponents}
@@ -27,7 +27,7 @@ locations s n = many-agrees (readLocation s) (LocationIn s) locationBytes (locat
 arcs : (s : Sizes) (n : ℕ) → Agrees (many (readArc s) n) (Counted (ArcIn s) n) (each arcBytes)
 arcs s n = many-agrees (readArc s) (ArcIn s) arcBytes (arc-agrees s) n
 
-module _ (channels : ℕ) where
+module _ (channels : TableHeader) where
   -- a component written is read back
   pub component-reads : (C : Component) → ComponentIn channels C → readComponent channels (componentBytes C) ≡ ok C []
   unfolding readComponent componentBytes bodyBytes
@@ -56,7 +56,7 @@ module _ (channels : ℕ) where
       let h = simp tests at fine in
       let n = l .within .0 in
       let k = m .within .0 in
-      let s : sizesAt channels bs ≡ sizesOf channels C = ap (λ (j : ℕ). record { channels = channels; locations = j; clocks = byte bs 4; variables = byte bs 5 }) (sym n) in
+      let s : sizesAt channels bs ≡ sizesOf channels C = ap (λ (j : ℕ). record { channels = channels .channels; locations = j; clocks = byte bs 4; variables = byte bs 5; budgets = channels .budgets }) (sym n) in
       let tail : drop 7 bs ≡ L ++ A = l .same ∙ ap (λ q. L ++ q) (m .same ∙ append-nil A) in
       let body : from bs 2 5 ++ drop 7 bs ≡ bodyBytes C = cc in
       let whole = firsts-rest 7 bs fits in

@@ -13,7 +13,7 @@ use Rattle.model.specs.declared.Sizes.{Sizes}
 use Rattle.model.specs.Lists.{Bytes, be16}
 use Rattle.model.specs.Bytes.{unsigned, locationBytes, clockGuardBytes, dataGuardBytes, updateBytes, pairBytes}
 use Rattle.model.specs.Limits.{LocationIn, ClockGuardIn, DataGuardIn, UpdateIn, PairIn}
-use Rattle.model.specs.Reader.{byte, word, complement, locationFine, locationAt, readLocation, clockGuardFine, clockGuardAt, readClockGuard, dataGuardFine, dataGuardAt, readDataGuard, updateFine, updateAt, readUpdate, channelFine, readChannel, pairFine, pairAt, readPair}
+use Rattle.model.specs.Reader.{part, budgetFine, byte, word, complement, locationFine, locationAt, readLocation, clockGuardFine, clockGuardAt, readClockGuard, dataGuardFine, dataGuardAt, readDataGuard, updateFine, updateAt, readUpdate, channelFine, readChannel, pairFine, pairAt, readPair}
 use Rattle.model.proofs.Basics.Bools.{tests}
 use Rattle.model.proofs.Basics.Words.{word-back, word-bytes, word-small, complement-back, complement-in, unsigned-back}
 use Rattle.model.proofs.Reader.Parts.{from, Agrees, part-agrees}
@@ -103,3 +103,8 @@ module _ (s : Sizes) where
   pub pair-agrees : Agrees (readPair s) (PairIn s) pairBytes
   pair-agrees = part-agrees 2 (pairFine s) pairAt (PairIn s) pairBytes (λ q. refl)
       (λ q r h. (simp tests (omega arith), refl)) (λ bs a e. let h = simp tests at e in (record { channel = h .0; location = h .1 }, refl))
+
+-- the number of a budget
+pub budget-agrees : Agrees (part 2 budgetFine (λ r. word r 0)) (λ b. b ≤ 60000) be16
+budget-agrees = part-agrees 2 budgetFine (λ r. word r 0) (λ b. b ≤ 60000) be16 (λ b. refl)
+    (λ b r h. (simp (tests, word-back) h, word-back b)) (λ bs a e. (simp tests at e, sym (word-bytes a 0)))

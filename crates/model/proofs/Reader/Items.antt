@@ -1,6 +1,7 @@
 -- The items of an edge: updates, a channel, or pairs with no channel twice. Assumes nothing.
 use mathlib.Core.Path.{_≡_, refl, sym, ap, ap₂, subst, subst₂}
 use mathlib.Core.Bool.{true, false}
+use mathlib.Core.Option.{Option}
 use mathlib.Core.List.{List, [], _∷_, _++_}
 use Prim.Native.Nat.{ℕ, zero, suc, _≤_}
 use native.Mathlib.Omega.{arith}
@@ -128,17 +129,17 @@ pub record ItemsSaid (s : Sizes) (k n : ℕ) (bs : List ℕ) (a : Arc) (r : List
   pub same : bs ≡ itemBytes a (a .edge .action) ++ r
   pub bytes : Bytes r
 
-module _ (s : Sizes) (h : List ℕ) (cs : List ClockGuard) (ds : List DataGuard) where
+module _ (s : Sizes) (h : List ℕ) (o : Option ℕ) (cs : List ClockGuard) (ds : List DataGuard) where
   -- the items read are those of the arc made of them
   pub items-wrote : (k n : ℕ) (bs : List ℕ) (i : Items) (r : List ℕ) → Bytes bs → k ≤ 2 → countsFine k (length ds) n ≡ true → readItems s k n bs ≡ ok i r
-      → ItemsSaid s k n bs (arcWith h cs ds i) r
+      → ItemsSaid s k n bs (arcWith h o cs ds i) r
   unfolding readItems itemBytes
   items-wrote zero n bs i r a small c e =
       let t = then-ok (many (readUpdate s) n bs) _ e in
       let u = many-agrees (readUpdate s) (UpdateIn s) updateBytes (update-agrees s) n .wrote bs (t .0) (t .1) a (t .2) in
       let f = simp tests at c in
       let z = ok-same (t .3) in
-      subst₂ (λ j q. ItemsSaid s 0 n bs (arcWith h cs ds j) q) (z .0) (z .1) (record {
+      subst₂ (λ j q. ItemsSaid s 0 n bs (arcWith h o cs ds j) q) (z .0) (z .1) (record {
         kind = refl;
         count = u .within .0;
         within = record { guards = f .0; count = omega (arith, u .within .0, f .1); updates = u .within .1; pairs = refl };
@@ -150,7 +151,7 @@ module _ (s : Sizes) (h : List ℕ) (cs : List ClockGuard) (ds : List DataGuard)
       let u = channel-agrees s .wrote bs (t .0) (t .1) a (t .2) in
       let f = simp tests at c in
       let z = ok-same (t .3) in
-      subst₂ (λ j q. ItemsSaid s 1 n bs (arcWith h cs ds j) q) (z .0) (z .1) (record {
+      subst₂ (λ j q. ItemsSaid s 1 n bs (arcWith h o cs ds j) q) (z .0) (z .1) (record {
         kind = refl;
         count = sym (f .1);
         within = record { guards = f .0; channel = u .within; updates = refl; pairs = refl };
@@ -162,7 +163,7 @@ module _ (s : Sizes) (h : List ℕ) (cs : List ClockGuard) (ds : List DataGuard)
       let u = pairs-agree s n [] .wrote bs (t .0) (t .1) a (t .2) in
       let f = simp tests at c in
       let z = ok-same (t .3) in
-      subst₂ (λ j q. ItemsSaid s (suc (suc k)) n bs (arcWith h cs ds j) q) (z .0) (z .1) (record {
+      subst₂ (λ j q. ItemsSaid s (suc (suc k)) n bs (arcWith h o cs ds j) q) (z .0) (z .1) (record {
         kind = omega arith;
         count = u .within .count;
         within = record {

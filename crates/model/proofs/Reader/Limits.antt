@@ -8,44 +8,48 @@ use lib.ListN.{length, take, drop, length-append, length-drop}
 use lib.Seq.{length-take-le}
 use Rattle.model.specs.declared.Sizes.{Sizes}
 use Rattle.model.specs.Lists.{All, empty, more, each, accepted}
-use Rattle.model.specs.Table.{Arc, Component, Read, sizesOf}
-use Rattle.model.specs.Bytes.{locationBytes, clockGuardBytes, dataGuardBytes, itemBytes, arcHead, arcBytes, bodyBytes, componentBytes, bandBytes, tableBytes}
+use Rattle.model.specs.Table.{TableHeader, headerOf, Arc, Component, Read, sizesOf}
+use Rattle.model.specs.Bytes.{budgetBytes, locationBytes, clockGuardBytes, dataGuardBytes, itemBytes, arcHead, arcBytes, bodyBytes, componentBytes, bandBytes, tableBytes}
 use Rattle.model.specs.Limits.{LocationIn, ClockGuardIn, DataGuardIn, ArcIn, ComponentIn, InLimits}
-use Rattle.model.specs.Reader.{byte, word, ok, many, readLocation, readClockGuard, readDataGuard, readItems, countsFine, edgeFine, arcWith, readArcBody, readArc, headFine, sizesAt, componentWith, readBody, readComponent, about, atEnd, lengthFits, readComponents, versionFine, lengthFine, countFine, bodyStart, bandsAt, bandsFine, readWith, readTable}
+use Rattle.model.specs.Reader.{headerAt, readBudget, readArcParts, byte, word, ok, many, readLocation, readClockGuard, readDataGuard, readItems, countsFine, edgeFine, arcWith, readArcBody, readArc, headFine, sizesAt, componentWith, readBody, readComponent, about, atEnd, lengthFits, readComponents, versionFine, lengthFine, countFine, bodyStart, bandsAt, bandsFine, readWith, readTable}
 use Rattle.model.proofs.Basics.Bools.{and-is, tests}
 use Rattle.model.proofs.Reader.Bands.{bands-in, bands-said}
 use Rattle.model.proofs.Reader.Parts.{refused-clash, after-ok, cond-accepted, about-ok, accepted-same, then-ok, ok-same, finished-ok, head-ok}
-use Rattle.model.proofs.Reader.PartLimits.{holds-is, Tells, many-tells, more-long, location-tells, clockGuard-tells, dataGuard-tells, items-tell}
+use Rattle.model.proofs.Reader.PartLimits.{holds-is, Tells, many-tells, more-long, location-tells, clockGuard-tells, dataGuard-tells, budget-tells, items-tell}
 
 -- ## Edges
 
 -- the lengths of an edge's bytes
-arc-long : (a : Arc) → length (arcBytes a) ≡ 7 + length (each clockGuardBytes (a .clockGuards)) + length (each dataGuardBytes (a .dataGuards)) + length (itemBytes a (a .edge .action))
+arc-long : (a : Arc) → length (arcBytes a) ≡ 7 + length (budgetBytes (a .budget)) + length (each clockGuardBytes (a .clockGuards)) + length (each dataGuardBytes (a .dataGuards)) + length (itemBytes a (a .edge .action))
 unfolding arcBytes
 arc-long a =
     let C = each clockGuardBytes (a .clockGuards) in
     let D = each dataGuardBytes (a .dataGuards) in
     let I = itemBytes a (a .edge .action) in
-    omega (arith, length-append (arcHead a ++ C ++ D) I, length-append (arcHead a ++ C) D, length-append (arcHead a) C)
+    let B = budgetBytes (a .budget) in
+    omega (arith, length-append (arcHead a ++ B ++ C ++ D) I, length-append (arcHead a ++ B ++ C) D, length-append (arcHead a ++ B) C, length-append (arcHead a) B)
 
 -- an edge
 arc-tells : (s : Sizes) → Tells (readArc s) (ArcIn s) arcBytes
 unfolding readArc
 arc-tells s bs a r e =
     let t = head-ok 7 (edgeFine s) bs (readArcBody s) e in
-    let u = then-ok (many (readClockGuard s) (byte bs 4) (drop 7 bs)) _ (t .2) in
-    let c = many-tells (readClockGuard s) (ClockGuardIn s) clockGuardBytes (clockGuard-tells s) (byte bs 4) (drop 7 bs) (u .0) (u .1) (u .2) in
+    let o = then-ok (readBudget (s .budgets) (drop 7 bs)) _ (t .2) in
+    let p = budget-tells (s .budgets) (drop 7 bs) (o .0) (o .1) (o .2) in
+    let u = then-ok (many (readClockGuard s) (byte bs 4) (o .1)) _ (o .3) in
+    let c = many-tells (readClockGuard s) (ClockGuardIn s) clockGuardBytes (clockGuard-tells s) (byte bs 4) (o .1) (u .0) (u .1) (u .2) in
     let v = then-ok (many (readDataGuard s) (byte bs 5) (u .1)) _ (u .3) in
     let d = many-tells (readDataGuard s) (DataGuardIn s) dataGuardBytes (dataGuard-tells s) (byte bs 5) (u .1) (v .0) (v .1) (v .2) in
     let w = then-ok (readItems s (byte bs 0) (byte bs 6) (v .1)) _ (v .3) in
     let h = simp tests at (t .1) in
     let n = subst (λ k. countsFine (byte bs 0) k (byte bs 6) ≡ true) (sym (d .within .0)) (h .1) in
-    let i = items-tell s bs (u .0) (v .0) (byte bs 0) (byte bs 6) (v .1) (w .0) (w .1) n (w .2) in
+    let i = items-tell s bs (o .0) (u .0) (v .0) (byte bs 0) (byte bs 6) (v .1) (w .0) (w .1) n (w .2) in
     let z = ok-same (w .3) in
     holds-is (z .0) (z .1)
     (record {
       within =
           record {
+            budget = p .within;
             source = h .0 .0 .0 .0 .1;
             destination = h .0 .0 .0 .1;
             mask = h .0 .0 .1;
@@ -54,7 +58,7 @@ arc-tells s bs a r e =
             dataGuards = d .within .1;
             action = i .within;
           };
-      long = omega (arith, t .0, length-drop 7 bs, c .long, d .long, i .long, arc-long (arcWith bs (u .0) (v .0) (w .0)));
+      long = omega (arith, t .0, length-drop 7 bs, p .long, c .long, d .long, i .long, arc-long (arcWith bs (o .0) (u .0) (v .0) (w .0)));
     })
 
 -- ## Components
@@ -67,7 +71,7 @@ component-long C =
     let A = each arcBytes (C .arcs) in
     omega (arith, length-append L A)
 
-module _ (channels : ℕ) where
+module _ (channels : TableHeader) where
   -- a component, all of its bytes
   component-tells : (bs : List ℕ) (C : Component) (r : List ℕ) → readComponent channels bs ≡ ok C r → ComponentIn channels C × (length (componentBytes C) ≡ length bs)
   unfolding readComponent
@@ -83,7 +87,7 @@ module _ (channels : ℕ) where
       let h = simp tests at (t .1) in
       let n = l .within .0 in
       let k = m .within .0 in
-      let z : s ≡ sizesOf channels D = ap (λ (j : ℕ). record { channels = channels; locations = j; clocks = byte bs 4; variables = byte bs 5 }) (sym n) in
+      let z : s ≡ sizesOf channels D = ap (λ (j : ℕ). record { channels = channels .channels; locations = j; clocks = byte bs 4; variables = byte bs 5; budgets = channels .budgets }) (sym n) in
       subst (λ (X : Component). ComponentIn channels X × (length (componentBytes X) ≡ length bs)) (w .0) (
         record {
           leastLocations = omega arith;
@@ -144,8 +148,8 @@ read-limits bs t e =
     let second = cond-accepted (lengthFine bs) _ 2 255 (first .1) in
     let third = cond-accepted (countFine bs && bandsFine bs) _ 3 255 (second .1) in
     let both = and-is (countFine bs) (bandsFine bs) .0 (third .0) in
-    let k = after-ok (readComponents (byte bs 4) (byte bs 3) 0 (drop (bodyStart bs) bs)) _ (third .1) in
-    let c = components-tell (byte bs 4) (byte bs 3) 0 (drop (bodyStart bs) bs) (k .0) (k .1) in
+    let k = after-ok (readComponents (headerAt bs) (byte bs 3) 0 (drop (bodyStart bs) bs)) _ (third .1) in
+    let c = components-tell (headerAt bs) (byte bs 3) 0 (drop (bodyStart bs) bs) (k .0) (k .1) in
     let v = simp tests at (first .0) in
     let n = simp tests at (second .0) in
     let m = simp tests at (both .0) in

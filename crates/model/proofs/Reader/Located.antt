@@ -10,17 +10,17 @@ use lib.ListN.{length, getD}
 use Rattle.model.specs.declared.Location.{Location}
 use Rattle.model.specs.declared.Sizes.{Sizes}
 use Rattle.model.specs.Lists.{empty, more, Bytes, be16, each, Answer, accepted, refused}
-use Rattle.model.specs.Table.{Component, Read, sizesOf, noLocation, noArc, noComponent, size, componentOf, locationOf, arcOf}
+use Rattle.model.specs.Table.{Arc, TableHeader, headerOf, Component, Read, sizesOf, noLocation, noArc, noComponent, size, componentOf, locationOf, arcOf}
 use Rattle.model.specs.Bytes.{bandBytes, locationBytes, arcBytes, bodyBytes, componentBytes, tableBytes}
 use Rattle.model.specs.Limits.{LocationIn, ArcIn, ComponentIn, InLimits}
 use Rattle.model.specs.Reader.{byte, word, locationFine, locationAt, bodyStart, readTable}
-use Rattle.model.specs.Places.{arcLength, arcAt, startOf, locationPlace, arcPlace, ComponentAt, Located, readFrom, readOf, isAccepted, Valid, componentIn}
+use Rattle.model.specs.Places.{budgeted, arcLength, arcAt, startOf, locationPlace, arcPlace, ComponentAt, Located, readFrom, readOf, isAccepted, Valid, componentIn}
 use Rattle.model.proofs.Basics.Bools.{clash}
 use Rattle.model.proofs.Basics.Words.{word-back}
 use Rattle.model.proofs.Reader.Parts.{part-ok}
 use Rattle.model.proofs.Reader.Fixed.{location-agrees}
 use Rattle.model.proofs.Basics.Walk.{all-at, word-drop, Stands, stands-first, stands-second, stands-at, stands-whole, stands-byte, stands-says, walk, each-length}
-use Rattle.model.proofs.Reader.ArcPlaces.{arc-length, arc-back}
+use Rattle.model.proofs.Reader.ArcPlaces.{hasBudget, has-budget, arc-length, arc-back}
 use Rattle.model.proofs.Reader.RoundTrip.{written-read}
 
 -- ## One component
@@ -34,7 +34,7 @@ abbrev headOf : Component → List ℕ
 headOf C =
     be16 (2 + length (bodyBytes C)) ++ (length (C .locations) ∷ C .initial ∷ C .clocks ∷ C .variables ∷ length (C .arcs) ∷ [])
 
-module _ (channels : ℕ) (C : Component) (h : ComponentIn channels C) (bs : List ℕ) (b : ℕ) (st : Stands bs b (componentBytes C)) where
+module _ (channels : TableHeader) (C : Component) (h : ComponentIn channels C) (bs : List ℕ) (b : ℕ) (st : Stands bs b (componentBytes C)) (same : budgeted bs ≡ channels .budgets) where
   -- its first seven bytes, then locations, then edges
   whole : Stands bs b (headOf C ++ (each locationBytes (C .locations) ++ each arcBytes (C .arcs)))
   unfolding componentBytes bodyBytes
@@ -60,6 +60,10 @@ module _ (channels : ℕ) (C : Component) (h : ComponentIn channels C) (bs : Lis
       let first = stands-first bs (b + 7) (each locationBytes (C .locations)) (each arcBytes (C .arcs)) parts in
       walk locationBytes (λ r. 3) (LocationIn s) (λ l r i. refl) bs noLocation (locationPlace b) (λ l. omega arith) (h .locations) (stands-at at first)
 
+  -- an edge has a budget exactly if the table's edges have
+  has-it : (a : Arc) → ArcIn (sizesOf channels C) a → hasBudget (a .budget) ≡ budgeted bs
+  has-it a i = has-budget (channels .budgets) (a .budget) (i .budget) ∙ sym same
+
   -- edge e
   pub arc-stands : (e : ℕ) → e < length (C .arcs) → Stands bs (arcPlace bs b e) (arcBytes (arcOf C e))
   unfolding arcPlace
@@ -69,7 +73,7 @@ module _ (channels : ℕ) (C : Component) (h : ComponentIn channels C) (bs : Lis
       let n : byte bs (b + 2) ≡ length (C .locations) = head-byte 2 (omega arith) in
       let at : b + 7 + length L ≡ b + 7 + byte bs (b + 2) * 3 = omega (arith, each-length locationBytes 3 (λ l. refl) (C .locations)) in
       let second = stands-second bs (b + 7) L (each arcBytes (C .arcs)) parts in
-      walk arcBytes arcLength (ArcIn s) (λ a r i. arc-length a r) bs noArc (arcPlace bs b) (λ e. refl) (h .arcs) (stands-at at second)
+      walk arcBytes (arcLength (budgeted bs)) (ArcIn s) (λ a r i. subst (λ x. arcLength x (arcBytes a ++ r) ≡ length (arcBytes a)) (has-it a i) (arc-length a r)) bs noArc (arcPlace bs b) (λ e. refl) (h .arcs) (stands-at at second)
 
   -- a component that stands at b is what is looked for there
   component-at : ComponentAt bs b C
@@ -84,8 +88,8 @@ module _ (channels : ℕ) (C : Component) (h : ComponentIn channels C) (bs : Lis
         arcs = head-byte 6 (omega arith);
         locationFits = λ l k. location-stands l k .fits;
         location = λ l k. stands-says locationAt (λ r. location-back s (locationOf C l) r (all-at noLocation (h .locations) l k)) (location-stands l k);
-        arcFits = λ e k. omega (arith, arc-stands e k .fits, stands-says arcLength (arc-length (arcOf C e)) (arc-stands e k));
-        arc = λ e k. stands-says arcAt (λ r. arc-back (arcOf C e) r s (all-at noArc (h .arcs) e k)) (arc-stands e k);
+        arcFits = λ e k. omega (arith, arc-stands e k .fits, stands-says (arcLength (budgeted bs)) (λ r. subst (λ x. arcLength x (arcBytes (arcOf C e) ++ r) ≡ length (arcBytes (arcOf C e))) (has-it (arcOf C e) (all-at noArc (h .arcs) e k)) (arc-length (arcOf C e) r)) (arc-stands e k));
+        arc = λ e k. stands-says (arcAt (budgeted bs)) (λ r. subst (λ x. arcAt x (arcBytes (arcOf C e) ++ r) ≡ arcOf C e) (has-it (arcOf C e) (all-at noArc (h .arcs) e k)) (arc-back (arcOf C e) r s (all-at noArc (h .arcs) e k))) (arc-stands e k);
       }
 
 -- ## The table
@@ -134,7 +138,7 @@ module _ (t : Read) (h : InLimits t) (bs : List ℕ) (st : Stands bs 0 (tableByt
       let R = each componentBytes (t .table .components) in
       let B = bandBytes (t .version) (t .table .bands) in
       let second = stands-second bs 7 B R behind in
-      walk componentBytes (λ l. word l 0) (ComponentIn (t .table .channels)) (λ C r i. component-length C r) bs noComponent (startOf bs)
+      walk componentBytes (λ l. word l 0) (ComponentIn (headerOf t)) (λ C r i. component-length C r) bs noComponent (startOf bs)
       (λ c. ap (λ n. startOf bs c + n) (word-drop bs (startOf bs c))) (h .components) (stands-at start second)
 
   -- a table that stands at 0 is what is looked for
@@ -148,7 +152,7 @@ module _ (t : Read) (h : InLimits t) (bs : List ℕ) (st : Stands bs 0 (tableByt
         count = stands-byte st 3 (omega arith);
         channels = stands-byte st 4 (omega arith);
         horizon = stands-says (λ l. word l 5) (λ r. word-back (t .horizon)) st;
-        component = λ c k. component-at (t .table .channels) (componentOf (t .table) c) (all-at noComponent (h .components) c k) bs (startOf bs c) (component-stands c k);
+        component = λ c k. component-at (headerOf t) (componentOf (t .table) c) (all-at noComponent (h .components) c k) bs (startOf bs c) (component-stands c k) (ap (leb 3) its-version);
       }
 
 -- ## The laws
@@ -158,7 +162,7 @@ pub located : (bs : List ℕ) (t : Read) → Bytes bs → readTable bs ≡ accep
 located bs t b e = let w = written-read bs t b e in table-at t (w .0) bs (stands-whole (w .1))
 
 -- each component of an accepted table is in the limits
-pub component-in : (bs : List ℕ) (t : Read) → Bytes bs → readTable bs ≡ accepted t → (c : ℕ) → c < size (t .table) → ComponentIn (t .table .channels) (componentOf (t .table) c)
+pub component-in : (bs : List ℕ) (t : Read) → Bytes bs → readTable bs ≡ accepted t → (c : ℕ) → c < size (t .table) → ComponentIn (headerOf t) (componentOf (t .table) c)
 component-in bs t b e = all-at noComponent (written-read bs t b e .0 .components)
 
 -- ## The same for bytes that pass checks 1 to 6
@@ -179,5 +183,5 @@ valid-read bs v = let (t, e) = was-accepted (readTable bs) v in e ∙ ap accepte
 pub valid-located : (bs : List ℕ) → Bytes bs → Valid bs → Located bs (readOf bs)
 valid-located bs b v = located bs (readOf bs) b (valid-read bs v)
 
-pub valid-in : (bs : List ℕ) → Bytes bs → Valid bs → (c : ℕ) → c < size (readOf bs .table) → ComponentIn (readOf bs .table .channels) (componentIn bs c)
+pub valid-in : (bs : List ℕ) → Bytes bs → Valid bs → (c : ℕ) → c < size (readOf bs .table) → ComponentIn (headerOf (readOf bs)) (componentIn bs c)
 valid-in bs b v = component-in bs (readOf bs) b (valid-read bs v)

@@ -1,6 +1,7 @@
 -- Reading the parts of a table, whatever the numbers handed in, bytes or not: what is read is in its limits, and as long as its bytes. Assumes nothing.
 use mathlib.Core.Path.{_≡_, refl, ap, subst, subst₂}
-use mathlib.Core.Bool.{Bool, true}
+use mathlib.Core.Bool.{Bool, true, false}
+use mathlib.Core.Option.{Option}
 use mathlib.Core.List.{List, [], _∷_}
 use Prim.Native.Nat.{ℕ, zero, suc, _+_, _-_, _≤_}
 use native.Mathlib.Omega.{arith}
@@ -8,12 +9,12 @@ use lib.ListN.{length, length-append, length-drop}
 use Rattle.model.specs.declared.ClockGuard.{ClockGuard}
 use Rattle.model.specs.declared.DataGuard.{DataGuard}
 use Rattle.model.specs.declared.Sizes.{Sizes}
-use Rattle.model.specs.Lists.{empty, more, each}
+use Rattle.model.specs.Lists.{empty, more, each, be16}
 use Rattle.model.specs.Table.{Arc}
-use Rattle.model.specs.Bytes.{locationBytes, clockGuardBytes, dataGuardBytes, updateBytes, pairBytes, itemBytes}
-use Rattle.model.specs.Limits.{LocationIn, ClockGuardIn, DataGuardIn, UpdateIn, PairIn, ActionIn}
+use Rattle.model.specs.Bytes.{budgetBytes, locationBytes, clockGuardBytes, dataGuardBytes, updateBytes, pairBytes, itemBytes}
+use Rattle.model.specs.Limits.{BudgetIn, LocationIn, ClockGuardIn, DataGuardIn, UpdateIn, PairIn, ActionIn}
 use Rattle.model.specs.Limits.Distinct.{none as nil, more as cons}
-use Rattle.model.specs.Reader.{byte, word, Parsed, ok, _then_, part, many, locationFine, locationAt, readLocation, clockGuardFine, clockGuardAt, readClockGuard, dataGuardFine, dataGuardAt, readDataGuard, updateFine, updateAt, readUpdate, channelFine, readChannel, pairFine, pairAt, readPair, listed, readPairs, Items, readItems, countsFine, arcWith}
+use Rattle.model.specs.Reader.{budgetFine, readBudget, byte, word, Parsed, ok, _then_, part, many, locationFine, locationAt, readLocation, clockGuardFine, clockGuardAt, readClockGuard, dataGuardFine, dataGuardAt, readDataGuard, updateFine, updateAt, readUpdate, channelFine, readChannel, pairFine, pairAt, readPair, listed, readPairs, Items, readItems, countsFine, arcWith}
 use Rattle.model.proofs.Basics.Bools.{tests}
 use Rattle.model.proofs.Basics.Words.{complement-in}
 use Rattle.model.proofs.Reader.Parts.{then-ok, cond-not-ok, ok-same, part-ok, Counted}
@@ -43,6 +44,15 @@ part-tells n fine value In f sized got bs x r e =
       within = subst In (h .says) (got bs (h .passes));
       long = omega (arith, h .fits, sized x, length-drop n bs, ap length (h .leaves));
     }
+
+-- the budget of an edge, where edges have one
+pub budget-tells : (b : Bool) → Tells (readBudget b) (BudgetIn b) budgetBytes
+budget-tells false bs x r e = let z = ok-same e in holds-is (z .0) (z .1) (record { within = tt; long = omega arith })
+budget-tells true bs x r e =
+    let t = then-ok (part 2 budgetFine (λ r. word r 0) bs) _ e in
+    let z = ok-same (t .3) in
+    let h = part-tells 2 budgetFine (λ r. word r 0) (λ b. b ≤ 60000) (λ b. be16 b) (λ b. refl) (λ l f. simp tests at f) bs (t .0) (t .1) (t .2) in
+    holds-is (z .0) (z .1) (record { within = h .within; long = h .long })
 
 -- one more part
 pub more-long : {A : Type 0} (f : A → List ℕ) (x : A) (xs : List A) → length (each f (x ∷ xs)) ≡ length (f x) + length (each f xs)
@@ -129,29 +139,29 @@ pub record ItemsTold (s : Sizes) (bs : List ℕ) (a : Arc) (r : List ℕ) : Type
   pub long : length bs ≡ length (itemBytes a (a .edge .action)) + length r
 
 -- the items read are those of the arc made of them
-pub items-tell : (s : Sizes) (h : List ℕ) (cs : List ClockGuard) (ds : List DataGuard) (k n : ℕ) (bs : List ℕ) (i : Items) (r : List ℕ) → countsFine k (length ds) n ≡ true
-    → readItems s k n bs ≡ ok i r → ItemsTold s bs (arcWith h cs ds i) r
+pub items-tell : (s : Sizes) (h : List ℕ) (o : Option ℕ) (cs : List ClockGuard) (ds : List DataGuard) (k n : ℕ) (bs : List ℕ) (i : Items) (r : List ℕ) → countsFine k (length ds) n ≡ true
+    → readItems s k n bs ≡ ok i r → ItemsTold s bs (arcWith h o cs ds i) r
 unfolding readItems itemBytes
-items-tell s h cs ds zero n bs i r c e =
+items-tell s h o cs ds zero n bs i r c e =
     let t = then-ok (many (readUpdate s) n bs) _ e in
     let u = many-tells (readUpdate s) (UpdateIn s) updateBytes (update-tells s) n bs (t .0) (t .1) (t .2) in
     let f = simp tests at c in
     let z = ok-same (t .3) in
-    subst₂ (λ j q. ItemsTold s bs (arcWith h cs ds j) q) (z .0) (z .1)
+    subst₂ (λ j q. ItemsTold s bs (arcWith h o cs ds j) q) (z .0) (z .1)
     (record { within = record { guards = f .0; count = omega (arith, u .within .0, f .1); updates = u .within .1; pairs = refl }; long = u .long })
-items-tell s h cs ds (suc zero) n bs i r c e =
+items-tell s h o cs ds (suc zero) n bs i r c e =
     let t = then-ok (readChannel s bs) _ e in
     let u = channel-tells s bs (t .0) (t .1) (t .2) in
     let f = simp tests at c in
     let z = ok-same (t .3) in
-    subst₂ (λ j q. ItemsTold s bs (arcWith h cs ds j) q) (z .0) (z .1)
+    subst₂ (λ j q. ItemsTold s bs (arcWith h o cs ds j) q) (z .0) (z .1)
     (record { within = record { guards = f .0; channel = u .within; updates = refl; pairs = refl }; long = u .long })
-items-tell s h cs ds (suc (suc k)) n bs i r c e =
+items-tell s h o cs ds (suc (suc k)) n bs i r c e =
     let t = then-ok (readPairs s n [] bs) _ e in
     let u = pairs-tell s n [] bs (t .0) (t .1) (t .2) in
     let f = simp tests at c in
     let z = ok-same (t .3) in
-    subst₂ (λ j q. ItemsTold s bs (arcWith h cs ds j) q) (z .0) (z .1)
+    subst₂ (λ j q. ItemsTold s bs (arcWith h o cs ds j) q) (z .0) (z .1)
     (record {
       within =
           record {

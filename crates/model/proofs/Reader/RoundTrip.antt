@@ -7,10 +7,10 @@ use Prim.Native.Nat.{ℕ, _+_, _≤_}
 use native.Mathlib.Omega.{arith}
 use lib.ListN.{length, drop}
 use Rattle.model.specs.Lists.{All, Bytes, be16, each, Answer, accepted}
-use Rattle.model.specs.Table.{Component, Read}
+use Rattle.model.specs.Table.{TableHeader, headerOf, Component, Read}
 use Rattle.model.specs.Bytes.{bandBytes, componentBytes, tableBytes}
 use Rattle.model.specs.Limits.{ComponentIn, InLimits}
-use Rattle.model.specs.Reader.{byte, word, readComponents, versionFine, lengthFine, countFine, bodyStart, bandsAt, bandsFine, readWith, readTable}
+use Rattle.model.specs.Reader.{headerAt, byte, word, readComponents, versionFine, lengthFine, countFine, bodyStart, bandsAt, bandsFine, readWith, readTable}
 use Rattle.model.proofs.Basics.Bools.{and-is, tests}
 use Rattle.model.proofs.Basics.Words.{word-back, word-bytes}
 use Rattle.model.proofs.Reader.Parts.{after-ok, cond-accepted, accepted-same, from, firsts-rest, bytes-drop}
@@ -32,12 +32,12 @@ read-written t h =
     let bands : bandsFine bs ≡ true = fine-back bs (t .table .bands) R (h .bands) refl (omega arith) in
     let start : drop (bodyStart bs) bs ≡ R = start-back bs (t .table .bands) R (h .bands) refl (omega arith) in
     let back : bandsAt bs ≡ t .table .bands = bands-back bs (t .table .bands) R (h .bands) refl (omega arith) in
-    rw (first, second, third, bands, start, components-reads (t .table .channels) 0 (h .components), back)
+    rw (first, second, third, bands, start, components-reads (headerOf t) 0 (h .components), back)
     (ap {B = Answer Read} (λ n. accepted (record { version = t .version; table = t .table; horizon = n })) horizon)
 
 -- what the header and the components say together
 whole-said : (bs : List ℕ) (Cs : List Component) → Bytes bs → versionFine bs ≡ true → lengthFine bs ≡ true → countFine bs ≡ true → bandsFine bs ≡ true
-    → (length Cs ≡ byte bs 3) × All (ComponentIn (byte bs 4)) Cs × (drop (bodyStart bs) bs ≡ each componentBytes Cs)
+    → (length Cs ≡ byte bs 3) × All (ComponentIn (headerAt bs)) Cs × (drop (bodyStart bs) bs ≡ each componentBytes Cs)
     → InLimits (readWith bs Cs) × (bs ≡ tableBytes (readWith bs Cs))
 unfolding tableBytes
 whole-said bs Cs b first second third bands c =
@@ -76,8 +76,8 @@ written-read bs t b e =
     let second = cond-accepted (lengthFine bs) _ 2 255 (first .1) in
     let third = cond-accepted (countFine bs && bandsFine bs) _ 3 255 (second .1) in
     let both = and-is (countFine bs) (bandsFine bs) .0 (third .0) in
-    let k = after-ok (readComponents (byte bs 4) (byte bs 3) 0 (drop (bodyStart bs) bs)) _ (third .1) in
-    let c = components-wrote (byte bs 4) (byte bs 3) 0 (drop (bodyStart bs) bs) (k .0) (bytes-drop (bodyStart bs) b) (k .1) in
+    let k = after-ok (readComponents (headerAt bs) (byte bs 3) 0 (drop (bodyStart bs) bs)) _ (third .1) in
+    let c = components-wrote (headerAt bs) (byte bs 3) 0 (drop (bodyStart bs) bs) (k .0) (bytes-drop (bodyStart bs) b) (k .1) in
     subst (λ (u : Read). InLimits u × (bs ≡ tableBytes u)) (accepted-same (k .2)) (whole-said bs (k .0) b (first .0) (second .0) (both .0) (both .1) c)
 
 -- reading gives a table exactly if that table is in the limits and the bytes are its bytes

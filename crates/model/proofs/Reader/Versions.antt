@@ -1,27 +1,28 @@
 -- A table of version 1 gets what document 01 gave it: verdict, schedule, program, run and meetings; and the chart of that schedule. The verdict is
--- document 01's with 15 to 17 read as 11 (document 02, wish 3). Assumes nothing.
-use mathlib.Core.Path.{_≡_, refl, sym, ap, subst, _∙_}
+-- document 01's with 15 to 17 read as 11 (document 02, wish 3). Tables of versions 1 and 2 are read as before wish 8, and have the program that they
+-- had. Assumes nothing.
+use mathlib.Core.Path.{_≡_, refl, sym, ap, ap₂, subst, _∙_}
 use mathlib.Core.Bool.{Bool, true, false, cond, _&&_, not}
-use mathlib.Core.List.{List, [], _∷_}
+use mathlib.Core.List.{List, [], _∷_, _++_, map}
 use mathlib.Core.Option.{Option, none, some}
-use Prim.Native.Nat.{ℕ, zero, suc, _+_, _*_}
+use Prim.Native.Nat.{ℕ, zero, suc, _+_, _*_, _<_}
 use native.Mathlib.Omega.{arith}
-use borrow.Author.Tests.{eq-eqb}
+use borrow.Author.Tests.{eq-eqb, le-leb, lt-leb}
 use lib.Dec.{leb, ltb, eqb}
 use lib.ListN.{length, drop, getD, replicate}
-use Rattle.model.specs.Lists.{any, only, first, each, Answer, accepted, refused, _after_}
-use Rattle.model.specs.Table.{Component, Table, Read, bandOf}
+use Rattle.model.specs.Lists.{All, empty, more, any, only, below, first, each, Answer, accepted, refused, _after_}
+use Rattle.model.specs.Table.{Component, Table, Read, bandOf, locationOf}
 use Rattle.model.specs.Limits.{InLimits}
-use Rattle.model.specs.Reader.{byte, word, readComponents, lengthFine, countFine, bodyStart, bandsAt, bandsFine, versionFine, readWith, readTable}
+use Rattle.model.specs.Reader.{headerAt, byte, word, readComponents, lengthFine, countFine, bodyStart, bandsAt, bandsFine, versionFine, readWith, readTable}
 use Rattle.model.specs.Schedule.{Passage, others, schedule}
 use Rattle.model.specs.Checks.{near, disturb, isSend, isReceive, meets, collides, mayHear, heardWell, unheard, two, crowded, limit, checked, acceptedSchedule, acceptedScheduleOf}
-use Rattle.model.specs.Program.{programBytes}
+use Rattle.model.specs.Program.{Statement, takeEdge, locationBlock, edgeBlock, blocks, nodeBody, nodeBytes, programBytes}
 use Rattle.model.specs.Run.{settingOf, run}
 use Rattle.model.specs.Calls.{verdictOf, scheduleWith, bytesWith, acceptedScheduleIn, checkCall, scheduleCall, programIn, translateCall, notRun, ran, runWith, runPlanned, runRead, runCall}
 use Rattle.model.specs.Meetings.{sendsMet, listenersMet, sendsHeard, withMet, concerned, concernedAt, listOr, meetingsIn, meetingsCall}
 use Rattle.model.specs.Chart.{chart, chartIn, chartCall}
 use Rattle.model.specs.Hearings.{merged, mergedVerdict, mergedCall, mergedRun, mergedMeetings}
-use Rattle.model.specs.Versions.{readWith01, readTable01, shareTick, meets01, mayHear01, heardWell01, unheard01, crowded01, collides01, checked01, acceptedScheduleOf01, programBytes01, checkCall01, scheduleCall01, translateCall01, chartCall01, runWith01, runRead01, runCall01, concerned01, meetingsIn01, meetingsCall01}
+use Rattle.model.specs.Versions.{readWith01, readTable01, readTable12, shareTick, meets01, mayHear01, heardWell01, unheard01, crowded01, collides01, checked01, acceptedScheduleOf01, locationBlock12, blocks12, nodeBody12, nodeBytes12, programBytes12, programBytes01, checkCall01, scheduleCall01, translateCall01, chartCall01, runWith01, runRead01, runCall01, concerned01, meetingsIn01, meetingsCall01}
 use Rattle.model.proofs.Basics.Bools.{and-is}
 use Rattle.model.proofs.Reader.Bands.{zeros-small}
 use Rattle.model.proofs.Reader.Parts.{after-ok, cond-accepted, accepted-same}
@@ -30,6 +31,7 @@ use Rattle.model.proofs.Checks.Heard.{send-is}
 use Rattle.model.proofs.Checks.Numbers.{UpTo, read-up-to}
 use Rattle.model.proofs.Checks.Merged.{as-below, merged-faults, schedule-merged, read-merged, verdict-merged, schedule-call-merged, bytes-call-merged, made-merged}
 use Rattle.model.proofs.Reader.Limits.{read-limits}
+use Rattle.model.proofs.Schedule.Budgets.{Bare, no-budgets, same-trials}
 
 -- ## Equal questions
 
@@ -37,6 +39,11 @@ use Rattle.model.proofs.Reader.Limits.{read-limits}
 after-same : {A B : Type 0} (a : Answer A) (f g : A → Answer B) → ((x : A) → a ≡ accepted x → f x ≡ g x) → (a after f) ≡ (a after g)
 after-same (accepted x) f g h = h x refl
 after-same (refused n c) f g h = refl
+
+-- what each of a list becomes
+map-same : {A B : Type 0} (f g : A → B) → ((x : A) → f x ≡ g x) → (xs : List A) → map f xs ≡ map g xs
+map-same f g h [] = refl
+map-same f g h (x ∷ xs) = ap₂ _∷_ (h x) (map-same f g h xs)
 
 -- an equal test of each passage
 module _ (p q : Passage → Bool) (f : (o : Passage) → p o ≡ q o) where
@@ -105,24 +112,34 @@ module _ (bs : List ℕ) (one : byte bs 0 ≡ 1) where
   pub same-reading : readTable bs ≡ readTable01 bs
   unfolding readTable readTable01
   same-reading =
+      let hd : headerAt bs ≡ record { channels = byte bs 4; budgets = false } = rw one in
       let v : versionFine bs ≡ true = rw one in
       let f : eqb (byte bs 0) 1 ≡ true = rw one in
-      rw (v, f) (go (lengthFine bs) refl)
+      rw (v, f, hd) (go (lengthFine bs) refl)
     where
       told : (l : List Component) → accepted (readWith bs l) ≡ accepted (readWith01 bs l)
       told l = ap accepted (rw one)
 
       counted : (t : Bool)
-          → cond (t && true) (readComponents (byte bs 4) (byte bs 3) 0 (drop 7 bs) after λ l. accepted (readWith bs l)) (refused 3 255)
-          ≡ cond t (readComponents (byte bs 4) (byte bs 3) 0 (drop 7 bs) after λ l. accepted (readWith01 bs l)) (refused 3 255)
-      counted true = after-same (readComponents (byte bs 4) (byte bs 3) 0 (drop 7 bs)) (λ l. accepted (readWith bs l)) (λ l. accepted (readWith01 bs l)) (λ l e. told l)
+          → cond (t && true) (readComponents (record { channels = byte bs 4; budgets = false }) (byte bs 3) 0 (drop 7 bs) after λ l. accepted (readWith bs l)) (refused 3 255)
+          ≡ cond t (readComponents (record { channels = byte bs 4; budgets = false }) (byte bs 3) 0 (drop 7 bs) after λ l. accepted (readWith01 bs l)) (refused 3 255)
+      counted true = after-same (readComponents (record { channels = byte bs 4; budgets = false }) (byte bs 3) 0 (drop 7 bs)) (λ l. accepted (readWith bs l)) (λ l. accepted (readWith01 bs l)) (λ l e. told l)
       counted false = refl
 
       go : (t : Bool) → lengthFine bs ≡ t
-          → cond t (cond (countFine bs && bandsFine bs) (readComponents (byte bs 4) (byte bs 3) 0 (drop (bodyStart bs) bs) after λ l. accepted (readWith bs l)) (refused 3 255)) (refused 2 255)
-          ≡ cond t (cond (countFine bs) (readComponents (byte bs 4) (byte bs 3) 0 (drop 7 bs) after λ l. accepted (readWith01 bs l)) (refused 3 255)) (refused 2 255)
+          → cond t (cond (countFine bs && bandsFine bs) (readComponents (record { channels = byte bs 4; budgets = false }) (byte bs 3) 0 (drop (bodyStart bs) bs) after λ l. accepted (readWith bs l)) (refused 3 255)) (refused 2 255)
+          ≡ cond t (cond (countFine bs) (readComponents (record { channels = byte bs 4; budgets = false }) (byte bs 3) 0 (drop 7 bs) after λ l. accepted (readWith01 bs l)) (refused 3 255)) (refused 2 255)
       go false e = refl
       go true e = rw (no-question e, no-bands .0) (counted (countFine bs))
+
+-- bytes that begin with 0, 1 or 2 are read, or refused, as before wish 8
+pub same-reading-12 : (bs : List ℕ) → byte bs 0 < 3 → readTable bs ≡ readTable12 bs
+unfolding readTable readTable12
+same-reading-12 bs h =
+    let none : leb 3 (byte bs 0) ≡ false = lt-leb 3 (byte bs 0) h in
+    let most : leb (byte bs 0) 3 ≡ true = le-leb (byte bs 0) 3 (omega arith) in
+    let most12 : leb (byte bs 0) 2 ≡ true = le-leb (byte bs 0) 2 (omega arith) in
+    rw (none, most, most12)
 
 -- the version of what is read is the first byte
 read-version : (bs : List ℕ) (t : Read) → readTable bs ≡ accepted t → t .version ≡ byte bs 0
@@ -131,7 +148,7 @@ read-version bs t e =
     let first = cond-accepted (versionFine bs) _ 1 255 e in
     let second = cond-accepted (lengthFine bs) _ 2 255 (first .1) in
     let third = cond-accepted (countFine bs && bandsFine bs) _ 3 255 (second .1) in
-    let k = after-ok (readComponents (byte bs 4) (byte bs 3) 0 (drop (bodyStart bs) bs)) _ (third .1) in
+    let k = after-ok (readComponents (headerAt bs) (byte bs 3) 0 (drop (bodyStart bs) bs)) _ (third .1) in
     sym (ap (λ (u : Read). u .version) (accepted-same (k .2)))
 
 -- ## Check 10 and the schedule
@@ -216,9 +233,30 @@ module _ (t : Read) (h : InLimits t) (one : t .version ≡ 1) where
 
 -- ## The program
 
-pub same-program : (t : Read) → t .version ≡ 1 → programBytes t ≡ programBytes01 t
-unfolding programBytes programBytes01
-same-program t one = rw one
+-- a component whose edges have no budget has the blocks that it had
+module _ (C : Component) (bare : Bare (C .arcs)) where
+  same-blocks : blocks C ≡ blocks12 C
+  unfolding blocks blocks12 locationBlock locationBlock12
+  same-blocks = ap (λ (f : List (List Statement)). f ++ map (edgeBlock C) (below (length (C .arcs)))) (map-same _ _ (λ here. ap (λ (l : List Statement). l ++ (takeEdge ∷ [])) (same-trials (locationOf C here) here 0 bare)) (below (length (C .locations))))
+
+  same-node : nodeBytes C ≡ nodeBytes12 C
+  unfolding nodeBytes nodeBytes12 nodeBody nodeBody12
+  same-node = rw same-blocks
+
+same-nodes : {Cs : List Component} → All (λ C. Bare (C .arcs)) Cs → each nodeBytes Cs ≡ each nodeBytes12 Cs
+unfolding each
+same-nodes empty = refl
+same-nodes (more {x = C} b bs) = ap₂ _++_ (same-node C b) (same-nodes bs)
+
+-- a program of versions 1 and 2 is that of the earlier rule
+pub same-program-12 : (t : Read) → InLimits t → t .version < 3 → programBytes t ≡ programBytes12 t
+unfolding programBytes programBytes12
+same-program-12 t h v = rw (same-nodes (no-budgets t h v))
+
+-- one of version 1 is document 01's
+pub same-program : (t : Read) → InLimits t → t .version ≡ 1 → programBytes t ≡ programBytes01 t
+unfolding programBytes12 programBytes01
+same-program t h one = same-program-12 t h (omega (arith, one)) ∙ rw one
 
 -- ## The calls
 
@@ -254,7 +292,7 @@ module _ (bs : List ℕ) (one : byte bs 0 ≡ 1) where
       bytes-call-merged lent (programIn bs)
       ∙ ap (bytesWith lent)
       (answer-same (λ t. acceptedScheduleOf t after λ S. accepted (programBytes t)) (λ t. acceptedScheduleOf01 t after λ S. accepted (programBytes01 t))
-      (λ t h v. made-merged (acceptedScheduleOf t) (λ S. programBytes t) ∙ rw (same-schedule t h v, same-program t v)))
+      (λ t h v. made-merged (acceptedScheduleOf t) (λ S. programBytes t) ∙ rw (same-schedule t h v, same-program t h v)))
 
   pub same-chart : (lent : List ℕ) → mergedCall (chartCall bs lent) ≡ chartCall01 bs lent
   unfolding chartCall chartCall01
@@ -291,10 +329,10 @@ module _ (bs : List ℕ) (one : byte bs 0 ≡ 1) where
           go false true = refl
           go false false = refl
 
-      scheduled : (t : Read) (a : Answer (List Passage)) → t .version ≡ 1 → mergedRun (runPlanned t a choices lent) ≡ runWith01 t choices lent (merged a)
-      scheduled t (accepted S) v = with-run t S ∙ rw (same-program t v)
-      scheduled t (refused n c) v = refl
+      scheduled : (t : Read) (a : Answer (List Passage)) → InLimits t → t .version ≡ 1 → mergedRun (runPlanned t a choices lent) ≡ runWith01 t choices lent (merged a)
+      scheduled t (accepted S) h v = with-run t S ∙ rw (same-program t h v)
+      scheduled t (refused n c) h v = refl
 
       read : (a : Answer Read) → ((t : Read) → a ≡ accepted t → InLimits t × (t .version ≡ 1)) → UpTo 6 a → mergedRun (runRead a choices lent) ≡ runRead01 choices lent a
-      read (accepted t) h u = let k = h t refl in scheduled t (acceptedScheduleOf t) (k .1) ∙ ap (runWith01 t choices lent) (same-schedule t (k .0) (k .1))
+      read (accepted t) h u = let k = h t refl in scheduled t (acceptedScheduleOf t) (k .0) (k .1) ∙ ap (runWith01 t choices lent) (same-schedule t (k .0) (k .1))
       read (refused n c) h u = ap (λ (m : ℕ). notRun m c lent) (as-below n (omega (arith, u)))

@@ -2,6 +2,7 @@
 use mathlib.Core.Path.{_≡_, ap}
 use mathlib.Core.Bool.{Bool, true, false, cond}
 use mathlib.Core.Logic.{_⊎_, inl, inr}
+use mathlib.Core.Option.{Option, none, some}
 use mathlib.Core.List.{List, [], _∷_, _++_}
 use Prim.Native.Nat.{ℕ, zero, suc, _+_, _^_, _≤_, _<_}
 use native.Mathlib.Omega.{arith}
@@ -16,9 +17,9 @@ use Rattle.model.specs.declared.Update.{Update}
 use Rattle.model.specs.declared.Pair.{Pair}
 use Rattle.model.specs.declared.Sizes.{Sizes}
 use Rattle.model.specs.Lists.{All, empty, more, Bytes, each}
-use Rattle.model.specs.Table.{Arc, Component, Read, sizesOf}
-use Rattle.model.specs.Bytes.{unsigned, locationBytes, clockGuardBytes, dataGuardBytes, updateBytes, pairBytes, kindOf, itemCount, itemBytes, arcHead, arcBytes, bodyBytes, componentBytes, bandBytes, tableBytes}
-use Rattle.model.specs.Limits.{LocationIn, ClockGuardIn, DataGuardIn, UpdateIn, PairIn, ActionIn, ArcIn, ComponentIn, InLimits}
+use Rattle.model.specs.Table.{TableHeader, headerOf, Arc, Component, Read, sizesOf}
+use Rattle.model.specs.Bytes.{budgetBytes, unsigned, locationBytes, clockGuardBytes, dataGuardBytes, updateBytes, pairBytes, kindOf, itemCount, itemBytes, arcHead, arcBytes, bodyBytes, componentBytes, bandBytes, tableBytes}
+use Rattle.model.specs.Limits.{BudgetIn, LocationIn, ClockGuardIn, DataGuardIn, UpdateIn, PairIn, ActionIn, ArcIn, ComponentIn, InLimits}
 use Rattle.model.proofs.Basics.Words.{all-join, each-bytes, be16-bytes, unsigned-small}
 use Rattle.model.proofs.Reader.Items.{kind-small}
 
@@ -80,6 +81,13 @@ module _ (s : Sizes) (small : Small s) where
   item-bytes a (Send k) h = (h .guards, omega arith, byte-more k (omega arith) empty)
   item-bytes a Receive h = (omega (arith, ap length (h .guards)), h .most, each-bytes pairBytes pair-bytes (h .pairs))
 
+  -- the budget of an edge
+  budget-bytes : (b : Bool) (o : Option ℕ) → BudgetIn b o → Bytes (budgetBytes o)
+  budget-bytes true none h = absurd h
+  budget-bytes true (some n) h = be16-bytes n (omega arith)
+  budget-bytes false none h = empty
+  budget-bytes false (some n) h = absurd h
+
   -- an edge with its lists
   arc-bytes : (a : Arc) → ArcIn s a → Bytes (arcBytes a)
   unfolding arcBytes
@@ -91,10 +99,10 @@ module _ (s : Sizes) (small : Small s) where
       let four = byte-more (a .edge .mask) (omega arith) (byte-more (length (a .clockGuards)) (omega arith) two) in
       let six = byte-more (a .edge .source) (omega arith) (byte-more (a .edge .destination) (omega arith) four) in
       let head : Bytes (arcHead a) = byte-more (kindOf (a .edge .action)) (omega arith) six in
-      all-join (all-join (all-join head (each-bytes clockGuardBytes clockGuard-bytes (h .clockGuards))) (each-bytes dataGuardBytes dataGuard-bytes (h .dataGuards))) (i .2)
+      all-join (all-join (all-join (all-join head (budget-bytes (s .budgets) (a .budget) (h .budget))) (each-bytes clockGuardBytes clockGuard-bytes (h .clockGuards))) (each-bytes dataGuardBytes dataGuard-bytes (h .dataGuards))) (i .2)
 
 -- a component whose bytes are few
-component-bytes : (channels : ℕ) → channels ≤ 16 → (C : Component) → ComponentIn channels C × (length (componentBytes C) ≤ 8192) → Bytes (componentBytes C)
+component-bytes : (channels : TableHeader) → channels .channels ≤ 16 → (C : Component) → ComponentIn channels C × (length (componentBytes C) ≤ 8192) → Bytes (componentBytes C)
 unfolding componentBytes bodyBytes
 component-bytes channels k C p =
     let h = p .0 in
@@ -134,7 +142,7 @@ written-bytes t h =
     let B = bandBytes (t .version) (t .table .bands) in
     let n : 7 + length B + length (each componentBytes Cs) ≤ 8192 = omega (arith, h .bytes, length-append B (each componentBytes Cs)) in
     let bands = bands-bytes (t .version) (h .bands .most) in
-    let rest = each-bytes componentBytes (component-bytes (t .table .channels) (h .channels)) (each-few (h .components) (omega arith)) in
+    let rest = each-bytes componentBytes (component-bytes (headerOf t) (h .channels)) (each-few (h .components) (omega arith)) in
     let size = byte-more (t .version) (omega (arith, h .mostVersion)) (be16-bytes (7 + length (B ++ each componentBytes Cs)) (omega (arith, length-append B (each componentBytes Cs)))) in
     let counts = byte-more (length Cs) (omega arith) (byte-more (t .table .channels) (omega arith) (be16-bytes (t .horizon) (omega arith))) in
     all-join (all-join size counts) (all-join bands rest)

@@ -7,7 +7,7 @@ use native.Mathlib.Omega.{arith}
 use lib.Dec.{eqb}
 use lib.ListN.{length, getD}
 use Rattle.model.specs.Lists.{only, from, All, accepted}
-use Rattle.model.specs.Table.{Component, Table, Read, noComponent, size, componentOf}
+use Rattle.model.specs.Table.{TableHeader, headerOf, Component, Table, Read, noComponent, size, componentOf}
 use Rattle.model.specs.Limits.{ComponentIn, InLimits}
 use Rattle.model.specs.Window.{Entry, Pick}
 use Rattle.model.specs.Schedule.{Passage, own, schedule}
@@ -159,7 +159,7 @@ module _ {t : Read} {H : ℕ} {S : List Passage} {offs : List ℕ} (G : Given t 
   coded c h = record { locations = location-code t (G .limits) c h; edges = edge-code t (G .limits) c h }
 
   -- component c is in the limits
-  pub component-in : (c : ℕ) → c < size (t .table) → ComponentIn (t .table .channels) (componentOf (t .table) c)
+  pub component-in : (c : ℕ) → c < size (t .table) → ComponentIn (headerOf t) (componentOf (t .table) c)
   component-in c h = all-at noComponent (G .limits .components) c h
 
   -- the first passage ahead is one that the schedule opens

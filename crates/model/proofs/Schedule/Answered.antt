@@ -12,7 +12,7 @@ use lib.Dec.{ltb, eqb}
 use lib.ListN.{length}
 use Rattle.model.specs.declared.Reason.{Reason}
 use Rattle.model.specs.Lists.{_∈_, here, there, only, from, below, each, Bytes, Answer, accepted, refused, _after_}
-use Rattle.model.specs.Table.{Component, Read, noComponent, size, componentOf, arcOf}
+use Rattle.model.specs.Table.{Component, Read, noComponent, size, headerOf, componentOf, arcOf}
 use Rattle.model.specs.Limits.{ComponentIn}
 use Rattle.model.specs.Reader.{readTable}
 use Rattle.model.specs.Schedule.{Passage}
@@ -80,7 +80,7 @@ asked-in t c k S a e = let h = cond-accepted (askable t c k) _ 21 255 e in (h .0
     given q = cc
 
 module _ (t : Read) (S : List Passage) (s : IsSchedule limit (t .table) (t .horizon) S) (c k : ℕ) (hc : c < size (t .table)) (hk : k < t .horizon)
-    (in-limits : ComponentIn (t .table .channels) (componentOf (t .table) c)) where
+    (in-limits : ComponentIn (headerOf t) (componentOf (t .table) c)) where
   abbrev i : ℕ
   i = passageNumber S c k
 

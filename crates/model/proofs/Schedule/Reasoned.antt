@@ -16,13 +16,13 @@ use Rattle.model.specs.declared.Reason.{Reason}
 use Rattle.model.specs.declared.Reason.the-variants.{Taken, DataBound, NoWindow, ReadyLater, HigherNumber}
 use Rattle.model.specs.Lists.{_∈_, here, there, All, empty, more, placeOf, all}
 use Rattle.model.specs.Table.{Arc, Component, Table, size, componentOf, locationOf, arcOf}
-use Rattle.model.specs.Window.{Pick, IsWindow, readyOf, pastOf, dataWithin, dataHolds, firstFailing, longEnough, mayTake, windowAt}
+use Rattle.model.specs.Window.{Pick, IsWindow, Spans, readyOf, pastOf, dataWithin, dataHolds, firstFailing, longEnough, mayTake, windowAt}
 use Rattle.model.specs.Schedule.{Passage, own}
 use Rattle.model.specs.Checks.{noPassage, passageAt}
 use Rattle.model.specs.Chains.{Chain, last, link, Chained, IsSchedule}
 use Rattle.model.specs.Reasons.{passesAt, passageNumber, reasonOf, noBound, IsReason}
 use Rattle.model.proofs.Basics.Bools.{clash, and-is}
-use Rattle.model.proofs.Window.Interval.{is-window, one-window, fails-there}
+use Rattle.model.proofs.Window.Interval.{one-window, long-is, fails-there}
 use Rattle.model.proofs.Window.Choice.{choice-taken}
 use Rattle.model.proofs.Window.Opening.{opened}
 use Rattle.model.proofs.Basics.Members.{in-at, number-of}
@@ -213,23 +213,23 @@ module _ {limit : ℕ} {T : Table} {H : ℕ} {S : List Passage} (s : IsSchedule 
     -- the window of the edge, where it is long enough
     window : longEnough (locationOf C (v .entry .location)) (arcOf C e) (v .entry .clocks) ≡ true
         → (q : ℕ) × IsWindow (locationOf C (v .entry .location)) (arcOf C e .clockGuards) (v .entry .clocks) (readyOf (arcOf C e .clockGuards) (v .entry .clocks)) q
-        × (readyOf (arcOf C e .clockGuards) (v .entry .clocks) < q)
+        × (readyOf (arcOf C e .clockGuards) (v .entry .clocks) < q) × Spans (arcOf C e .budget) (readyOf (arcOf C e .clockGuards) (v .entry .clocks)) q
     window long =
         let l = locationOf C (v .entry .location) in
         let gs = arcOf C e .clockGuards in
         let xs = v .entry .clocks in
-        let k : suc (readyOf gs xs) < pastOf l gs xs = ltb-true _ _ long in
-        (pred (pastOf l gs xs), is-window l gs xs (omega arith), omega arith)
+        let w = long-is l (arcOf C e) xs .0 long in
+        let o = one-window l gs xs (w .2) .0 in
+        (w .1, subst (λ n. IsWindow l gs xs n (w .1)) o (w .2), subst (λ n. n < w .1) o (w .3), subst (λ n. Spans (arcOf C e .budget) n (w .1)) o (w .4))
 
-    -- a window longer than a tick: it is long enough, and ready is its first delay
-    long-of : (r q : ℕ) → IsWindow (locationOf C (v .entry .location)) (arcOf C e .clockGuards) (v .entry .clocks) r q → r < q
+    -- a window longer than a tick and as long as the budget: it is long enough, and ready is its first delay
+    long-of : (r q : ℕ) → IsWindow (locationOf C (v .entry .location)) (arcOf C e .clockGuards) (v .entry .clocks) r q → r < q → Spans (arcOf C e .budget) r q
         → (longEnough (locationOf C (v .entry .location)) (arcOf C e) (v .entry .clocks) ≡ true) × (r ≡ readyOf (arcOf C e .clockGuards) (v .entry .clocks))
-    long-of r q w k =
+    long-of r q w k z =
         let l = locationOf C (v .entry .location) in
         let gs = arcOf C e .clockGuards in
         let xs = v .entry .clocks in
-        let o = one-window l gs xs w in
-        (lt-ltb (suc (readyOf gs xs)) (pastOf l gs xs) (omega (arith, o .0, o .1)), o .0)
+        (long-is l (arcOf C e) xs .1 (r, q, w, k, z), one-window l gs xs w .0)
 
     -- the reason given is true
     pub reason-true : IsReason C v e (reasonOf C v e)
@@ -259,16 +259,16 @@ module _ {limit : ℕ} {T : Table} {H : ℕ} {S : List Passage} (s : IsSchedule 
             let f = place-first (λ g. not (dataWithin g vs)) noBound gs t in
             (eqb-false e (v .edge) i, t, not-true _ (f .0), λ j k. not-false _ (f .1 j k))
         go false i true p false q z r =
-            (eqb-false e (v .edge) i, p, λ x y w k. clash (sym q ∙ long-of x y w k .0))
+            (eqb-false e (v .edge) i, p, λ x y w k z. clash (sym q ∙ long-of x y w k z .0))
         go false i true p true q true r =
-            let w = window q in (eqb-false e (v .edge) i, p, (readyOf (a .clockGuards) xs, w .0, w .1, w .2, ltb-true _ _ r))
+            let w = window q in (eqb-false e (v .edge) i, p, (readyOf (a .clockGuards) xs, w .0, w .1, w .2, w .3, ltb-true _ _ r))
         go false i true p true q false r =
             let w = window q in
             let n = beaten e h from p q in
             let t : v .entry .tick + readyOf (a .clockGuards) xs ≡ v .ready = omega (arith, n .0, ltb-false (v .ready) (v .entry .tick + readyOf (a .clockGuards) xs) r) in
             let d : e ≡ v .edge → ⊥ = eqb-false e (v .edge) i in
             let y : v .edge ≤ e = n .1 t in
-            (by-cases (ℕ-discrete e (v .edge)) (λ x. absurd (d x)) (λ x. omega arith), p, (readyOf (a .clockGuards) xs, w .0, w .1, w .2, t))
+            (by-cases (ℕ-discrete e (v .edge)) (λ x. absurd (d x)) (λ x. omega arith), p, (readyOf (a .clockGuards) xs, w .0, w .1, w .2, w .3, t))
 
     -- a reason that is true is the one given: so there is exactly one
     pub reason-only : (r : Reason) → IsReason C v e r → r ≡ reasonOf C v e
@@ -287,16 +287,16 @@ module _ {limit : ℕ} {T : Table} {H : ℕ} {S : List Passage} (s : IsSchedule 
       where
         go : (w : Bool) → longEnough (locationOf C (v .entry .location)) (arcOf C e) (v .entry .clocks) ≡ w
             → NoWindow ≡ cond (not w) NoWindow (cond (ltb (v .ready) (v .entry .tick + readyOf (arcOf C e .clockGuards) (v .entry .clocks))) ReadyLater HigherNumber)
-        go true q = let w = window q in absurd (i .2 (readyOf (arcOf C e .clockGuards) (v .entry .clocks)) (w .0) (w .1) (w .2))
+        go true q = let w = window q in absurd (i .2 (readyOf (arcOf C e .clockGuards) (v .entry .clocks)) (w .0) (w .1) (w .2) (w .3))
         go false q = refl
     reason-only ReadyLater i =
         let w = i .2 in
-        let o = long-of (w .0) (w .1) (w .2) (w .3) in
-        let k : v .ready < v .entry .tick + readyOf (arcOf C e .clockGuards) (v .entry .clocks) = omega (arith, o .1, w .4) in
+        let o = long-of (w .0) (w .1) (w .2) (w .3) (w .4) in
+        let k : v .ready < v .entry .tick + readyOf (arcOf C e .clockGuards) (v .entry .clocks) = omega (arith, o .1, w .5) in
         rw (ne-eqb e (v .edge) (i .0), i .1, o .0, lt-ltb (v .ready) (v .entry .tick + readyOf (arcOf C e .clockGuards) (v .entry .clocks)) k)
     reason-only HigherNumber i =
         let w = i .2 in
-        let o = long-of (w .0) (w .1) (w .2) (w .3) in
-        let k : v .entry .tick + readyOf (arcOf C e .clockGuards) (v .entry .clocks) ≤ v .ready = omega (arith, o .1, w .4) in
+        let o = long-of (w .0) (w .1) (w .2) (w .3) (w .4) in
+        let k : v .entry .tick + readyOf (arcOf C e .clockGuards) (v .entry .clocks) ≤ v .ready = omega (arith, o .1, w .5) in
         let n : e ≡ v .edge → ⊥ = λ x. omega (arith, i .0) in
         rw (ne-eqb e (v .edge) n, i .1, o .0, le-ltb (v .ready) (v .entry .tick + readyOf (arcOf C e .clockGuards) (v .entry .clocks)) k)

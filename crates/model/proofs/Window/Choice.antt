@@ -14,7 +14,7 @@ use lib.ListN.{length, getD, length-append}
 use lib.Seq.{append-snoc, getD-at}
 use Rattle.model.specs.Lists.{snoc}
 use Rattle.model.specs.Table.{Arc, Component, noArc, locationOf, arcOf}
-use Rattle.model.specs.Window.{Entry, Pick, readyOf, pastOf, dataHolds, candidate, considered, chosen, choice}
+use Rattle.model.specs.Window.{Entry, Pick, readyOf, pastOf, dataHolds, meetsBudget, longEnough, candidate, considered, chosen, choice}
 pub use Rattle.model.specs.Window.{mayTake, windowAt, TakenEdge}
 use Rattle.model.proofs.Basics.Bools.{clash, and-is}
 
@@ -158,11 +158,11 @@ module _ (C : Component) (at : Entry) where
       from : (eqb (a .edge .source) (at .location) ≡ true) × (candidate (locationOf C (at .location)) a (at .clocks) (at .values) ≡ true)
       from = and-is (eqb (a .edge .source) (at .location)) (candidate (locationOf C (at .location)) a (at .clocks) (at .values)) .0 (t .candidate)
 
-      wins : (dataHolds (a .dataGuards) (at .values) ≡ true) × (ltb (suc (readyOf (a .clockGuards) (at .clocks))) (pastOf (locationOf C (at .location)) (a .clockGuards) (at .clocks)) ≡ true)
-      wins = and-is (dataHolds (a .dataGuards) (at .values)) (ltb (suc (readyOf (a .clockGuards) (at .clocks))) (pastOf (locationOf C (at .location)) (a .clockGuards) (at .clocks))) .0 (from .1)
+      wins : (dataHolds (a .dataGuards) (at .values) ≡ true) × (longEnough (locationOf C (at .location)) a (at .clocks) ≡ true)
+      wins = and-is (dataHolds (a .dataGuards) (at .values)) (longEnough (locationOf C (at .location)) a (at .clocks)) .0 (from .1)
 
       less : suc (readyOf (a .clockGuards) (at .clocks)) < pastOf (locationOf C (at .location)) (a .clockGuards) (at .clocks)
-      less = ltb-true _ _ (wins .1)
+      less = ltb-true _ _ (and-is (ltb (suc (readyOf (a .clockGuards) (at .clocks))) (pastOf (locationOf C (at .location)) (a .clockGuards) (at .clocks))) (meetsBudget (a .budget) (readyOf (a .clockGuards) (at .clocks)) (pastOf (locationOf C (at .location)) (a .clockGuards) (at .clocks))) .0 (wins .1) .0)
 
       first : p .ready ≡ readyOf (a .clockGuards) (at .clocks)
       first = ap (λ (x : Pick). x .ready) (t .window)

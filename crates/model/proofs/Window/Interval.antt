@@ -1,5 +1,6 @@
 -- The delays at which invariant and clock bounds hold are those from readyOf up to, and without, pastOf. Assumes nothing.
-use mathlib.Core.Path.{_≡_, refl, sym, ap}
+use mathlib.Core.Path.{_≡_, refl, sym, ap, subst}
+use mathlib.Core.Option.{Option, none, some}
 use mathlib.Core.Bool.{Bool, true, false, cond, _&&_, _||_, not}
 use mathlib.Core.List.{List, [], _∷_}
 use mathlib.Core.Logic.{_↔_}
@@ -14,7 +15,7 @@ use Rattle.model.specs.declared.ClockGuard.{ClockGuard}
 use Rattle.model.specs.declared.DataGuard.{DataGuard}
 use Rattle.model.specs.Lists.{all}
 use Rattle.model.specs.Table.{Arc}
-use Rattle.model.specs.Window.{clockAt, within, holdsAfter, IsWindow, readyOf, pastOf, dataWithin, dataHolds, firstFailing, candidate}
+use Rattle.model.specs.Window.{clockAt, within, holdsAfter, IsWindow, readyOf, pastOf, dataWithin, dataHolds, firstFailing, meetsBudget, Spans, longEnough, candidate}
 use Rattle.model.proofs.Basics.Bools.{clash, and-is}
 
 module _ (l : Location) (xs : List ℕ) (d : ℕ) where
@@ -95,21 +96,42 @@ module _ (l : Location) (gs : List ClockGuard) (xs : List ℕ) where
         omega (arith, w .last (pred (pastOf l gs xs)) (v .atEnd), holds-inside l xs e gs (w .atEnd) .1),
       )
 
--- an edge is a candidate exactly if its data bounds hold and it has a window with ready < end
-pub candidate-is : (l : Location) (a : Arc) (xs : List ℕ) (vs : List ℤ)
-    → (candidate l a xs vs ≡ true) ↔ (dataHolds (a .dataGuards) vs ≡ true) × ((r : ℕ) × (e : ℕ) × IsWindow l (a .clockGuards) xs r e × (r < e))
-candidate-is l a xs vs = (to, from)
-  where
-    to : candidate l a xs vs ≡ true → (dataHolds (a .dataGuards) vs ≡ true) × ((r : ℕ) × (e : ℕ) × IsWindow l (a .clockGuards) xs r e × (r < e))
-    to c =
-        let h = and-is (dataHolds (a .dataGuards) vs) (ltb (suc (readyOf (a .clockGuards) xs)) (pastOf l (a .clockGuards) xs)) .0 c in
-        let k : suc (readyOf (a .clockGuards) xs) < pastOf l (a .clockGuards) xs = ltb-true _ _ (h .1) in
-        (h .0, (readyOf (a .clockGuards) xs, pred (pastOf l (a .clockGuards) xs), is-window l (a .clockGuards) xs (omega arith), omega arith))
+-- a window meets the budget exactly if it spans it
+pub spans-is : (o : Option ℕ) (r e : ℕ) → (meetsBudget o r (suc e) ≡ true) ↔ Spans o r e
+spans-is none r e = (λ h. tt, λ h. refl)
+spans-is (some b) r e = (λ h. omega (arith, ltb-true (r + b) (suc e) h), λ h. lt-ltb (r + b) (suc e) (omega arith))
 
-    from : (dataHolds (a .dataGuards) vs ≡ true) × ((r : ℕ) × (e : ℕ) × IsWindow l (a .clockGuards) xs r e × (r < e)) → candidate l a xs vs ≡ true
-    from h =
-        let o = one-window l (a .clockGuards) xs (h .1 .2) in
-        rw (h .0) (lt-ltb (suc (readyOf (a .clockGuards) xs)) (pastOf l (a .clockGuards) xs) (omega (arith, o .0, o .1, h .1 .3)))
+module _ (l : Location) (a : Arc) (xs : List ℕ) where
+  -- a window is long enough exactly if it has at least one tick's length and spans the budget
+  pub long-is : (longEnough l a xs ≡ true) ↔ ((r : ℕ) × (e : ℕ) × IsWindow l (a .clockGuards) xs r e × (r < e) × Spans (a .budget) r e)
+  long-is = (to, from)
+    where
+      gs : List ClockGuard
+      gs = a .clockGuards
+
+      to : longEnough l a xs ≡ true → (r : ℕ) × (e : ℕ) × IsWindow l (a .clockGuards) xs r e × (r < e) × Spans (a .budget) r e
+      to c =
+          let h = and-is (ltb (suc (readyOf (a .clockGuards) xs)) (pastOf l (a .clockGuards) xs)) (meetsBudget (a .budget) (readyOf (a .clockGuards) xs) (pastOf l (a .clockGuards) xs)) .0 c in
+          let k : suc (readyOf (a .clockGuards) xs) < pastOf l (a .clockGuards) xs = ltb-true _ _ (h .0) in
+          let p : pastOf l (a .clockGuards) xs ≡ suc (pred (pastOf l (a .clockGuards) xs)) = omega arith in
+          let m : meetsBudget (a .budget) (readyOf (a .clockGuards) xs) (suc (pred (pastOf l (a .clockGuards) xs))) ≡ true = subst (λ n. meetsBudget (a .budget) (readyOf (a .clockGuards) xs) n ≡ true) p (h .1) in
+          (readyOf (a .clockGuards) xs, pred (pastOf l (a .clockGuards) xs), is-window l (a .clockGuards) xs (omega arith), omega arith, spans-is (a .budget) (readyOf (a .clockGuards) xs) (pred (pastOf l (a .clockGuards) xs)) .0 m)
+
+      from : ((r : ℕ) × (e : ℕ) × IsWindow l (a .clockGuards) xs r e × (r < e) × Spans (a .budget) r e) → longEnough l a xs ≡ true
+      from h =
+          let o = one-window l (a .clockGuards) xs (h .2) in
+          let p : pastOf l (a .clockGuards) xs ≡ suc (h .1) = omega (arith, o .0, o .1, h .3) in
+          let m : meetsBudget (a .budget) (readyOf (a .clockGuards) xs) (suc (h .1)) ≡ true = spans-is (a .budget) (readyOf (a .clockGuards) xs) (h .1) .1 (subst (λ n. Spans (a .budget) n (h .1)) (o .0) (h .4)) in
+          rw (p, lt-ltb (suc (readyOf (a .clockGuards) xs)) (suc (h .1)) (omega (arith, o .0, h .3))) m
+
+-- an edge is a candidate exactly if its data bounds hold and it has a window with ready < end that spans the budget
+pub candidate-is : (l : Location) (a : Arc) (xs : List ℕ) (vs : List ℤ)
+    → (candidate l a xs vs ≡ true)
+    ↔ (dataHolds (a .dataGuards) vs ≡ true) × ((r : ℕ) × (e : ℕ) × IsWindow l (a .clockGuards) xs r e × (r < e) × Spans (a .budget) r e)
+candidate-is l a xs vs = (
+  λ c. let h = and-is (dataHolds (a .dataGuards) vs) (longEnough l a xs) .0 c in (h .0, long-is l a xs .0 (h .1)),
+  λ h. rw (h .0) (long-is l a xs .1 (h .1)),
+)
 
 -- ## Data bounds
 

@@ -78,7 +78,7 @@ returns-4 c =
     let e = c .before .before .before .before in
     let s = e .before .before .before .before .before in
     let a = s .args in
-    after-by (a .part .now) (a .held) (a .registers) _ (tail (a .part .now) (a .registers .pc)) (omega (arith, e .before .before .before .op-at .ensures)) (c .before .before .statement-length .result)
+    after-by (a .part .now) (a .held) (a .registers) _ (tail (a .part .now) (a .registers .pc)) (omega (arith, e .before .before .before .op-at .ensures, opened e .low)) (λ q. e .before .if2 .left (e .before .before .before .op-at .ensures ∙ q)) (λ q. e .if3 .left (e .before .before .before .op-at .ensures ∙ q)) (c .before .before .statement-length .result)
     (c .before .before .statement-length .ensures .0)
     (c .work-statement .result)
     (c .work-statement .ensures)
@@ -96,7 +96,7 @@ returns-5 c =
     let s = e .before .before .before .before .before in
     let a = s .args in
     let w = opened e .low in
-    after-by (a .part .now) (a .held) (a .registers) _ (tail (a .part .now) (a .registers .pc)) (omega (arith, e .before .before .before .op-at .ensures)) (c .before .before .statement-length .result)
+    after-by (a .part .now) (a .held) (a .registers) _ (tail (a .part .now) (a .registers .pc)) (omega (arith, e .before .before .before .op-at .ensures, opened e .low)) (λ q. e .before .if2 .left (e .before .before .before .op-at .ensures ∙ q)) (λ q. e .if3 .left (e .before .before .before .op-at .ensures ∙ q)) (c .before .before .statement-length .result)
     (c .before .before .statement-length .ensures .0)
     (c .try-statement .result)
     (c .try-statement .ensures)

@@ -74,6 +74,12 @@ slice-aggregate-put-11 c = search needs
 put-requires-11 : tie.Need-put-requires-11
 put-requires-11 c κs = search needs
 
+slice-aggregate-put-12 : tie.Need-slice-aggregate-put-12
+slice-aggregate-put-12 c = search needs
+
+put-requires-12 : tie.Need-put-requires-12
+put-requires-12 c κs = search needs
+
 same-length : tie.Need-same-length
 same-length c = search needs
 
@@ -168,10 +174,19 @@ same-length-11 : tie.Need-same-length-11
 same-length-11 c = search needs
 
 returns-11 : tie.Need-returns-11
+unfolding partName
 returns-11 c =
     let p = c .before .before .put11 in
+    (same-words (partName (c .before .before .before .before .before .before .before .args .part)) (p .ensures .0) (sym (ap partName (c .before .before .before .before .before .match .keys11))), omega (arith, p .ensures .1))
+
+same-length-12 : tie.Need-same-length-12
+same-length-12 c = search needs
+
+returns-12 : tie.Need-returns-12
+returns-12 c =
+    let p = c .before .before .put12 in
     let r = c .before .before .before .before .before .match .rest in
-    (same-words (partName (c .before .before .before .before .before .before .before .args .part)) (p .ensures .0) (sym (rest-name (c .before .before .before .before .before .before .before .args .part) (r .0 .0 .0 .0 .0 .0 .0 .0 .0 .1) (r .0 .0 .0 .0 .0 .0 .0 .0 .1) (r .0 .0 .0 .0 .0 .0 .0 .1) (r .0 .0 .0 .0 .0 .0 .1) (r .0 .0 .0 .0 .0 .1) (r .0 .0 .0 .0 .1) (r .0 .0 .0 .1) (r .0 .0 .1) (r .0 .1) (r .1))), omega (arith, p .ensures .1))
+    (same-words (partName (c .before .before .before .before .before .before .before .args .part)) (p .ensures .0) (sym (rest-name (c .before .before .before .before .before .before .before .args .part) (r .0 .0 .0 .0 .0 .0 .0 .0 .0 .0 .1) (r .0 .0 .0 .0 .0 .0 .0 .0 .0 .1) (r .0 .0 .0 .0 .0 .0 .0 .0 .1) (r .0 .0 .0 .0 .0 .0 .0 .1) (r .0 .0 .0 .0 .0 .0 .1) (r .0 .0 .0 .0 .0 .1) (r .0 .0 .0 .0 .1) (r .0 .0 .0 .1) (r .0 .0 .1) (r .0 .1) (r .1))), omega (arith, p .ensures .1))
 
 pub put-part-name-spec : {M : Type 1} → statement M
 put-part-name-spec =
@@ -199,6 +214,8 @@ put-part-name-spec =
     put-requires-10
     slice-aggregate-put-11
     put-requires-11
+    slice-aggregate-put-12
+    put-requires-12
     same-length
     returns
     same-length-2
@@ -220,4 +237,6 @@ put-part-name-spec =
     same-length-10
     returns-10
     same-length-11
-    returns-11)
+    returns-11
+    same-length-12
+    returns-12)

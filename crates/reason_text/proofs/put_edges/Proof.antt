@@ -20,12 +20,12 @@ use Rattle.reason_text.proofs.put_edges.Statement.{statement}
 use Rattle.reason_text.proofs.put_edges.Tie as tie
 
 abbrev Inv-loop : tie.InvT-loop
-Inv-loop out₀ from table start c entry taken ready end count there location place₀ at₀ e₀ out place at e =
+Inv-loop out₀ from table start c entry taken ready end budgets count there location place₀ at₀ e₀ out place at e =
     (e ≤ count) × (place ≡ arcPlace table start e) × (at ≤ from + e * 180) × (length out ≡ length out₀)
     × Added out₀ from (linesBefore (componentIn table c) (entryOf entry) taken ready end e) out at
 
 abbrev μ-loop : tie.MeasureT-loop
-μ-loop out₀ from table start c entry taken ready end count there location place₀ at₀ e₀ out place at e = count - e
+μ-loop out₀ from table start c entry taken ready end budgets count there location place₀ at₀ e₀ out place at e = count - e
 
 -- what is known of the component
 known : (c : tie.After-shared-slice-known Inv-loop μ-loop) → Entered (c .before .before .args .table .now) (c .before .before .args .c) (c .before .before .args .start)
@@ -136,7 +136,7 @@ put-edge-requires c κs =
     let k = (known (c .before .before .before .before .before .before .before .before .before .before .before)) in
     let i = inside (c .before .before) in (
       omega (arith, l .inv .2, l .inv .3, s .pre .0, small (c .before .before)),
-      arc-asked (a .table .now) (a .c) (a .start) k (l .place) (l .e) (l .inv .1) i,
+      arc-asked (a .table .now) (a .c) (a .start) k (l .place) (l .e) (l .inv .1) i (a .budgets) (s .pre .6),
       rw (location-is (c .before .before .before .before .before .before)) (k .clock (a .entry .location) (s .pre .4)),
       s .pre .5,
     )
@@ -157,7 +157,7 @@ add-place-3 : tie.Need-add-place-3 Inv-loop μ-loop
 add-place-3 c =
     let a = c .before .before .before .before .before .before .before .before .before .before .before .before .before .before .before .before .before .before .args in
     let l = c .before .before .before .before .before .before .before .before .loop in
-    omega (arith, next-within (a .table .now) (a .c) (a .start) (known (c .before .before .before .before .before .before .before .before .before .before .before .before .before .before .before .before)) (l .place) (l .e) (l .inv .1) (inside (c .before .before .before .before .before .before .before)) (c .arc-length .result) (c .arc-length .ensures))
+    omega (arith, next-within (a .table .now) (a .c) (a .start) (known (c .before .before .before .before .before .before .before .before .before .before .before .before .before .before .before .before)) (l .place) (l .e) (l .inv .1) (inside (c .before .before .before .before .before .before .before)) (a .budgets) (c .before .before .before .before .before .before .before .before .before .before .before .before .before .before .before .before .before .before .pre .6) (c .arc-length .result) (c .arc-length .ensures))
 
 add-e : tie.Need-add-e Inv-loop μ-loop
 add-e c = omega (arith, small (c .before .before .before .before .before .before .before))
@@ -173,9 +173,9 @@ loop-again c =
     let i = inside (c .before .before .before .before .before .before .before) in
     let p = c .before .before .before .before .put-edge in
     let C = componentIn (a .table .now) (a .c) in
-    let t = turn C (entryOf (a .entry)) (a .taken) (a .ready) (a .end) _ (l .e) _ (location-is (c .before .before .before .before .before .before .before .before .before .before .before)) (arc-is (a .table .now) (a .c) (a .start) k (l .place) (l .e) (l .inv .1) i) (l .inv .4) (p .ensures .0) in (
+    let t = turn C (entryOf (a .entry)) (a .taken) (a .ready) (a .end) _ (l .e) _ (location-is (c .before .before .before .before .before .before .before .before .before .before .before)) (arc-is (a .table .now) (a .c) (a .start) k (l .place) (l .e) (l .inv .1) i (a .budgets) (c .before .before .before .before .before .before .before .before .before .before .before .before .before .before .before .before .before .before .pre .6)) (l .inv .4) (p .ensures .0) in (
       omega arith,
-      next-place (a .table .now) (a .c) (a .start) k (l .place) (l .e) (l .inv .1) i (c .arc-length .result) (c .arc-length .ensures),
+      next-place (a .table .now) (a .c) (a .start) k (l .place) (l .e) (l .inv .1) i (a .budgets) (c .before .before .before .before .before .before .before .before .before .before .before .before .before .before .before .before .before .before .pre .6) (c .arc-length .result) (c .arc-length .ensures),
       omega (arith, p .ensures .1, l .inv .2),
       p .kept .0 ∙ l .inv .3,
       t,

@@ -81,19 +81,23 @@ array-read-word-place c = let s = c .before .before .before .before .before .bef
 word-place-requires : tie.Need-word-place-requires
 word-place-requires c κs = search needs
 
+budgeted-requires : tie.Need-budgeted-requires
+budgeted-requires c κs = let s = c .before .before .before .before .before .before .before .before .before .before .before .before .before .before in omega (arith, header (s .args .table .now) (c .before .before .before .before .before .before .before .before .before .before .before .before .before .shared-slice-known .given) (s .pre .0))
+
 slice-aggregate-named : tie.Need-slice-aggregate-named
 slice-aggregate-named c = search needs
 
 named-requires : tie.Need-named-requires
 named-requires c κs =
-    let s = c .before .before .before .before .before .before .before .before .before .before .before .before .before .before .before in
+    let s = c .before .before .before .before .before .before .before .before .before .before .before .before .before .before .before .before in
     let bs = s .args .table .now in
-    let b = c .before .before .before .before .before .before .before .before .before .before .before .before .before .before .shared-slice-known .given in
-    let p = c .before .before .before .before .before .before .before .before .before .before .before .before .plan-rows in
-    let v = c .before .before .before .before .before .before .before .before .before .enum-told .given .1 in
-    let there : s .args .component < size (readOf bs .table) = omega (arith, c .before .before .before .before .before .before .if1 .left, c .before .before .before .before .before .before .before .wide32 .ensures .0, counted bs b (s .pre .0)) in (
-      walked bs b (s .pre .0) (p .result) _ (p .ensures) v (s .args .component) (s .args .tick) there (omega (arith, c .before .before .before .if2 .left, c .before .before .before .before .word32 .ensures, c .before .before .before .before .before .word-at .ensures, horizon-is bs b (s .pre .0))),
-      start-read bs b (s .pre .0) (s .args .t2) (s .args .component) _ (s .pre .1) there (c .before .word-place .ensures .0 ∙ ap (λ j. getD (s .args .t2) j 0) (c .before .before .wide .ensures .0)),
+    let b = c .before .before .before .before .before .before .before .before .before .before .before .before .before .before .before .shared-slice-known .given in
+    let p = c .before .before .before .before .before .before .before .before .before .before .before .before .before .plan-rows in
+    let v = c .before .before .before .before .before .before .before .before .before .before .enum-told .given .1 in
+    let there : s .args .component < size (readOf bs .table) = omega (arith, c .before .before .before .before .before .before .before .if1 .left, c .before .before .before .before .before .before .before .before .wide32 .ensures .0, counted bs b (s .pre .0)) in (
+      walked bs b (s .pre .0) (p .result) _ (p .ensures) v (s .args .component) (s .args .tick) there (omega (arith, c .before .before .before .before .if2 .left, c .before .before .before .before .before .word32 .ensures, c .before .before .before .before .before .before .word-at .ensures, horizon-is bs b (s .pre .0))),
+      start-read bs b (s .pre .0) (s .args .t2) (s .args .component) _ (s .pre .1) there (c .before .before .word-place .ensures .0 ∙ ap (λ j. getD (s .args .t2) j 0) (c .before .before .before .wide .ensures .0)),
+      c .before .budgeted .ensures,
     )
 
 returns-3 : tie.Need-returns-3
@@ -127,6 +131,7 @@ ask-read-spec =
     mul-word-place
     array-read-word-place
     word-place-requires
+    budgeted-requires
     slice-aggregate-named
     named-requires
     returns-3

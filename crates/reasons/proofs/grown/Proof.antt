@@ -30,7 +30,7 @@ part-edge-update-end : tie.Need-part-edge-update-end
 part-edge-update-end c = search needs
 
 edge-update-requires : tie.Need-edge-update-requires
-edge-update-requires c κs = at-ready (c .before .before .before .before .before .before .args .table .now) (c .before .before .before .before .before .before .args .rows .now) (c .before .before .before .before .before .before .args .i) (c .before .before .before .index .result) (c .before .before .before .before .before .shared-slice-known .given) (c .before .before .before .before .before .before .pre .0) (c .before .before .before .index .ensures)
+edge-update-requires c κs = at-ready (c .before .before .before .before .before .before .args .table .now) (c .before .before .before .before .before .before .args .rows .now) (c .before .before .before .before .before .before .args .i) (c .before .before .before .index .result) (c .before .before .before .before .before .shared-slice-known .given) (c .before .before .before .before .before .before .pre .0) (c .before .before .before .index .ensures) (c .before .before .before .before .before .before .args .budgets) (c .before .before .before .before .before .before .pre .3)
 
 kept-values-requires : tie.Need-kept-values-requires
 kept-values-requires c κs = search needs
@@ -46,7 +46,7 @@ part-edge-at-end c = search needs
 
 edge-at-requires : tie.Need-edge-at-requires
 edge-at-requires c κs =
-    let r = at-ready (c .before .before .before .before .before .before .before .before .before .before .args .table .now) (c .before .before .before .before .before .before .before .before .before .before .args .rows .now) (c .before .before .before .before .before .before .before .before .before .before .args .i) (c .before .before .before .before .before .before .before .index .result) (c .before .before .before .before .before .before .before .before .before .shared-slice-known .given) (c .before .before .before .before .before .before .before .before .before .before .pre .0) (c .before .before .before .before .before .before .before .index .ensures) in
+    let r = at-ready (c .before .before .before .before .before .before .before .before .before .before .args .table .now) (c .before .before .before .before .before .before .before .before .before .before .args .rows .now) (c .before .before .before .before .before .before .before .before .before .before .args .i) (c .before .before .before .before .before .before .before .index .result) (c .before .before .before .before .before .before .before .before .before .shared-slice-known .given) (c .before .before .before .before .before .before .before .before .before .before .pre .0) (c .before .before .before .before .before .before .before .index .ensures) (c .before .before .before .before .before .before .before .before .before .before .args .budgets) (c .before .before .before .before .before .before .before .before .before .before .pre .3) in
     (r .decodable .head, r .decodable .whole)
 
 sub-age : tie.Need-sub-age
@@ -63,7 +63,7 @@ returns c =
     let a = s .args in
     let end = c .before .before .before .before .before .before .before .before .before .number .ensures in
     let u = c .before .before .before .before .before .before .edge-update in
-    let arc = at-arc (a .table .now) (a .rows .now) (a .i) (c .before .before .before .before .before .before .before .before .before .before .index .result) (c .before .before .before .before .before .before .before .before .before .before .before .before .shared-slice-known .given) (s .pre .0) (c .before .before .before .before .before .before .before .before .before .before .index .ensures) in
+    let arc = at-arc (a .table .now) (a .rows .now) (a .i) (c .before .before .before .before .before .before .before .before .before .before .index .result) (c .before .before .before .before .before .before .before .before .before .before .before .before .shared-slice-known .given) (s .pre .0) (c .before .before .before .before .before .before .before .before .before .before .index .ensures) (a .budgets) (s .pre .3) in
     let clocks = c .age .ensures ∙ ap (λ (e : Edge). aged (e .mask) (c .before .before .before .before .before .before .before .before .before .number .result - a .at .tick) 0 (a .at .clocks)) (c .before .before .edge-at .ensures) ∙ ap (λ (x : Arc). aged (x .edge .mask) (c .before .before .before .before .before .before .before .before .before .number .result - a .at .tick) 0 (a .at .clocks)) arc in
     let values = c .before .before .before .before .before .kept-values .ensures ∙ kept-else (u .result .fits) (u .result .values) (a .at .values) ∙ ap (λ o. orElse o (a .at .values)) (u .ensures) ∙ ap (λ (x : Arc). orElse (updated (x .updates) (a .at .values)) (a .at .values)) arc in
     rw (← end)

@@ -15,8 +15,8 @@ number-requires c κs =
     let t = c .before .stay-at in
     omega (arith, row-fits (s .args .table .now) (s .args .rows .now) (s .args .count) (s .args .c) (s .args .tick) (c .before .before .before .shared-slice-known .given) (s .pre .0) (t .result) (t .ensures))
 
-cast-t12 : tie.Need-cast-t12
-cast-t12 c =
+cast-t13 : tie.Need-cast-t13
+cast-t13 c =
     let s = c .before .before .before .before .before in
     let t = c .before .before .stay-at in
     omega (arith, c .number .ensures, edge-small (s .args .table .now) (s .args .rows .now) (s .args .count) (s .args .c) (s .args .tick) (c .before .before .before .before .shared-slice-known .given) (s .pre .0) (t .result) (t .ensures))
@@ -27,8 +27,8 @@ number-requires-2 c κs =
     let t = c .before .before .stay-at in
     omega (arith, row-fits (s .args .table .now) (s .args .rows .now) (s .args .count) (s .args .c) (s .args .tick) (c .before .before .before .before .shared-slice-known .given) (s .pre .0) (t .result) (t .ensures))
 
-cast-t14 : tie.Need-cast-t14
-cast-t14 c =
+cast-t15 : tie.Need-cast-t15
+cast-t15 c =
     let s = c .before .before .before .before .before .before in
     let t = c .before .before .before .stay-at in
     omega (arith, c .number2 .ensures, s .pre .0 .messages (t .result .row) (t .ensures .there))
@@ -58,9 +58,9 @@ named-spec =
     (tie.spec
     stay-at-requires
     number-requires
-    cast-t12
+    cast-t13
     number-requires-2
-    cast-t14
+    cast-t15
     number-requires-3
     number-requires-4
     returns)

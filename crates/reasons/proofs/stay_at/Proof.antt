@@ -11,10 +11,10 @@ use Rattle.reasons.proofs.stay_at.Statement.{statement}
 use Rattle.reasons.proofs.stay_at.Tie as tie
 
 abbrev Inv-loop : tie.InvT-loop
-Inv-loop s start l n c tick at₀ i₀ at i = (i ≤ n) × On s l n c tick i at
+Inv-loop s start l n c tick budgets at₀ i₀ at i = (i ≤ n) × On s l n c tick i at
 
 abbrev μ-loop : tie.MeasureT-loop
-μ-loop s start l n c tick at₀ i₀ at i = n - i
+μ-loop s start l n c tick budgets at₀ i₀ at i = n - i
 
 start-entry-requires : tie.Need-start-entry-requires Inv-loop μ-loop
 start-entry-requires c κs =
@@ -66,7 +66,7 @@ grown-requires c κs =
     let mine = sym (c .before .before .before .before .number .ensures) ∙ c .before .before .if1 .taken ∙ c .before .before .before .wide32 .ensures .0 in
     let k = known (a .table .now) (a .rows .now) (a .count) (a .c) (a .tick) (l .i) (l .at) (l .inv .1) t in
     let then = entered-then (a .table .now) (a .rows .now) (a .count) (a .c) (a .tick) (l .i) (l .at) (l .inv .1) t mine in
-    (k, omega (arith, k .row .early, k .row .window, then), l .inv .1 .young)
+    (k, omega (arith, k .row .early, k .row .window, then), l .inv .1 .young, c .before .before .before .before .before .before .before .before .before .before .pre .2)
 
 add-i : tie.Need-add-i Inv-loop μ-loop
 add-i c = search needs

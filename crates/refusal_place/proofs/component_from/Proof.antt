@@ -40,7 +40,7 @@ returns c =
     let t = c .before .before .before .before .before in
     let a = t .before .before .before .args in
     let e : a .w .at + t .lesser .result ≡ endFrom (a .table .now) (a .w .at) = rw (t .lesser .ensures .0, t .before .number-at .ensures) in (
-      component-is (a .table .now) (a .c) (a .w) (a .channels) (a .w .at + t .lesser .result) (c .before .before .before .before .sizes-from .result) (c .before .before .of-component .result) (c .before .before .before .length-stated .result) (c .before .one-part .result) (c .body .result)
+      component-is (a .table .now) (a .c) (a .w) (a .header) (a .w .at + t .lesser .result) (c .before .before .before .before .sizes-from .result) (c .before .before .of-component .result) (c .before .before .before .length-stated .result) (c .before .one-part .result) (c .body .result)
           e
           (c .before .before .before .before .sizes-from .ensures)
           (c .before .before .before .length-stated .ensures .0)

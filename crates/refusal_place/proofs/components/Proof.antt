@@ -12,17 +12,17 @@ use Rattle.refusal_place.proofs.components.Statement.{statement}
 use Rattle.refusal_place.proofs.components.Tie as tie
 
 abbrev Inv-loop : tie.InvT-loop
-Inv-loop table count channels walk₀ c₀ walk c =
+Inv-loop table count header walk₀ c₀ walk c =
     (walk .at ≤ length table) × (c ≤ count)
-    × (counted (component table channels) c (count - c) walk ≡ counted (component table channels) 0 count walk₀)
+    × (counted (component table header) c (count - c) walk ≡ counted (component table header) 0 count walk₀)
 
 abbrev μ-loop : tie.MeasureT-loop
-μ-loop table count channels walk₀ c₀ walk c = count - c
+μ-loop table count header walk₀ c₀ walk c = count - c
 
 loop-holds : tie.Need-loop-holds Inv-loop μ-loop
 loop-holds c =
     let a = c .before .args in
-    (omega arith, omega arith, counted-start (component (a .table .now) (a .channels)) (a .count) (a .w))
+    (omega arith, omega arith, counted-start (component (a .table .now) (a .header)) (a .count) (a .w))
 
 component-requires : tie.Need-component-requires Inv-loop μ-loop
 component-requires c κs = search needs
@@ -37,7 +37,7 @@ loop-again : tie.Need-loop-again Inv-loop μ-loop
 loop-again c =
     let l = c .before .before .loop in
     let a = c .before .before .before .before .args in
-    let g : ℕ → Walk → Walk = component (a .table .now) (a .channels) in (
+    let g : ℕ → Walk → Walk = component (a .table .now) (a .header) in (
       c .component .ensures .1,
       omega arith,
       rw (c .component .ensures .0) (counted-turn g (l .c) (a .count) (l .c + 1) (l .walk) (counted g 0 (a .count) (a .w)) (omega arith) (l .inv .2) refl),
@@ -57,9 +57,9 @@ returns c =
     let l = c .before .before .before .loop in
     let a = c .before .before .before .before .before .args in
     let p = c .before .before .before .before .before .pre in
-    let g : ℕ → Walk → Walk = component (a .table .now) (a .channels) in
+    let g : ℕ → Walk → Walk = component (a .table .now) (a .header) in
     let e = counted-done g (l .c) (a .count) (l .walk) (counted g 0 (a .count) (a .w)) (omega arith) (l .inv .2) in
-    components-is (a .table .now) (a .count) (a .channels) (c .before .of-component .result) (a .w) (l .walk) (c .ends .result) (p .2) (p .3) (p .4) (c .before .of-component .ensures) e (c .ends .ensures .0)
+    components-is (a .table .now) (a .count) (a .header) (c .before .of-component .result) (a .w) (l .walk) (c .ends .result) (p .2) (p .3) (p .4) (c .before .of-component .ensures) e (c .ends .ensures .0)
 
 pub components-spec : {M : Type 1} → statement M
 components-spec =

@@ -33,8 +33,8 @@ nowhere-requires-2 c κs = search needs
 byte-at-requires : tie.Need-byte-at-requires
 byte-at-requires c κs = search needs
 
-byte-at-requires-2 : tie.Need-byte-at-requires-2
-byte-at-requires-2 c κs = search needs
+heading-requires : tie.Need-heading-requires
+heading-requires c κs = search needs
 
 components-requires : tie.Need-components-requires
 components-requires c κs =
@@ -43,7 +43,7 @@ components-requires c κs =
     let z : headerOf s ≡ 0 = sym (t .before .before .header .ensures) ∙ t .before .if1 .left in
     let k = walk-starts s z in
     let e = c .before .byte-at .ensures in
-    (rw (t .body-start .ensures .0) (k .0), k .1, omega (arith, k .2), e, c .byte-at2 .ensures)
+    (rw (t .body-start .ensures .0) (k .0), k .1, omega (arith, k .2), e, c .heading .ensures)
 
 returns-2 : tie.Need-returns-2
 returns-2 c =
@@ -65,6 +65,6 @@ locate-spec =
     body-start-requires
     nowhere-requires-2
     byte-at-requires
-    byte-at-requires-2
+    heading-requires
     components-requires
     returns-2)

@@ -10,7 +10,7 @@ hears-requires : tie.Need-hears-requires
 hears-requires c κs =
     let e = c .before .before in
     let a = e .args in
-    (row-known (a .table .now) (a .rows .now) (a .count) (a .i) (e .pre .0) (e .pre .1), row-known (a .table .now) (a .rows .now) (a .count) (a .j) (e .pre .0) (e .pre .2))
+    (row-known (a .table .now) (a .rows .now) (a .count) (a .i) (e .pre .0) (e .pre .1), row-known (a .table .now) (a .rows .now) (a .count) (a .j) (e .pre .0) (e .pre .2), e .pre .3)
 
 nearer-requires : tie.Need-nearer-requires
 nearer-requires c κs =

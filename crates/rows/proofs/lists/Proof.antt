@@ -13,15 +13,15 @@ use Rattle.rows.proofs.lists.Statement.{statement}
 use Rattle.rows.proofs.lists.Tie as tie
 
 abbrev Inv-loop : tie.InvT-loop
-Inv-loop h channel at₀ k₀ at k = (at + k * 2 ≤ length h) × (hasFrom h channel at k ≡ names (arcAt h) (messageOf channel))
+Inv-loop h channel budgets at₀ k₀ at k = (at + k * 2 ≤ length h) × (hasFrom h channel at k ≡ names (arcAt budgets h) (messageOf channel))
 
 abbrev μ-loop : tie.MeasureT-loop
-μ-loop h channel at₀ k₀ at k = k
+μ-loop h channel budgets at₀ k₀ at k = k
 
 returns : tie.Need-returns Inv-loop μ-loop
 returns c =
     let e = c .before .before in
-    lists-none (e .args .edge .now) (e .args .channel) (c .if1 .taken)
+    lists-none (e .args .budgets) (e .args .edge .now) (e .args .channel) (c .if1 .taken)
 
 action-at-requires : tie.Need-action-at-requires Inv-loop μ-loop
 action-at-requires c κs = search needs
@@ -32,7 +32,7 @@ enum-told c = search needs
 returns-2 : tie.Need-returns-2 Inv-loop μ-loop
 returns-2 c =
     let e = c .before .before .before .before .before in
-    lists-nothing (messageOf (e .args .channel)) (e .args .edge .now) (internal-pairs (e .args .edge .now) (sym (c .enum-told .given .1) ∙ c .before .before .action-at .ensures))
+    lists-nothing (messageOf (e .args .channel)) (e .args .budgets) (e .args .edge .now) (internal-pairs (e .args .budgets) (e .args .edge .now) (sym (c .enum-told .given .1) ∙ c .before .before .action-at .ensures))
 
 enum-told-2 : tie.Need-enum-told-2 Inv-loop μ-loop
 enum-told-2 c = search needs
@@ -40,7 +40,7 @@ enum-told-2 c = search needs
 returns-3 : tie.Need-returns-3 Inv-loop μ-loop
 returns-3 c =
     let e = c .before .before .before .before .before in
-    lists-nothing (messageOf (e .args .channel)) (e .args .edge .now) (send-pairs (e .args .edge .now) _ (sym (c .enum-told2 .given .1) ∙ c .before .before .action-at .ensures))
+    lists-nothing (messageOf (e .args .channel)) (e .args .budgets) (e .args .edge .now) (send-pairs (e .args .budgets) (e .args .edge .now) _ (sym (c .enum-told2 .given .1) ∙ c .before .before .action-at .ensures))
 
 enum-told-3 : tie.Need-enum-told-3 Inv-loop μ-loop
 enum-told-3 c = search needs
@@ -54,9 +54,9 @@ shared-slice-read-k c = search needs
 loop-holds : tie.Need-loop-holds Inv-loop μ-loop
 loop-holds c =
     let e = c .before .before .before .before .before .before .before in
-    let p = c .before .items-place .ensures in
+    let p = c .before .items-place .ensures .0 in
     let receive = sym (c .before .before .enum-told3 .given .1) ∙ c .before .before .before .before .action-at .ensures in
-    (omega (arith, p, lists-within (e .args .edge .now) (e .pre) receive), lists-start (e .args .edge .now) (e .args .channel) (c .before .items-place .result) (c .before .before .before .before .before .if1 .left) receive p)
+    (omega (arith, p, lists-within (e .args .budgets) (e .args .edge .now) (e .pre) receive), lists-start (e .args .edge .now) (e .args .channel) (e .args .budgets) (c .before .items-place .result) (c .before .before .before .before .before .if1 .left) receive p)
 
 shared-slice-read-if2 : tie.Need-shared-slice-read-if2 Inv-loop μ-loop
 shared-slice-read-if2 c = search needs

@@ -12,13 +12,13 @@ use Rattle.rows.proofs.seek.Statement.{statement}
 use Rattle.rows.proofs.seek.Tie as tie
 
 abbrev Inv-loop : tie.InvT-loop
-Inv-loop s l n i h until best₀ j₀ best j =
+Inv-loop s l n i h budgets until best₀ j₀ best j =
     (j ≤ n)
     × (earliest (heardBy (readOf s .table) h (rowPassage l i)) (rowsFrom l j (n - j)) (bestOf l n best)
     ≡ earliest (heardBy (readOf s .table) h (rowPassage l i)) (rowsOf l n) none)
 
 abbrev μ-loop : tie.MeasureT-loop
-μ-loop s l n i h until best₀ j₀ best j = n - j
+μ-loop s l n i h budgets until best₀ j₀ best j = n - j
 
 number-requires : tie.Need-number-requires Inv-loop μ-loop
 number-requires c κs = omega (arith, c .before .before .pre .0 .fits)
@@ -47,7 +47,7 @@ returns c =
 heard-requires : tie.Need-heard-requires Inv-loop μ-loop
 heard-requires c κs =
     let e = c .before .before .before .before .before .before .before .before in
-    (e .pre .0, e .pre .1, omega (arith, e .pre .1))
+    (e .pre .0, e .pre .1, omega (arith, e .pre .1), e .pre .2)
 
 add-j : tie.Need-add-j Inv-loop μ-loop
 add-j c =

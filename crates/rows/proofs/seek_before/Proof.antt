@@ -11,11 +11,11 @@ use Rattle.rows.proofs.seek_before.Statement.{statement}
 use Rattle.rows.proofs.seek_before.Tie as tie
 
 abbrev Inv-loop : tie.InvT-loop
-Inv-loop s l n i h ready best₀ j₀ best j =
+Inv-loop s l n i h budgets ready best₀ j₀ best j =
     (j ≤ i) × (earliest (heardBy (readOf s .table) h (rowPassage l i)) (rowsFrom l j (i - j)) none ≡ bestOf l n best)
 
 abbrev μ-loop : tie.MeasureT-loop
-μ-loop s l n i h ready best₀ j₀ best j = j
+μ-loop s l n i h budgets ready best₀ j₀ best j = j
 
 number-requires : tie.Need-number-requires Inv-loop μ-loop
 number-requires c κs = omega (arith, c .before .before .pre .0 .fits, c .before .before .pre .1)
@@ -34,7 +34,7 @@ sub-k : tie.Need-sub-k Inv-loop μ-loop
 sub-k c = omega (arith, c .loop-test .taken)
 
 heard-before-requires : tie.Need-heard-before-requires Inv-loop μ-loop
-heard-before-requires c κs = let e = c .before .before .before .before .before .before in (e .pre .0, e .pre .1, omega (arith, c .loop-test .taken, c .before .loop .inv .0, e .pre .1))
+heard-before-requires c κs = let e = c .before .before .before .before .before .before in (e .pre .0, e .pre .1, omega (arith, c .loop-test .taken, c .before .loop .inv .0, e .pre .1), e .pre .2)
 
 open-before-requires-2 : tie.Need-open-before-requires-2 Inv-loop μ-loop
 open-before-requires-2 c κs = linked-below (c .before .before .before .before .before .before .before .pre .0) (c .before .before .loop .j - 1) (omega (arith, c .before .before .loop .inv .0, c .before .before .before .before .before .before .before .pre .1))

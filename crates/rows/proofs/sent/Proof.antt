@@ -24,7 +24,7 @@ returns c = ap sends (sym (c .enum-told .given .1) ∙ c .before .before .action
 returns-2 : tie.Need-returns-2
 returns-2 c =
     let e = c .before .before .before .before .before in
-    sent-is (e .args .edge .now) (e .pre) (c .before .action .given .0 .0) (sym (c .before .action .given .1) ∙ c .before .before .before .action-at .ensures)
+    sent-is (e .args .budgets) (e .args .edge .now) (e .pre) (c .before .action .given .0 .0) (sym (c .before .action .given .1) ∙ c .before .before .before .action-at .ensures)
 
 returns-3 : tie.Need-returns-3
 returns-3 c = ap sends (sym (c .enum-told2 .given .1) ∙ c .before .before .action-at .ensures)

@@ -18,11 +18,11 @@ use Rattle.schedule.proofs.begin.Statement.{statement}
 use Rattle.schedule.proofs.begin.Tie as tie
 
 abbrev Inv-loop : tie.InvT-loop
-Inv-loop s l₀ index starts count none nodes₀ ends₀ c₀ l nodes ends c =
+Inv-loop s l₀ index budgets starts count none nodes₀ ends₀ c₀ l nodes ends c =
     (c ≤ count) × (count ≡ size (readOf s .table)) × (count ≤ 8) × (length nodes ≡ 8) × (length ends ≡ 8) × (length l ≡ length l₀) × Beginning s l c nodes ends
 
 abbrev μ-loop : tie.MeasureT-loop
-μ-loop s l₀ index starts count none nodes₀ ends₀ c₀ l nodes ends c = count - c
+μ-loop s l₀ index budgets starts count none nodes₀ ends₀ c₀ l nodes ends c = count - c
 
 shared-slice-read-wide : tie.Need-shared-slice-read-wide Inv-loop μ-loop
 shared-slice-read-wide c = let e = c .before .before .before .before in omega (arith, header (e .args .table .now) (c .shared-slice-known3 .given) (e .pre .0))
@@ -88,13 +88,14 @@ open-requires c κs =
       start-is (c .before),
       begin-location (e .args .table .now) (l .rows) b (l .component) (l .nodes) (l .ends) (l .inv .6) (there (c .before .before)) (n .result) (location-is c) (n .ensures .1) (n .ensures .2) (n .ensures .3),
       subst (λ k. Indexed (e .args .table .now) (e .args .index .now) (l .component) k) (sym (start-is (c .before))) (e .pre .3 (l .component) (there (c .before .before))),
+      e .pre .4,
     )
 
 enum-known-opening : tie.Need-enum-known-opening Inv-loop μ-loop
 enum-known-opening c = search needs
 
-cast-t25 : tie.Need-cast-t25 Inv-loop μ-loop
-cast-t25 c = search needs
+cast-t26 : tie.Need-cast-t26 Inv-loop μ-loop
+cast-t26 c = search needs
 
 same-length : tie.Need-same-length Inv-loop μ-loop
 same-length c = c .before .before .before .before .before .before .before .loop .inv .5
@@ -206,7 +207,7 @@ begin-spec =
     cast-open
     open-requires
     enum-known-opening
-    cast-t25
+    cast-t26
     same-length
     returns
     enum-known-opening-2

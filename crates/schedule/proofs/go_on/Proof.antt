@@ -20,14 +20,14 @@ use Rattle.schedule.proofs.go_on.Statement.{statement}
 use Rattle.schedule.proofs.go_on.Tie as tie
 
 abbrev Inv-loop : tie.InvT-loop
-Inv-loop s l₀ index starts count h nodes₀ ends₀ n₀ l nodes ends n =
+Inv-loop s l₀ index budgets starts count h nodes₀ ends₀ n₀ l nodes ends n =
     (n ≤ 1024) × (1 ≤ count) × (count ≤ 8) × (count ≡ size (readOf s .table)) × (h ≡ readOf s .horizon) × (h ≤ 60000) × (length nodes ≡ 8) × (length ends ≡ 8)
     × (9216 ≤ length l)
     × (length l ≡ length l₀)
     × Progress s l n nodes ends
 
 abbrev μ-loop : tie.MeasureT-loop
-μ-loop s l₀ index starts count h nodes₀ ends₀ n₀ l nodes ends n = 1024 - n
+μ-loop s l₀ index budgets starts count h nodes₀ ends₀ n₀ l nodes ends n = 1024 - n
 
 shared-slice-read-wide : tie.Need-shared-slice-read-wide Inv-loop μ-loop
 shared-slice-read-wide c = let e = c .before .before .before .before in omega (arith, header (e .args .table .now) (c .shared-slice-known3 .given) (e .pre .0))
@@ -165,6 +165,7 @@ next-turn-requires c κs =
       node-stands s (l .rows) (c .before .before .before .before .before .before .before .before .before .before .before .before .before .shared-slice-known .given) (l .filled) (l .nodes) (l .ends) g k (closes (c .before .before .before .before)),
       omega (arith, c .before .before .if1 .left, l .inv .5),
       subst (λ z. Indexed s (e .args .index .now) k z) (sym start) (e .pre .4 k (closes (c .before .before .before .before) .there)),
+      e .pre .5,
     )
 
 enum-known-opening : tie.Need-enum-known-opening Inv-loop μ-loop

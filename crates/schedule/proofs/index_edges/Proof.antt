@@ -12,10 +12,10 @@ use Rattle.schedule.proofs.index_edges.Statement.{statement}
 use Rattle.schedule.proofs.index_edges.Tie as tie
 
 abbrev Inv-loop : tie.InvT-loop
-Inv-loop s index₀ starts count c₀ index c = (c ≤ count) × (count ≡ size (readOf s .table)) × (count ≤ 8) × IndexedBelow s index₀ index c
+Inv-loop s index₀ budgets starts count c₀ index c = (c ≤ count) × (count ≡ size (readOf s .table)) × (count ≤ 8) × IndexedBelow s index₀ index c
 
 abbrev μ-loop : tie.MeasureT-loop
-μ-loop s index₀ starts count c₀ index c = count - c
+μ-loop s index₀ budgets starts count c₀ index c = count - c
 
 shared-slice-read-wide : tie.Need-shared-slice-read-wide Inv-loop μ-loop
 shared-slice-read-wide c = omega (arith, header (c .before .before .before .args .table .now) (c .before .before .shared-slice-known .given) (c .before .before .before .pre .0))
@@ -62,6 +62,7 @@ put-edges-requires c κs =
       omega (arith, low, l .inv .2, c .before .before .before .before .before .before .before .before .pre .2, l .inv .3 .same),
       valid-small s (known-bytes s (c .before .before .before .before .before .before .before .shared-slice-known .given)) (c .before .before .before .before .before .before .before .before .pre .0),
       λ q h. l .inv .3 .rest (l .component * 80 + q) (omega arith) ∙ c .before .before .before .before .before .before .before .before .pre .3 (l .component) q (omega (arith, low, l .inv .2)) h,
+      c .before .before .before .before .before .before .before .before .pre .4,
     )
 
 add-component : tie.Need-add-component Inv-loop μ-loop

@@ -30,7 +30,7 @@ leave-requires c κs =
     let e = c .before .before .before .before .before .before in
     let a = e .args in
     let b = c .before .before .before .before .before .shared-slice-known .given in (
-      place-ready (a .table .now) (a .rows .now) (a .count) (a .component) (a .node) (a .end) b (e .pre .0) (e .pre .2),
+      place-ready (a .table .now) (a .rows .now) (a .count) (a .component) (a .node) (a .end) b (e .pre .0) (e .pre .2) (a .budgets) (e .pre .5),
       its-tick (a .table .now) (a .rows .now) (a .count) (a .component) (a .node) (a .end) b (e .pre .0) (e .pre .2),
       omega (arith, e .pre .3),
       e .pre .2 .young,
@@ -45,8 +45,9 @@ open-requires c κs =
       e .pre .0 .valid,
       its-present (a .table .now) (a .rows .now) (a .count) (a .component) (a .node) (a .end) b (e .pre .0) (e .pre .2),
       e .pre .1,
-      location-there (a .table .now) (a .rows .now) (a .count) (a .component) (a .node) (a .end) b (e .pre .0) (e .pre .2) (a .horizon) m (c .leave .result) (c .leave .ensures .0),
+      location-there (a .table .now) (a .rows .now) (a .count) (a .component) (a .node) (a .end) b (e .pre .0) (e .pre .2) (a .budgets) (e .pre .5) (a .horizon) m (c .leave .result) (c .leave .ensures .0),
       e .pre .4,
+      e .pre .5,
     )
 
 returns : tie.Need-returns
@@ -57,8 +58,8 @@ returns c =
     let m = c .before .before .before .message in
     record {
       message = m .ensures;
-      leads = leaves-row (a .table .now) (a .rows .now) (a .count) (a .component) (a .node) (a .end) b (e .pre .0) (e .pre .2) (a .horizon) (m .result) (c .before .leave .result) (c .before .leave .ensures .0) (m .ensures);
-      there = location-there (a .table .now) (a .rows .now) (a .count) (a .component) (a .node) (a .end) b (e .pre .0) (e .pre .2) (a .horizon) (m .result) (c .before .leave .result) (c .before .leave .ensures .0);
+      leads = leaves-row (a .table .now) (a .rows .now) (a .count) (a .component) (a .node) (a .end) b (e .pre .0) (e .pre .2) (a .budgets) (e .pre .5) (a .horizon) (m .result) (c .before .leave .result) (c .before .leave .ensures .0) (m .ensures);
+      there = location-there (a .table .now) (a .rows .now) (a .count) (a .component) (a .node) (a .end) b (e .pre .0) (e .pre .2) (a .budgets) (e .pre .5) (a .horizon) (m .result) (c .before .leave .result) (c .before .leave .ensures .0);
       young = c .before .leave .ensures .1;
       opens = c .«open» .ensures .0;
       placed = subst (λ k. Placed (a .table .now) k (a .component) (c .«open» .result)) (e .pre .1) (c .«open» .ensures .1);

@@ -122,7 +122,7 @@ returns-4 c =
     let st = put .ensures (a .values .now) in
     let to = c .before .before .before .before .before .before .before .before .before .before .before .before .before .before .before .before .word .result + c .before .before .before .before .before .before .before .before .before .before .statement-length .result in
     finished-on (a .words .now) (a .values .now) (a .c) to (put .last .0) st (a .part .now) _ (there e) (a .op) (sym (s .pre .6))
-    (omega (arith, c .before .before .before .before .before .before .before .before .before .before .before .if4 .taken)) (c .before .before .before .before .before .before .before .before .before .before .statement-length .result) (c .before .before .before .before .before .before .before .before .before .before .statement-length .ensures .0)
+    (omega (arith, c .before .before .before .before .before .before .before .before .before .before .before .if4 .taken)) (λ q. omega (arith, q, c .before .before .before .before .before .before .before .before .before .before .before .if4 .taken)) (λ q. omega (arith, q, c .before .before .before .before .before .before .before .before .before .before .before .if4 .taken)) (c .before .before .before .before .before .before .before .before .before .before .statement-length .result) (c .before .before .before .before .before .before .before .before .before .before .statement-length .ensures .0)
     (ap (λ (i : ℕ). i + c .before .before .before .before .before .before .before .before .before .before .statement-length .result) (c .before .before .before .before .before .before .before .before .before .before .before .before .before .before .before .before .word .ensures))
     (c .before .before .before .work-statement .ensures)
 
@@ -165,7 +165,7 @@ returns-5 c =
     let st = put .ensures (a .values .now) in
     let to = c .before .before .before .before .before .before .before .before .before .before .before .before .before .before .word .result + 4 in
     finished-on (a .words .now) (a .values .now) (a .c) to (put .last .0) st (a .part .now) _ (there e) (a .op) (sym (s .pre .6))
-    (omega (arith, o .first, below-ends _ _ o (c .before .before .before .before .before .before .before .before .before .before .before .before .if2 .left) (c .before .before .before .before .before .before .before .before .before .before .before .if3 .left))) 4 (four-bytes (bytes e) (omega (arith, o .first, c .before .before .before .before .before .before .before .before .before .if4 .left)))
+    (o .low) (c .before .before .before .before .before .before .before .before .before .before .before .before .if2 .left) (c .before .before .before .before .before .before .before .before .before .before .before .if3 .left) 4 (four-bytes (bytes e) (omega (arith, o .first, c .before .before .before .before .before .before .before .before .before .if4 .left)))
     (ap (λ (i : ℕ). i + 4) (c .before .before .before .before .before .before .before .before .before .before .before .before .before .before .word .ensures))
     (c .before .before .try-statement .ensures)
 

@@ -41,28 +41,28 @@ returns : tie.Need-returns
 returns c =
     let a = c .before .before .before .before .before .before .before .before .args in
     let p = a .component .now in
-    sym (locations-fail (a .channels) p (drop 7 p) (c .before .before .before .parts .ensures .says ∙ ap (placed p) (c .before .l .given .1)))
+    sym (locations-fail (a .heading) p (drop 7 p) (c .before .before .before .parts .ensures .says ∙ ap (placed p) (c .before .l .given .1)))
 
 returns-2 : tie.Need-returns-2
 returns-2 c =
     let a = c .before .before .before .before .before .before .before .before .before .before .before .before .before .args in
     let p = a .component .now in
     let e = c .before .before .before .before .before .before .before .before .parts .ensures .says ∙ ap (placed p) (c .before .before .before .before .before .before .l2 .given .1) in
-    sym (arcs-fail (a .channels) p (drop 7 p) _ e (c .before .before .before .arcs .ensures .says ∙ ap (placed p) (c .before .e .given .1)))
+    sym (arcs-fail (a .heading) p (drop 7 p) _ e (c .before .before .before .arcs .ensures .says ∙ ap (placed p) (c .before .e .given .1)))
 
 returns-3 : tie.Need-returns-3
 returns-3 c =
     let a = c .before .before .before .before .before .before .before .before .before .before .before .before .before .before .args in
     let p = a .component .now in
     let e = c .before .before .before .before .before .before .before .before .before .parts .ensures .says ∙ ap (placed p) (c .before .before .before .before .before .before .before .l2 .given .1) in
-    sym (bytes-left (a .channels) p (drop 7 p) _ e p (c .before .before .e2 .given .0 .0) (c .if1 .taken) (c .before .before .before .before .arcs .ensures .says ∙ ap (placed p) (c .before .before .e2 .given .1)))
+    sym (bytes-left (a .heading) p (drop 7 p) _ e p (c .before .before .e2 .given .0 .0) (c .if1 .taken) (c .before .before .before .before .arcs .ensures .says ∙ ap (placed p) (c .before .before .e2 .given .1)))
 
 returns-4 : tie.Need-returns-4
 returns-4 c =
     let a = c .before .before .before .before .before .before .before .before .before .before .before .before .before .before .args in
     let p = a .component .now in
     let e = c .before .before .before .before .before .before .before .before .before .parts .ensures .says ∙ ap (placed p) (c .before .before .before .before .before .before .before .l2 .given .1) in
-    sym (ends-there (a .channels) p (drop 7 p) _ e p (c .before .before .e2 .given .0 .0) (c .if1 .left) (c .before .before .before .before .arcs .ensures .says ∙ ap (placed p) (c .before .before .e2 .given .1)))
+    sym (ends-there (a .heading) p (drop 7 p) _ e p (c .before .before .e2 .given .0 .0) (c .if1 .left) (c .before .before .before .before .arcs .ensures .says ∙ ap (placed p) (c .before .before .e2 .given .1)))
 
 pub body-spec : {M : Type 1} → statement M
 body-spec =

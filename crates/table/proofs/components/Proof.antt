@@ -14,12 +14,12 @@ use Rattle.table.proofs.components.Statement.{statement}
 use Rattle.table.proofs.components.Tie as tie
 
 abbrev Inv-loop : tie.InvT-loop
-Inv-loop s count channels from starts₀ at₀ c₀ starts at c =
+Inv-loop s count heading from starts₀ at₀ c₀ starts at c =
     (c ≤ count) × (at ≤ length s) × (at ≡ startOf s c) × (starts ≡ startsOf s c)
-    × (verdictOf (readComponents channels (count - c) c (drop at s)) ≡ verdictOf (readComponents channels count 0 (drop (bodyStart s) s)))
+    × (verdictOf (readComponents heading (count - c) c (drop at s)) ≡ verdictOf (readComponents heading count 0 (drop (bodyStart s) s)))
 
 abbrev μ-loop : tie.MeasureT-loop
-μ-loop s count channels from starts₀ at₀ c₀ starts at c = count - c
+μ-loop s count heading from starts₀ at₀ c₀ starts at c = count - c
 
 loop-holds : tie.Need-loop-holds Inv-loop μ-loop
 unfolding startOf startsOf
@@ -37,8 +37,8 @@ returns c =
     let a = c .before .before .before .before .before .args in
     let s = a .table .now in
     let l = c .before .before .before .loop in
-    let all = readComponents (a .channels) (a .count) 0 (drop (bodyStart s) s) in
-    let e = no-length (a .channels) (l .c) s (l .at) 0 (verdictOf all) (a .count - l .c) (omega arith) (l .inv .4) (c .before .if1 .taken) in
+    let all = readComponents (a .heading) (a .count) 0 (drop (bodyStart s) s) in
+    let e = no-length (a .heading) (l .c) s (l .at) 0 (verdictOf all) (a .count - l .c) (omega arith) (l .inv .4) (c .before .if1 .taken) in
     c .refused .ensures ∙ says-refused s (a .count) all e
 
 word-at-requires : tie.Need-word-at-requires Inv-loop μ-loop
@@ -58,8 +58,8 @@ returns-2 c =
     let a = c .before .before .before .before .before .before .before .args in
     let s = a .table .now in
     let l = c .before .before .before .before .before .loop in
-    let all = readComponents (a .channels) (a .count) 0 (drop (bodyStart s) s) in
-    let e = too-long (a .channels) (l .c) s (l .at) (c .before .before .word-at .result) (verdictOf all) (a .count - l .c) (omega arith) (l .inv .4) (omega arith) (c .before .before .word-at .ensures) (c .before .if2 .taken) in
+    let all = readComponents (a .heading) (a .count) 0 (drop (bodyStart s) s) in
+    let e = too-long (a .heading) (l .c) s (l .at) (c .before .before .word-at .result) (verdictOf all) (a .count - l .c) (omega arith) (l .inv .4) (omega arith) (c .before .before .word-at .ensures) (c .before .if2 .taken) in
     c .refused2 .ensures ∙ says-refused s (a .count) all e
 
 add-component : tie.Need-add-component Inv-loop μ-loop
@@ -88,12 +88,12 @@ returns-3 c =
     let a = c .before .before .before .before .before .before .before .before .before .before .before .before .args in
     let s = a .table .now in
     let l = c .before .before .before .before .before .before .before .before .before .before .loop in
-    let all = readComponents (a .channels) (a .count) 0 (drop (bodyStart s) s) in
+    let all = readComponents (a .heading) (a .count) 0 (drop (bodyStart s) s) in
     let n = c .before .before .before .before .before .before .before .word-at .result in
     let z : l .at + n - l .at ≡ n = omega arith in
-    let t : c .before .before .before .before .component .result ≡ triedOf (readComponent (a .channels) (take n (drop (l .at) s))) =
-    c .before .before .before .before .component .ensures ∙ ap (λ (i : ℕ). triedOf (readComponent (a .channels) (take i (drop (l .at) s)))) z in
-    let e = fails-there (a .channels) (l .c) s (l .at) n (verdictOf all) (a .count - l .c) (omega arith) (l .inv .4) (omega arith) (c .before .before .before .before .before .before .before .word-at .ensures) (omega arith) (sym t ∙ c .before .before .t .given .1) in
+    let t : c .before .before .before .before .component .result ≡ triedOf (readComponent (a .heading) (take n (drop (l .at) s))) =
+    c .before .before .before .before .component .ensures ∙ ap (λ (i : ℕ). triedOf (readComponent (a .heading) (take i (drop (l .at) s)))) z in
+    let e = fails-there (a .heading) (l .c) s (l .at) n (verdictOf all) (a .count - l .c) (omega arith) (l .inv .4) (omega arith) (c .before .before .before .before .before .before .before .word-at .ensures) (omega arith) (sym t ∙ c .before .before .t .given .1) in
     c .refused3 .ensures ∙ says-refused s (a .count) all e
 
 enum-told : tie.Need-enum-told Inv-loop μ-loop
@@ -125,13 +125,13 @@ loop-again c =
     let a = c .before .before .before .before .before .before .before .before .before .before .args in
     let s = a .table .now in
     let l = c .before .before .before .before .before .before .before .before .loop in
-    let all = readComponents (a .channels) (a .count) 0 (drop (bodyStart s) s) in
+    let all = readComponents (a .heading) (a .count) 0 (drop (bodyStart s) s) in
     let n = c .before .before .before .before .before .word-at .result in
     let z : l .at + n - l .at ≡ n = omega arith in
-    let t : c .before .before .component .result ≡ triedOf (readComponent (a .channels) (take n (drop (l .at) s))) =
-    c .before .before .component .ensures ∙ ap (λ (i : ℕ). triedOf (readComponent (a .channels) (take i (drop (l .at) s)))) z in
+    let t : c .before .before .component .result ≡ triedOf (readComponent (a .heading) (take n (drop (l .at) s))) =
+    c .before .before .component .ensures ∙ ap (λ (i : ℕ). triedOf (readComponent (a .heading) (take i (drop (l .at) s)))) z in
     let k : a .count - (l .c + 1) ≡ a .count - l .c - 1 = omega arith in
-    let e = fine-there (a .channels) (l .c) s (l .at) n (verdictOf all) (a .count - l .c) (omega arith) (l .inv .4) (omega arith) (c .before .before .before .before .before .word-at .ensures) (omega arith) (sym t ∙ c .enum-told .given .1) in (
+    let e = fine-there (a .heading) (l .c) s (l .at) n (verdictOf all) (a .count - l .c) (omega arith) (l .inv .4) (omega arith) (c .before .before .before .before .before .word-at .ensures) (omega arith) (sym t ∙ c .enum-told .given .1) in (
       omega arith,
       omega arith,
       start-on s (l .c) (l .at) n (l .inv .2) (c .before .before .before .before .before .word-at .ensures),
@@ -150,9 +150,9 @@ returns-4 c =
     let a = c .before .before .before .before .before .args in
     let s = a .table .now in
     let l = c .before .before .before .loop in
-    let all = readComponents (a .channels) (a .count) 0 (drop (bodyStart s) s) in
+    let all = readComponents (a .heading) (a .count) 0 (drop (bodyStart s) s) in
     let d : a .count - 1 + 1 ≡ l .c = omega arith in
-    let e = bytes-over (a .channels) (l .c) s (l .at) (verdictOf all) (a .count - l .c) (omega arith) (l .inv .4) (a .count - 1) d (c .before .if3 .taken) in
+    let e = bytes-over (a .heading) (l .c) s (l .at) (verdictOf all) (a .count - l .c) (omega arith) (l .inv .4) (a .count - 1) d (c .before .if3 .taken) in
     c .refused4 .ensures ∙ says-refused s (a .count) all e
 
 returns-5 : tie.Need-returns-5 Inv-loop μ-loop
@@ -160,9 +160,9 @@ returns-5 c =
     let a = c .before .before .before .before .args in
     let s = a .table .now in
     let l = c .before .before .loop in
-    let all = readComponents (a .channels) (a .count) 0 (drop (bodyStart s) s) in
+    let all = readComponents (a .heading) (a .count) 0 (drop (bodyStart s) s) in
     let d : l .c ≡ a .count = omega arith in
-    let e = at-the-end (a .channels) (l .c) s (l .at) (verdictOf all) (a .count - l .c) (omega arith) (l .inv .4) (c .if3 .left) in
+    let e = at-the-end (a .heading) (l .c) s (l .at) (verdictOf all) (a .count - l .c) (omega arith) (l .inv .4) (c .if3 .left) in
     says-accepted s (a .count) all (l .starts) e (l .inv .3 ∙ ap (startsOf s) d)
 
 pub components-spec : {M : Type 1} → statement M

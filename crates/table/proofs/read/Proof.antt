@@ -1,9 +1,11 @@
 -- `table::read` meets its contract. Assumes nothing.
-use mathlib.Core.Path.{_≡_, _∙_}
+use mathlib.Core.Path.{_≡_, ap, _∙_}
 use mathlib.Core.Bool.{true}
 use native.Mathlib.Omega.{arith}
+use lib.ListN.{drop}
 use borrow.Author.Needs.{needs}
-use Rattle.model.specs.Reader.{versionFine, lengthFine, countFine, bandsFine}
+use Rattle.model.specs.Reader.{byte, readComponents, versionFine, lengthFine, countFine, bodyStart, bandsFine}
+use Rattle.table.specs.Directory.{readingFrom}
 use Rattle.table.proofs.Whole.{header-refused, header-fine, fourth, its-length, its-count, bands-fit}
 use Rattle.table.proofs.read.Statement.{statement}
 use Rattle.table.proofs.read.Tie as tie
@@ -26,8 +28,8 @@ fine c = let h = c .before .header in header-fine (c .before .before .before .ar
 shared-slice-read-components : tie.Need-shared-slice-read-components
 shared-slice-read-components c = omega (arith, its-length (c .before .before .before .before .args .table .now) (fine (c .before) .1) .0)
 
-shared-slice-read-components-2 : tie.Need-shared-slice-read-components-2
-shared-slice-read-components-2 c = omega (arith, its-length (c .before .before .before .before .before .args .table .now) (fine (c .before .before) .1) .0)
+heading-requires : tie.Need-heading-requires
+heading-requires c κs = its-length (c .before .before .before .before .args .table .now) (fine (c .before) .1) .0
 
 body-start-requires : tie.Need-body-start-requires
 body-start-requires c κs = its-length (c .before .before .before .before .before .args .table .now) (fine (c .before .before) .1) .0
@@ -42,8 +44,9 @@ components-requires c κs =
 
 returns-2 : tie.Need-returns-2
 returns-2 c =
+    let bs = c .before .before .before .before .before .before .before .args .table .now in
     let f = fine (c .before .before .before .before) in
-    c .components .ensures ∙ fourth (c .before .before .before .before .before .before .before .args .table .now) (f .0) (f .1) (f .2) (f .3)
+    c .components .ensures ∙ ap (λ h. readingFrom bs (byte bs 3) (readComponents h (byte bs 3) 0 (drop (bodyStart bs) bs))) (c .before .before .heading .ensures) ∙ fourth bs (f .0) (f .1) (f .2) (f .3)
 
 pub read-spec : {M : Type 1} → statement M
 read-spec =
@@ -53,7 +56,7 @@ read-spec =
     refused-requires
     returns
     shared-slice-read-components
-    shared-slice-read-components-2
+    heading-requires
     body-start-requires
     components-requires
     returns-2)

@@ -4,6 +4,12 @@ use Rattle.translator.proofs.Sizes.{shared}
 use Rattle.translator.proofs.arc_share.Statement.{statement}
 use Rattle.translator.proofs.arc_share.Tie as tie
 
+head-length-requires : tie.Need-head-length-requires
+head-length-requires c κs = search needs
+
+budget-length-requires : tie.Need-budget-length-requires
+budget-length-requires c κs = search needs
+
 sub-clocks-length : tie.Need-sub-clocks-length
 sub-clocks-length c = search needs
 
@@ -34,6 +40,9 @@ mul-trial c = search needs
 add-trial-2 : tie.Need-add-trial-2
 add-trial-2 c = search needs
 
+add-trial-3 : tie.Need-add-trial-3
+add-trial-3 c = search needs
+
 work-length-requires : tie.Need-work-length-requires
 work-length-requires c κs = search needs
 
@@ -57,17 +66,21 @@ add-result-2 c = search needs
 
 returns : tie.Need-returns
 returns c =
-    let args = c .before .before .before .before .before .before .before .before .args in
+    let args = c .before .before .before .before .before .before .before .before .before .before .args in
+    let head = c .before .before .before .before .before .before .before .before .head-length in
+    let budget = c .before .before .before .before .before .before .before .budget-length in
     let clocks-length = c .before .before .before .before .clocks-length in
     let wide = c .before .before .wide in
     let work-length = c .before .work-length in
     let wide2 = c .wide2 in
-    shared (args .bytes .now) (args .clocks) (clocks-length .result) (wide .result) (work-length .result) (wide2 .result) (clocks-length .ensures .0) (wide .ensures .0) (work-length .ensures .0) (wide2 .ensures .0)
+    shared (args .budgets) (args .bytes .now) (args .clocks) (clocks-length .result) (wide .result) (work-length .result) (wide2 .result) (budget .result) (head .result) (head .ensures .0) (clocks-length .ensures .0) (wide .ensures .0) (work-length .ensures .0) (wide2 .ensures .0) (budget .ensures .0)
 
 pub arc-share-spec : {M : Type 1} → statement M
 arc-share-spec =
     tie.close
     (tie.spec
+    head-length-requires
+    budget-length-requires
     sub-clocks-length
     part-clocks-length-start
     part-clocks-length-end
@@ -78,6 +91,7 @@ arc-share-spec =
     wide-requires
     mul-trial
     add-trial-2
+    add-trial-3
     work-length-requires
     add-block
     wide-requires-2

@@ -15,12 +15,12 @@ use Rattle.translator.proofs.node_length.Statement.{statement}
 use Rattle.translator.proofs.node_length.Tie as tie
 
 abbrev Inv-loop : tie.InvT-loop
-Inv-loop p n clocks long₀ edge₀ k₀ long edge k =
-    (edge ≤ length p) × ArcsFit k (drop edge p)
-    × (long + sharesFrom clocks k (drop edge p) ≡ length (nodeBytes (frontComponent p)))
+Inv-loop p budgets n clocks long₀ edge₀ k₀ long edge k =
+    (edge ≤ length p) × ArcsFit budgets k (drop edge p)
+    × (long + sharesFrom budgets clocks k (drop edge p) ≡ length (nodeBytes (frontComponent budgets p)))
 
 abbrev μ-loop : tie.MeasureT-loop
-μ-loop p n clocks long₀ edge₀ k₀ long edge k = k
+μ-loop p budgets n clocks long₀ edge₀ k₀ long edge k = k
 
 shared-slice-read-wide : tie.Need-shared-slice-read-wide Inv-loop μ-loop
 shared-slice-read-wide c = omega (arith, c .before .before .pre .0 .locations)
@@ -54,7 +54,7 @@ loop-holds c =
     let p = args .component .now in
     let n = wide .result in
     let e : 7 + n * 3 ≡ arcsPlace p = omega (arith, wide .ensures .0) in
-    (omega (arith, pre .0 .locations), rw e (pre .0 .arcs), node-shares p n (7 + n * 3) (pre .1) (wide .ensures .0) refl)
+    (omega (arith, pre .0 .locations), rw e (pre .0 .arcs), node-shares (args .budgets) p n (7 + n * 3) (pre .1) (wide .ensures .0) refl)
 
 sub-arc-share : tie.Need-sub-arc-share Inv-loop μ-loop
 sub-arc-share c = search needs
@@ -70,7 +70,7 @@ arc-share-requires c κs =
     let args = c .before .before .before .before .before .before .before .before .args in
     let loop = c .before .before .loop in
     let loop-test = c .before .loop-test in
-    edge-whole (args .component .now) (loop .edge) (loop .k) (loop-test .taken) (loop .inv .0) (loop .inv .1)
+    (edge-head (args .budgets) (args .component .now) (loop .edge) (loop .k) (loop-test .taken) (loop .inv .0) (loop .inv .1), edge-whole (args .budgets) (args .component .now) (loop .edge) (loop .k) (loop-test .taken) (loop .inv .0) (loop .inv .1))
 
 add-long-2 : tie.Need-add-long-2 Inv-loop μ-loop
 add-long-2 c =
@@ -79,7 +79,7 @@ add-long-2 c =
     let arc-share = c .arc-share in
     let loop-test = c .before .before .loop-test in
     let pre = c .before .before .before .before .before .before .before .before .before .pre in
-    omega (arith, share-counted (byte (args .component .now) 4) (args .component .now) (loop .edge) (loop .k) (loop .long) (length (nodeBytes (frontComponent (args .component .now)))) (arc-share .result) (arcLength (take (length (args .component .now) - loop .edge) (drop (loop .edge) (args .component .now)))) (loop-test .taken) (loop .inv .2) (arc-share .ensures) refl .0, pre .2)
+    omega (arith, share-counted (args .budgets) (byte (args .component .now) 4) (args .component .now) (loop .edge) (loop .k) (loop .long) (length (nodeBytes (frontComponent (args .budgets) (args .component .now)))) (arc-share .result) (arcLength (args .budgets) (take (length (args .component .now) - loop .edge) (drop (loop .edge) (args .component .now)))) (loop-test .taken) (loop .inv .2) (arc-share .ensures) refl .0, pre .2)
 
 sub-arc-length : tie.Need-sub-arc-length Inv-loop μ-loop
 sub-arc-length c = search needs
@@ -95,7 +95,7 @@ arc-length-requires c κs =
     let args = c .before .before .before .before .before .before .before .before .before .before .args in
     let loop = c .before .before .before .before .loop in
     let loop-test = c .before .before .before .loop-test in
-    edge-head (args .component .now) (loop .edge) (loop .k) (loop-test .taken) (loop .inv .0) (loop .inv .1)
+    edge-head (args .budgets) (args .component .now) (loop .edge) (loop .k) (loop-test .taken) (loop .inv .0) (loop .inv .1)
 
 add-edge-2 : tie.Need-add-edge-2 Inv-loop μ-loop
 add-edge-2 c =
@@ -103,7 +103,7 @@ add-edge-2 c =
     let loop = c .before .before .before .before .before .loop in
     let loop-test = c .before .before .before .before .loop-test in
     let arc-length = c .arc-length in
-    omega (arith, edge-on (args .component .now) (loop .edge) (loop .k) (loop-test .taken) (loop .inv .0) (loop .inv .1) (arc-length .result) (arc-length .ensures))
+    omega (arith, edge-on (args .budgets) (args .component .now) (loop .edge) (loop .k) (loop-test .taken) (loop .inv .0) (loop .inv .1) (arc-length .result) (arc-length .ensures))
 
 sub-k : tie.Need-sub-k Inv-loop μ-loop
 sub-k c = search needs
@@ -118,9 +118,9 @@ loop-again c =
     let loop-test = c .before .before .before .before .loop-test in
     let arc-length = c .arc-length in
     let arc-share = c .before .before .arc-share in (
-      edge-on (args .component .now) (loop .edge) (loop .k) (loop-test .taken) (loop .inv .0) (loop .inv .1) (arc-length .result) (arc-length .ensures),
-      edges-on (args .component .now) (loop .edge) (loop .k) (loop-test .taken) (loop .inv .0) (loop .inv .1) (arc-length .result) (arc-length .ensures),
-      share-counted (byte (args .component .now) 4) (args .component .now) (loop .edge) (loop .k) (loop .long) (length (nodeBytes (frontComponent (args .component .now)))) (arc-share .result) (arc-length .result) (loop-test .taken) (loop .inv .2) (arc-share .ensures) (arc-length .ensures) .1,
+      edge-on (args .budgets) (args .component .now) (loop .edge) (loop .k) (loop-test .taken) (loop .inv .0) (loop .inv .1) (arc-length .result) (arc-length .ensures),
+      edges-on (args .budgets) (args .component .now) (loop .edge) (loop .k) (loop-test .taken) (loop .inv .0) (loop .inv .1) (arc-length .result) (arc-length .ensures),
+      share-counted (args .budgets) (byte (args .component .now) 4) (args .component .now) (loop .edge) (loop .k) (loop .long) (length (nodeBytes (frontComponent (args .budgets) (args .component .now)))) (arc-share .result) (arc-length .result) (loop-test .taken) (loop .inv .2) (arc-share .ensures) (arc-length .ensures) .1,
     )
 
 returns : tie.Need-returns Inv-loop μ-loop
@@ -128,7 +128,7 @@ returns c =
     let loop = c .before .loop in
     let args = c .before .before .before .before .before .before .before .args in
     let loop-test = c .loop-test in
-    omega (arith, loop .inv .2, no-shares (byte (args .component .now) 4) (loop .k) (drop (loop .edge) (args .component .now)) (loop-test .left))
+    omega (arith, loop .inv .2, no-shares (args .budgets) (byte (args .component .now) 4) (loop .k) (drop (loop .edge) (args .component .now)) (loop-test .left))
 
 pub node-length-spec : {M : Type 1} → statement M
 node-length-spec =

@@ -16,12 +16,12 @@ use Rattle.translator.proofs.put_edge_blocks.Statement.{statement}
 use Rattle.translator.proofs.put_edge_blocks.Tie as tie
 
 abbrev Inv-loop : tie.InvT-loop
-Inv-loop h n clocks out₀ starts first from edge₀ place₀ at₀ k₀ out edge place at k =
-    (edge ≤ length h) × ArcsFit k (drop edge h) × Aligned first at
-    × Laying out₀ ((from - first) / 4) starts from (edgesFrom clocks n h) out ((at - first) / 4) place at (edgesFrom clocks k (drop edge h))
+Inv-loop h n clocks out₀ starts first from budgets edge₀ place₀ at₀ k₀ out edge place at k =
+    (edge ≤ length h) × ArcsFit budgets k (drop edge h) × Aligned first at
+    × Laying out₀ ((from - first) / 4) starts from (edgesFrom budgets clocks n h) out ((at - first) / 4) place at (edgesFrom budgets clocks k (drop edge h))
 
 abbrev μ-loop : tie.MeasureT-loop
-μ-loop h n clocks out₀ starts first from edge₀ place₀ at₀ k₀ out edge place at k = k
+μ-loop h n clocks out₀ starts first from budgets edge₀ place₀ at₀ k₀ out edge place at k = k
 
 loop-holds : tie.Need-loop-holds Inv-loop μ-loop
 loop-holds c = (omega arith, c .before .before .pre .0, c .before .before .pre .1, lay-begin (c .before .before .pre .2))
@@ -33,7 +33,7 @@ statements-between-requires c κs =
     let loop-test = c .before .loop-test in
     let s = args .bytes .now in
     let l = loop in
-    let h = lay-is (edges-ahead (args .clocks) (l .k) (drop (l .edge) s) (loop-test .taken)) (l .inv .3) in
+    let h = lay-is (edges-ahead (args .budgets) (args .clocks) (l .k) (drop (l .edge) s) (loop-test .taken)) (l .inv .3) in
     (l .inv .2 .behind, start-room h .1)
 
 put-word-requires : tie.Need-put-word-requires Inv-loop μ-loop
@@ -43,7 +43,7 @@ put-word-requires c κs =
     let loop-test = c .before .before .loop-test in
     let s = args .bytes .now in
     let l = loop in
-    let h = lay-is (edges-ahead (args .clocks) (l .k) (drop (l .edge) s) (loop-test .taken)) (l .inv .3) in
+    let h = lay-is (edges-ahead (args .budgets) (args .clocks) (l .k) (drop (l .edge) s) (loop-test .taken)) (l .inv .3) in
     start-room h .0
 
 sub-put-edge-block : tie.Need-sub-put-edge-block Inv-loop μ-loop
@@ -64,8 +64,8 @@ put-edge-block-requires c κs =
     let statements-between = c .before .before .before .before .before .statements-between in
     let s = args .bytes .now in
     let l = loop in
-    let h = lay-is (edges-ahead (args .clocks) (l .k) (drop (l .edge) s) (loop-test .taken)) (l .inv .3) in
-    (edge-whole (args .bytes .now) (loop .edge) (loop .k) (loop-test .taken) (loop .inv .0) (loop .inv .1), edge-room s (l .edge) (args .clocks) (put-word .last .0) (l .at) (block-room h (put-is (ap be16 (statements-between .ensures)) (put-word .ensures))))
+    let h = lay-is (edges-ahead (args .budgets) (args .clocks) (l .k) (drop (l .edge) s) (loop-test .taken)) (l .inv .3) in
+    (edge-head (args .budgets) (args .bytes .now) (loop .edge) (loop .k) (loop-test .taken) (loop .inv .0) (loop .inv .1), edge-whole (args .budgets) (args .bytes .now) (loop .edge) (loop .k) (loop-test .taken) (loop .inv .0) (loop .inv .1), edge-room (args .budgets) s (l .edge) (args .clocks) (put-word .last .0) (l .at) (block-room h (put-is (ap be16 (statements-between .ensures)) (put-word .ensures))))
 
 sub-arc-length : tie.Need-sub-arc-length Inv-loop μ-loop
 sub-arc-length c = search needs
@@ -81,7 +81,7 @@ arc-length-requires c κs =
     let args = c .before .before .before .before .before .before .before .before .before .before .before .before .before .before .before .args in
     let loop = c .before .before .before .before .before .before .before .before .before .before .before .before .loop in
     let loop-test = c .before .before .before .before .before .before .before .before .before .before .before .loop-test in
-    edge-head (args .bytes .now) (loop .edge) (loop .k) (loop-test .taken) (loop .inv .0) (loop .inv .1)
+    edge-head (args .budgets) (args .bytes .now) (loop .edge) (loop .k) (loop-test .taken) (loop .inv .0) (loop .inv .1)
 
 add-edge : tie.Need-add-edge Inv-loop μ-loop
 add-edge c =
@@ -89,7 +89,7 @@ add-edge c =
     let loop = c .before .before .before .before .before .before .before .before .before .before .before .before .before .loop in
     let loop-test = c .before .before .before .before .before .before .before .before .before .before .before .before .loop-test in
     let arc-length = c .arc-length in
-    omega (arith, edge-on (args .bytes .now) (loop .edge) (loop .k) (loop-test .taken) (loop .inv .0) (loop .inv .1) (arc-length .result) (arc-length .ensures))
+    omega (arith, edge-on (args .budgets) (args .bytes .now) (loop .edge) (loop .k) (loop-test .taken) (loop .inv .0) (loop .inv .1) (arc-length .result) (arc-length .ensures))
 
 sub-k : tie.Need-sub-k Inv-loop μ-loop
 sub-k c = search needs
@@ -108,13 +108,13 @@ loop-again c =
     let put-word = c .before .before .before .before .before .before .before .before .before .put-word in
     let s = args .bytes .now in
     let l = loop in
-    let h = lay-is (edges-ahead (args .clocks) (l .k) (drop (l .edge) s) (loop-test .taken)) (l .inv .3) in
-    let b = edge-put s (l .edge) (args .clocks) (put-edge-block .ensures) in
-    let t = aligned-on (edgeBlockOf (args .clocks) (arcAt (drop (l .edge) s))) (l .inv .2) b in (
-      edge-on (args .bytes .now) (loop .edge) (loop .k) (loop-test .taken) (loop .inv .0) (loop .inv .1) (arc-length .result) (arc-length .ensures),
-      edges-on (args .bytes .now) (loop .edge) (loop .k) (loop-test .taken) (loop .inv .0) (loop .inv .1) (arc-length .result) (arc-length .ensures),
+    let h = lay-is (edges-ahead (args .budgets) (args .clocks) (l .k) (drop (l .edge) s) (loop-test .taken)) (l .inv .3) in
+    let b = edge-put (args .budgets) s (l .edge) (args .clocks) (put-edge-block .ensures) in
+    let t = aligned-on (edgeBlockOf (args .clocks) (arcAt (args .budgets) (drop (l .edge) s))) (l .inv .2) b in (
+      edge-on (args .budgets) (args .bytes .now) (loop .edge) (loop .k) (loop-test .taken) (loop .inv .0) (loop .inv .1) (arc-length .result) (arc-length .ensures),
+      edges-on (args .budgets) (args .bytes .now) (loop .edge) (loop .k) (loop-test .taken) (loop .inv .0) (loop .inv .1) (arc-length .result) (arc-length .ensures),
       t .0,
-      lay-is (edges-behind s (l .edge) (args .clocks) (l .k - 1) (arc-length .result) (arc-length .ensures)) (lay-on h (put-is (ap be16 (statements-between .ensures)) (put-word .ensures)) b (t .1)),
+      lay-is (edges-behind (args .budgets) s (l .edge) (args .clocks) (l .k - 1) (arc-length .result) (arc-length .ensures)) (lay-on h (put-is (ap be16 (statements-between .ensures)) (put-word .ensures)) b (t .1)),
     )
 
 same-length : tie.Need-same-length Inv-loop μ-loop
@@ -125,7 +125,7 @@ returns c =
     let args = c .before .before .before .before .args in
     let loop = c .before .loop in
     let loop-test = c .loop-test in
-    lay-end (lay-is (edges-gone (args .clocks) (loop .k) (drop (loop .edge) (args .bytes .now)) (loop-test .left)) (loop .inv .3))
+    lay-end (lay-is (edges-gone (args .budgets) (args .clocks) (loop .k) (drop (loop .edge) (args .bytes .now)) (loop-test .left)) (loop .inv .3))
 
 pub put-edge-blocks-spec : {M : Type 1} → statement M
 put-edge-blocks-spec =

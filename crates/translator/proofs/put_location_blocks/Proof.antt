@@ -14,12 +14,12 @@ use Rattle.translator.proofs.put_location_blocks.Statement.{statement}
 use Rattle.translator.proofs.put_location_blocks.Tie as tie
 
 abbrev Inv-loop : tie.InvT-loop
-Inv-loop p out₀ starts first n edges place₀ at₀ here₀ out place at here =
+Inv-loop p out₀ starts first budgets n edges place₀ at₀ here₀ out place at here =
     (here ≤ n) × Aligned first at
-    × Laying out₀ 0 starts first (locationsFrom p 0 (byte p 2)) out ((at - first) / 4) place at (locationsFrom p here (n - here))
+    × Laying out₀ 0 starts first (locationsFrom budgets p 0 (byte p 2)) out ((at - first) / 4) place at (locationsFrom budgets p here (n - here))
 
 abbrev μ-loop : tie.MeasureT-loop
-μ-loop p out₀ starts first n edges place₀ at₀ here₀ out place at here = n - here
+μ-loop p out₀ starts first budgets n edges place₀ at₀ here₀ out place at here = n - here
 
 shared-slice-read-n : tie.Need-shared-slice-read-n Inv-loop μ-loop
 shared-slice-read-n c = omega (arith, c .before .before .before .pre .0 .locations)
@@ -39,7 +39,7 @@ loop-holds c =
     let p = a .component .now in
     let z : byte p 2 - 0 ≡ byte p 2 = omega arith in
     let y : (a .first - a .first) / 4 ≡ 0 = omega arith in
-    let r = subst (λ l. Ready (a .out .now) 0 (a .starts) (a .first) l) (sym (all-locations p)) (c .before .before .before .before .pre .1) in
+    let r = subst (λ l. Ready (a .out .now) 0 (a .starts) (a .first) l) (sym (all-locations (a .budgets) p)) (c .before .before .before .before .pre .1) in
     (omega arith, aligned-here (a .first), rw (z, y) (lay-begin r))
 
 wide-requires-2 : tie.Need-wide-requires-2 Inv-loop μ-loop
@@ -58,7 +58,7 @@ sub-location-at c =
     let wide2 = c .wide2 in
     let pre = c .before .before .before .before .before .before .before .pre in
     let loop-test = c .before .loop-test in
-    omega (arith, location-fits (args .component .now) (loop .here) (7 + wide2 .result * 3) (pre .0) (loop-test .taken) (omega (arith, wide2 .ensures .0)))
+    omega (arith, location-fits (args .budgets) (args .component .now) (loop .here) (7 + wide2 .result * 3) (pre .0) (loop-test .taken) (omega (arith, wide2 .ensures .0)))
 
 part-location-at-start : tie.Need-part-location-at-start Inv-loop μ-loop
 part-location-at-start c =
@@ -67,7 +67,7 @@ part-location-at-start c =
     let wide2 = c .wide2 in
     let pre = c .before .before .before .before .before .before .before .pre in
     let loop-test = c .before .loop-test in
-    omega (arith, location-fits (args .component .now) (loop .here) (7 + wide2 .result * 3) (pre .0) (loop-test .taken) (omega (arith, wide2 .ensures .0)))
+    omega (arith, location-fits (args .budgets) (args .component .now) (loop .here) (7 + wide2 .result * 3) (pre .0) (loop-test .taken) (omega (arith, wide2 .ensures .0)))
 
 part-location-at-end : tie.Need-part-location-at-end Inv-loop μ-loop
 part-location-at-end c = search needs
@@ -79,20 +79,20 @@ location-at-requires c κs =
     let loop = c .before .before .before .loop in
     let pre = c .before .before .before .before .before .before .before .before .pre in
     let loop-test = c .before .before .loop-test in
-    left-there (args .component .now) (7 + wide2 .result * 3) 3 (location-fits (args .component .now) (loop .here) (7 + wide2 .result * 3) (pre .0) (loop-test .taken) (omega (arith, wide2 .ensures .0)))
+    left-there (args .component .now) (7 + wide2 .result * 3) 3 (location-fits (args .budgets) (args .component .now) (loop .here) (7 + wide2 .result * 3) (pre .0) (loop-test .taken) (omega (arith, wide2 .ensures .0)))
 
 statements-between-requires : tie.Need-statements-between-requires Inv-loop μ-loop
 statements-between-requires c κs =
     let p = c .before .before .before .before .before .before .before .before .before .before .args .component .now in
     let l = c .before .before .before .before .before .loop in
-    let h = lay-is (locations-ahead p (l .here) (byte p 2) (c .before .before .before .before .loop-test .taken)) (l .inv .2) in
+    let h = lay-is (locations-ahead (c .before .before .before .before .before .before .before .before .before .before .args .budgets) p (l .here) (byte p 2) (c .before .before .before .before .loop-test .taken)) (l .inv .2) in
     (l .inv .1 .behind, start-room h .1)
 
 put-word-requires : tie.Need-put-word-requires Inv-loop μ-loop
 put-word-requires c κs =
     let p = c .before .before .before .before .before .before .before .before .before .before .before .args .component .now in
     let l = c .before .before .before .before .before .before .loop in
-    let h = lay-is (locations-ahead p (l .here) (byte p 2) (c .before .before .before .before .before .loop-test .taken)) (l .inv .2) in
+    let h = lay-is (locations-ahead (c .before .before .before .before .before .before .before .before .before .before .before .args .budgets) p (l .here) (byte p 2) (c .before .before .before .before .before .loop-test .taken)) (l .inv .2) in
     start-room h .0
 
 sub-put-location-block : tie.Need-sub-put-location-block Inv-loop μ-loop
@@ -128,11 +128,11 @@ put-location-block-requires c κs =
     let statements-between = c .before .before .before .before .before .before .statements-between in
     let p = args .component .now in
     let l = loop in
-    let h = lay-is (locations-ahead p (l .here) (byte p 2) (loop-test .taken)) (l .inv .2) in
+    let h = lay-is (locations-ahead (args .budgets) p (l .here) (byte p 2) (loop-test .taken)) (l .inv .2) in
     let d : 7 + wide2 .result * 3 ≡ 7 + l .here * 3 = omega (arith, wide2 .ensures .0) in
     let e : 7 + wide .result * 3 ≡ arcsPlace p = omega (arith, wide .ensures .0) in
-    let q = location-block-is p (l .here) (7 + wide2 .result * 3) (7 + wide .result * 3) (location-at .result) (loop-test .taken) d e (location-at .ensures) in
-    (arcs-there p (7 + wide .result * 3) e (pre .0), room-is (put-word .last .0) (l .at) (sym q) (block-room h (put-is (ap be16 (statements-between .ensures)) (put-word .ensures))))
+    let q = location-block-is (args .budgets) p (l .here) (7 + wide2 .result * 3) (7 + wide .result * 3) (location-at .result) (loop-test .taken) d e (location-at .ensures) in
+    (arcs-there (args .budgets) p (7 + wide .result * 3) e (pre .0), room-is (put-word .last .0) (l .at) (sym q) (block-room h (put-is (ap be16 (statements-between .ensures)) (put-word .ensures))))
 
 add-here : tie.Need-add-here Inv-loop μ-loop
 add-here c = search needs
@@ -153,12 +153,12 @@ loop-again c =
     let put-word = c .before .before .before .before .before .before .before .before .put-word in
     let p = args .component .now in
     let l = loop in
-    let h = lay-is (locations-ahead p (l .here) (byte p 2) (loop-test .taken)) (l .inv .2) in
+    let h = lay-is (locations-ahead (args .budgets) p (l .here) (byte p 2) (loop-test .taken)) (l .inv .2) in
     let d : 7 + wide2 .result * 3 ≡ 7 + l .here * 3 = omega (arith, wide2 .ensures .0) in
     let e : 7 + wide .result * 3 ≡ arcsPlace p = omega (arith, wide .ensures .0) in
-    let q = location-block-is p (l .here) (7 + wide2 .result * 3) (7 + wide .result * 3) (location-at .result) (loop-test .taken) d e (location-at .ensures) in
+    let q = location-block-is (args .budgets) p (l .here) (7 + wide2 .result * 3) (7 + wide .result * 3) (location-at .result) (loop-test .taken) d e (location-at .ensures) in
     let b = put-is q (put-location-block .ensures) in
-    let t = aligned-on (locationBlock (frontComponent p) (l .here)) (l .inv .1) b in
+    let t = aligned-on (locationBlock (frontComponent (args .budgets) p) (l .here)) (l .inv .1) b in
     (omega arith, t .0, lay-on h (put-is (ap be16 (statements-between .ensures)) (put-word .ensures)) b (t .1))
 
 same-length : tie.Need-same-length Inv-loop μ-loop
@@ -171,7 +171,7 @@ returns c =
     let loop-test = c .loop-test in
     let p = args .component .now in
     let l = loop in
-    subst (λ k. Laid (args .out .now) 0 (args .starts) (args .first) k (l .at) (l .out)) (all-locations p) (lay-end (lay-is (locations-gone p (l .here) (byte p 2) (loop-test .left)) (l .inv .2)))
+    subst (λ k. Laid (args .out .now) 0 (args .starts) (args .first) k (l .at) (l .out)) (all-locations (args .budgets) p) (lay-end (lay-is (locations-gone (args .budgets) p (l .here) (byte p 2) (loop-test .left)) (l .inv .2)))
 
 pub put-location-blocks-spec : {M : Type 1} → statement M
 put-location-blocks-spec =

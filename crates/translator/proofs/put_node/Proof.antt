@@ -53,7 +53,7 @@ put-location-blocks-requires c κs =
     let wide2 = c .before .before .wide2 in
     let wide3 = c .before .wide3 in
     let wide = c .before .before .before .wide in
-    (pre .0, ready-locations (args .component .now) (args .out .now) (args .at) (wide2 .result) (wide3 .result) (7 + wide .result * 3) (wide2 .ensures .0) (wide3 .ensures .0) (omega (arith, wide .ensures .0)) (pre .1) (pre .2))
+    (pre .0, ready-locations (args .budgets) (args .component .now) (args .out .now) (args .at) (wide2 .result) (wide3 .result) (7 + wide .result * 3) (wide2 .ensures .0) (wide3 .ensures .0) (omega (arith, wide .ensures .0)) (pre .1) (pre .2))
 
 sub-put-edge-blocks : tie.Need-sub-put-edge-blocks
 sub-put-edge-blocks c = search needs
@@ -76,7 +76,7 @@ put-edge-blocks-requires c κs =
     let wide2 = c .before .before .before .before .before .before .before .before .wide2 in
     let wide3 = c .before .before .before .before .before .before .before .wide3 in
     let x = put-location-blocks .ensures in
-    (arcs-there (args .component .now) (7 + wide .result * 3) (omega (arith, wide .ensures .0)) (pre .0), aligned-from (args .component .now) (args .out .now) (args .at) (wide2 .result) (wide3 .result) (7 + wide .result * 3) (wide2 .ensures .0) (wide3 .ensures .0) (omega (arith, wide .ensures .0)) (pre .1) (pre .2) x, ready-edges (args .component .now) (args .out .now) (args .at) (wide2 .result) (wide3 .result) (7 + wide .result * 3) (wide2 .ensures .0) (wide3 .ensures .0) (omega (arith, wide .ensures .0)) (pre .1) (pre .2) x)
+    (arcs-there (args .budgets) (args .component .now) (7 + wide .result * 3) (omega (arith, wide .ensures .0)) (pre .0), aligned-from (args .budgets) (args .component .now) (args .out .now) (args .at) (wide2 .result) (wide3 .result) (7 + wide .result * 3) (wide2 .ensures .0) (wide3 .ensures .0) (omega (arith, wide .ensures .0)) (pre .1) (pre .2) x, ready-edges (args .budgets) (args .component .now) (args .out .now) (args .at) (wide2 .result) (wide3 .result) (7 + wide .result * 3) (wide2 .ensures .0) (wide3 .ensures .0) (omega (arith, wide .ensures .0)) (pre .1) (pre .2) x)
 
 sub-put-node-head : tie.Need-sub-put-node-head
 sub-put-node-head c = search needs
@@ -90,7 +90,7 @@ cast-put-node-head c =
     let pre = c .before .before .before .before .before .before .before .before .before .before .before .before .before .before .before .before .before .before .pre in
     let put-location-blocks = c .before .before .before .before .before .before .before .before .before .put-location-blocks in
     let put-edge-blocks = c .before .before .before .put-edge-blocks in
-    omega (arith, node-long (args .component .now) (args .out .now) (args .at) (wide2 .result) (wide3 .result) (7 + wide .result * 3) (wide2 .ensures .0) (wide3 .ensures .0) (omega (arith, wide .ensures .0)) (pre .1) (pre .2) (put-location-blocks .ensures) (put-edge-blocks .ensures) .2)
+    omega (arith, node-long (args .budgets) (args .component .now) (args .out .now) (args .at) (wide2 .result) (wide3 .result) (7 + wide .result * 3) (wide2 .ensures .0) (wide3 .ensures .0) (omega (arith, wide .ensures .0)) (pre .1) (pre .2) (put-location-blocks .ensures) (put-edge-blocks .ensures) .2)
 
 shared-slice-read-put-node-head : tie.Need-shared-slice-read-put-node-head
 shared-slice-read-put-node-head c = search needs
@@ -104,7 +104,7 @@ put-node-head-requires c κs =
     let pre = c .before .before .before .before .before .before .before .before .before .before .before .before .before .before .before .before .before .before .before .pre in
     let put-location-blocks = c .before .before .before .before .before .before .before .before .before .before .put-location-blocks in
     let put-edge-blocks = c .before .before .before .before .put-edge-blocks in
-    head-room (args .component .now) (args .out .now) (args .at) (wide2 .result) (wide3 .result) (7 + wide .result * 3) (wide2 .ensures .0) (wide3 .ensures .0) (omega (arith, wide .ensures .0)) (pre .1) (pre .2) (put-location-blocks .ensures) (put-edge-blocks .ensures)
+    head-room (args .budgets) (args .component .now) (args .out .now) (args .at) (wide2 .result) (wide3 .result) (7 + wide .result * 3) (wide2 .ensures .0) (wide3 .ensures .0) (omega (arith, wide .ensures .0)) (pre .1) (pre .2) (put-location-blocks .ensures) (put-edge-blocks .ensures)
 
 same-length : tie.Need-same-length
 same-length c = search needs
@@ -119,7 +119,7 @@ returns c =
     let put-location-blocks = c .before .before .before .before .before .before .before .before .before .before .before .before .before .put-location-blocks in
     let put-edge-blocks = c .before .before .before .before .before .before .before .put-edge-blocks in
     let put-node-head = c .before .before .put-node-head in
-    node-put (args .component .now) (args .out .now) (args .at) (wide2 .result) (wide3 .result) (7 + wide .result * 3) (wide2 .ensures .0) (wide3 .ensures .0) (omega (arith, wide .ensures .0)) (pre .1) (pre .2) (put-location-blocks .ensures) (put-edge-blocks .ensures) (put-node-head .ensures)
+    node-put (args .budgets) (args .component .now) (args .out .now) (args .at) (wide2 .result) (wide3 .result) (7 + wide .result * 3) (wide2 .ensures .0) (wide3 .ensures .0) (omega (arith, wide .ensures .0)) (pre .1) (pre .2) (put-location-blocks .ensures) (put-edge-blocks .ensures) (put-node-head .ensures)
 
 pub put-node-spec : {M : Type 1} → statement M
 put-node-spec =

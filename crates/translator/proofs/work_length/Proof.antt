@@ -44,15 +44,15 @@ add-result-2 c = search needs
 
 returns : tie.Need-returns
 returns c =
-    let is = internal-length (c .before .before .before .before .before .before .args .bytes .now) (sym (c .before .before .enum-told .given .1) ∙ c .before .before .before .before .action-at .ensures) in
+    let is = internal-length (c .before .before .before .before .before .before .args .budgets) (c .before .before .before .before .before .before .args .bytes .now) (sym (c .before .before .enum-told .given .1) ∙ c .before .before .before .before .action-at .ensures) in
     (omega (arith, is, c .wide .ensures .0), omega (arith, c .wide .ensures))
 
 returns-2 : tie.Need-returns-2
-returns-2 c = (send-length (c .before .before .before .before .args .bytes .now) _ (sym (c .enum-told2 .given .1) ∙ c .before .before .action-at .ensures), omega arith)
+returns-2 c = (send-length (c .before .before .before .before .args .budgets) (c .before .before .before .before .args .bytes .now) _ (sym (c .enum-told2 .given .1) ∙ c .before .before .action-at .ensures), omega arith)
 
 returns-3 : tie.Need-returns-3
 returns-3 c =
-    let is = receive-length (c .before .before .before .before .before .before .args .bytes .now) (sym (c .before .before .enum-told3 .given .1) ∙ c .before .before .before .before .action-at .ensures) in
+    let is = receive-length (c .before .before .before .before .before .before .args .budgets) (c .before .before .before .before .before .before .args .bytes .now) (sym (c .before .before .enum-told3 .given .1) ∙ c .before .before .before .before .action-at .ensures) in
     (omega (arith, is, c .wide2 .ensures .0), omega (arith, c .wide2 .ensures))
 
 pub work-length-spec : {M : Type 1} → statement M

@@ -19,7 +19,7 @@ edge-at-requires c κs = search needs
 returns : tie.Need-returns
 returns c =
     let a = c .before .before .before .args in
-    ap (λ (e : Edge). e .destination) (c .before .edge-at .ensures) ∙ leads-without (arcAt (a .bytes .now)) (a .message) (c .if1 .taken)
+    ap (λ (e : Edge). e .destination) (c .before .edge-at .ensures) ∙ leads-without (arcAt (a .budgets) (a .bytes .now)) (a .message) (c .if1 .taken)
 
 enum-told : tie.Need-enum-told
 enum-told c = search needs
@@ -49,21 +49,21 @@ paired-location-requires : tie.Need-paired-location-requires
 paired-location-requires c κs =
     let s = c .before .before .before .before .before .before .before .before in
     let items = c .before .before .items-place in
-    pairs-asked (s .args .bytes .now) (s .pre) (items .result) (items .ensures) (sym (c .before .before .before .enum-told3 .given .1) ∙ ap (λ (e : Edge). e .action) (c .before .before .before .before .before .before .edge-at .ensures))
+    pairs-asked (s .args .budgets) (s .args .bytes .now) (s .pre) (items .result) (items .ensures .0) (sym (c .before .before .before .enum-told3 .given .1) ∙ ap (λ (e : Edge). e .action) (c .before .before .before .before .before .before .edge-at .ensures))
 
 returns-2 : tie.Need-returns-2
 returns-2 c =
     let a = c .before .before .before .before .before .args in
     let edge = c .before .before .before .edge-at .ensures in
     let plain = ap receives (sym (c .enum-told .given .1) ∙ ap (λ (e : Edge). e .action) edge) in
-    ap (λ (e : Edge). e .destination) edge ∙ leads-plain (arcAt (a .bytes .now)) (a .message) (c .before .before .if1 .left) plain
+    ap (λ (e : Edge). e .destination) edge ∙ leads-plain (arcAt (a .budgets) (a .bytes .now)) (a .message) (c .before .before .if1 .left) plain
 
 returns-3 : tie.Need-returns-3
 returns-3 c =
     let a = c .before .before .before .before .before .args in
     let edge = c .before .before .before .edge-at .ensures in
     let plain = ap receives (sym (c .enum-told2 .given .1) ∙ ap (λ (e : Edge). e .action) edge) in
-    ap (λ (e : Edge). e .destination) edge ∙ leads-plain (arcAt (a .bytes .now)) (a .message) (c .before .before .if1 .left) plain
+    ap (λ (e : Edge). e .destination) edge ∙ leads-plain (arcAt (a .budgets) (a .bytes .now)) (a .message) (c .before .before .if1 .left) plain
 
 returns-4 : tie.Need-returns-4
 returns-4 c =
@@ -72,8 +72,8 @@ returns-4 c =
     let edge = c .before .before .before .before .before .before .before .edge-at in
     let items = c .before .before .before .items-place in
     let receive = sym (c .before .before .before .before .enum-told3 .given .1) ∙ ap (λ (e : Edge). e .action) (edge .ensures) in
-    found (λ bs. paired (listAt pairAt 2 (getD h 6 0) bs) (a .message) (edge .result .destination)) h (items .result) (itemsPlace h) (items .ensures) (c .paired-location .ensures)
-    ∙ rw (← receive-pairs h receive, edge .ensures) (leads-paired (arcAt h) (a .message) (c .before .before .before .before .before .before .if1 .left) (ap receives receive))
+    found (λ bs. paired (listAt pairAt 2 (getD h 6 0) bs) (a .message) (edge .result .destination)) h (items .result) (itemsPlace (a .budgets) h) (items .ensures .0) (c .paired-location .ensures)
+    ∙ rw (← receive-pairs (a .budgets) h receive, edge .ensures) (leads-paired (arcAt (a .budgets) h) (a .message) (c .before .before .before .before .before .before .if1 .left) (ap receives receive))
 
 pub leads-to-spec : {M : Type 1} → statement M
 leads-to-spec =

@@ -39,8 +39,8 @@ returns c =
     let edge = c .before .before .before .edge-at .ensures in
     let clocks = c .before .age .ensures ∙ ap (λ (e : Edge). aged (e .mask) (a .end - a .at .tick) 0 (a .at .clocks)) edge in
     let values = c .before .before .before .before .before .kept-values .ensures ∙ kept-else (u .result .fits) (u .result .values) (a .at .values) ∙ ap (λ o. orElse o (a .at .values)) (u .ensures) in (
-      leaves-to (arcAt (a .bytes .now)) (messageOf (a .message)) (a .end) (entryOf (a .at)) (c .leads-to .ensures) clocks values,
-      rw clocks (aged-young (arcAt (a .bytes .now) .edge .mask) 0 (a .at .tick) (a .end) (c .before .before .before .before .before .before .before .before .before .pre .1) (c .before .before .before .before .before .before .before .before .before .pre .3)),
+      leaves-to (arcAt (a .budgets) (a .bytes .now)) (messageOf (a .message)) (a .end) (entryOf (a .at)) (c .leads-to .ensures) clocks values,
+      rw clocks (aged-young (arcAt (a .budgets) (a .bytes .now) .edge .mask) 0 (a .at .tick) (a .end) (c .before .before .before .before .before .before .before .before .before .pre .1) (c .before .before .before .before .before .before .before .before .before .pre .3)),
     )
 
 pub leave-spec : {M : Type 1} → statement M

@@ -37,7 +37,7 @@ changed c =
     let a = c .before .before .before .before .before .before .before .before .before .args in
     let k = taken (c .before .before) in
     let t = c .before .before .before .before .before .before .choose .result .choice in
-    c .edge-update .ensures ∙ ap (λ x. updated (x .updates) (a .at .values)) (arc-is (a .table .now) (a .c) (a .start) (known (c .before .before .before .before .before .before .before .before)) (t .place) (t .edge) (k .place) (k .inside))
+    c .edge-update .ensures ∙ ap (λ x. updated (x .updates) (a .at .values)) (arc-is (a .table .now) (a .c) (a .start) (known (c .before .before .before .before .before .before .before .before)) (t .place) (t .edge) (k .place) (k .inside) (a .budgets) (c .before .before .before .before .before .before .before .before .before .pre .5))
 
 returns : tie.Need-returns
 returns c =
@@ -68,7 +68,7 @@ edge-update-requires c κs =
     let a = c .before .before .before .before .before .before .before .before .args in
     let k = taken (c .before) in
     let t = c .before .before .before .before .before .choose .result .choice in
-    arc-asked (a .table .now) (a .c) (a .start) (known (c .before .before .before .before .before .before .before)) (t .place) (t .edge) (k .place) (k .inside)
+    arc-asked (a .table .now) (a .c) (a .start) (known (c .before .before .before .before .before .before .before)) (t .place) (t .edge) (k .place) (k .inside) (a .budgets) (c .before .before .before .before .before .before .before .before .pre .5)
 
 returns-2 : tie.Need-returns-2
 returns-2 c =
@@ -77,8 +77,8 @@ returns-2 c =
     let u = rw (not-true (c .before .before .edge-update .result .fits) (c .if2 .taken)) at (changed (c .before .before)) in
     (open-out (a .c) (componentIn (a .table .now) (a .c)) (entryOf (a .at)) (pickFrom (c .before .before .before .before .before .before .before .before .choose .result .choice)) (k .pick) u, tt)
 
-cast-t16 : tie.Need-cast-t16
-cast-t16 c = omega (arith, taken (c .before .before .before .before .before) .byte)
+cast-t17 : tie.Need-cast-t17
+cast-t17 c = omega (arith, taken (c .before .before .before .before .before) .byte)
 
 returns-3 : tie.Need-returns-3
 returns-3 c =
@@ -99,5 +99,5 @@ open-spec =
     part-edge-update-end
     edge-update-requires
     returns-2
-    cast-t16
+    cast-t17
     returns-3)

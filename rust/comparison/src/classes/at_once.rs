@@ -10,7 +10,7 @@ use crate::trial::Trial;
 use reference::table::*;
 
 /// How many entries are made up for each table.
-const MADE_UP: usize = 6;
+pub(super) const MADE_UP: usize = 6;
 
 /// What the edges of a component refer to.
 #[derive(Clone, Copy)]
@@ -74,6 +74,7 @@ fn edge(random: &mut Random, own: Own, early: usize) -> Edge {
         clock_bounds,
         data_bounds,
         action: Action::Internal(updates),
+        ..Edge::default()
     }
 }
 
@@ -106,20 +107,24 @@ fn update(random: &mut Random, own: Own) -> Update {
     }
 }
 
-/// Such components alone and together, each table asked at the entries of its
-/// schedule, if it has one, and at others.
+/// Such components alone and together.
+pub(super) fn crowd(random: &mut Random) -> Table {
+    let count = random.pick(&[1, 1, 1, 2, 3]);
+    let (version, bands) = bands::drawn(random, 0);
+    Table {
+        version,
+        bands,
+        channels: 0,
+        horizon: random.within(1..=40) as u16,
+        components: (0..count).map(|_| component(random)).collect(),
+    }
+}
+
+/// Such tables, each asked at the entries of its schedule, if it has one, and at
+/// others.
 pub(super) fn crowds(trial: &mut Trial, random: &mut Random, extent: &Extent) -> Outcome {
     for _ in 0..12 * extent.rounds {
-        let count = random.pick(&[1, 1, 1, 2, 3]);
-        let (version, bands) = bands::drawn(random, 0);
-        let table = Table {
-            version,
-            bands,
-            channels: 0,
-            horizon: random.within(1..=40) as u16,
-            components: (0..count).map(|_| component(random)).collect(),
-        };
-        let bytes = write_table(&table);
+        let bytes = write_table(&crowd(random));
         trial.expect_past(&bytes, 6)?;
         trial.choose_made_up(random, &bytes, MADE_UP)?;
     }

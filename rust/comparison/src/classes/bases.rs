@@ -32,9 +32,25 @@ pub(super) fn worked_example_on_bands() -> Base {
     Base::new(table)
 }
 
-/// The worked example, also with bands, and some generated tables of up to about 1,000 bytes.
+/// The worked example in version 3, each budget as long as the window of its edge.
+pub(super) fn worked_example_with_budgets() -> Base {
+    let mut table = worked_example().table;
+    (table.version, table.bands) = (3, vec![2]);
+    let edges = table.components.iter_mut().flat_map(|own| &mut own.edges);
+    for (edge, budget) in edges.zip([2, 2, 4, 1, 1]) {
+        edge.budget = budget;
+    }
+    Base::new(table)
+}
+
+/// The worked example, also with bands and with budgets, and some generated tables of
+/// up to about 1,000 bytes.
 pub(super) fn a_few(random: &mut Random) -> Vec<Base> {
-    let mut bases = vec![worked_example(), worked_example_on_bands()];
+    let mut bases = vec![
+        worked_example(),
+        worked_example_on_bands(),
+        worked_example_with_budgets(),
+    ];
     bases.push(Base::new(table(random, &Shape::small())));
     bases.push(Base::new(of_length(random, 300, Values::Any)));
     bases.push(Base::new(of_length(random, 600, Values::Ends)));

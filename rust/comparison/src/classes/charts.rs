@@ -78,8 +78,8 @@ fn alone(random: &mut Random, horizon: u16) -> Component {
             destination: 0,
             mask: 1,
             clock_bounds: [clock_bound].into_iter().collect(),
-            data_bounds: List::new(),
             action,
+            ..Edge::default()
         }],
     }
 }

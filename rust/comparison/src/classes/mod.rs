@@ -3,6 +3,7 @@
 mod apart;
 mod at_once;
 mod bases;
+mod budgets;
 mod charts;
 mod close;
 mod cuts;
@@ -71,7 +72,7 @@ const fn class(name: &'static str, run: fn(&mut Trial, &mut Random, &Extent) -> 
 }
 
 /// All classes, in the order in which they are tried.
-pub const CLASSES: [Class; 81] = [
+pub const CLASSES: [Class; 88] = [
     class("vectors", stored::vectors),
     class("corpus", stored::corpus),
     class("random bytes", random_bytes::anything),
@@ -165,4 +166,11 @@ pub const CLASSES: [Class; 81] = [
     class("paths of planned tables", paths::planned),
     class("paths of internal loops", paths::workers),
     class("paths of windows close together", paths::close),
+    class("budgets in time", budgets::in_time),
+    class("budgets too long for a location", budgets::too_long),
+    class("budgets next to the windows", budgets::next_to_windows),
+    class("budgets at and past the greatest", budgets::greatest),
+    class("budgets cut", budgets::cut),
+    class("budgets of many edges", budgets::crowds),
+    class("budgets: runs", budgets::runs),
 ];

@@ -6,10 +6,14 @@ use crate::difference::Outcome;
 use crate::random::Random;
 use crate::trial::Trial;
 
-/// Each byte of the worked example, and of the one with bands, takes all 255
-/// other values.
+/// Each byte of the worked example, and of those with bands and with budgets, takes
+/// all 255 other values.
 pub(super) fn worked_example(trial: &mut Trial, _: &mut Random, extent: &Extent) -> Outcome {
-    for base in [bases::worked_example(), bases::worked_example_on_bands()] {
+    for base in [
+        bases::worked_example(),
+        bases::worked_example_on_bands(),
+        bases::worked_example_with_budgets(),
+    ] {
         for at in (0..base.bytes.len()).step_by(extent.step) {
             change(trial, &base, at, |_| (0..=u8::MAX).collect())?;
         }

@@ -97,7 +97,7 @@ fn component_head(random: &mut Random) -> Vec<u8> {
 }
 
 /// These bytes behind a header in range, mostly one of a single component;
-/// in version 2 mostly with bands in range.
+/// from version 2 on mostly with bands in range.
 fn with_header(random: &mut Random, rest: &[u8]) -> Vec<u8> {
     let most = random.pick(&[1, 1, MAX_COMPONENTS]);
     let components = random.within(1..=most) as u8;

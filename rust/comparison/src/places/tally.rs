@@ -16,7 +16,7 @@ const ABOVE: Sides = [false, true, true];
 const BOTH: Sides = [true; 3];
 
 /// All numbers at which checks 4 to 6 may stop.
-const NUMBERS: [(Number, Sides); 36] = [
+const NUMBERS: [(Number, Sides); 38] = [
     ([4, 1, 0, 0], BELOW),
     ([4, 2, 0, 0], BELOW),
     ([4, 3, 0, 0], BELOW),
@@ -53,6 +53,8 @@ const NUMBERS: [(Number, Sides); 36] = [
     ([5, 9, 0, 1], ABOVE),
     ([5, 9, 1, 1], ABOVE),
     ([6, 9, 0, 1], [true, true, false]),
+    ([4, 12, 0, 0], BELOW),
+    ([5, 12, 0, 2], ABOVE),
 ];
 
 /// The ways in which an opening is refused.
@@ -78,6 +80,8 @@ pub struct Places {
     pub places: [[u64; 3]; NUMBERS.len()],
     /// In tables of version 2.
     pub on_bands: u64,
+    /// In tables of version 3.
+    pub with_budgets: u64,
     /// By the way, in the order of the list above.
     pub openings: [u64; OPENINGS.len()],
     /// Tables that were asked for a place or an opening and have none.
@@ -89,6 +93,7 @@ impl Default for Places {
         Places {
             places: [[0; 3]; NUMBERS.len()],
             on_bands: 0,
+            with_budgets: 0,
             openings: [0; OPENINGS.len()],
             none: 0,
         }
@@ -118,6 +123,7 @@ impl Places {
         if let Some(at) = known {
             self.places[at][side] += 1;
             self.on_bands += u64::from(version == 2);
+            self.with_budgets += u64::from(version == 3);
         }
         known.is_some()
     }
@@ -151,6 +157,7 @@ impl Places {
             *all += own;
         }
         self.on_bands += other.on_bands;
+        self.with_budgets += other.with_budgets;
         self.none += other.none;
     }
 
@@ -173,6 +180,7 @@ impl Places {
         let openings = openings.map(|(count, way)| (count, format!("openings refused with {way}")));
         let others = [
             (self.on_bands, "places in tables of version 2"),
+            (self.with_budgets, "places in tables of version 3"),
             (self.none, "tables with no place and no refused opening"),
         ];
         let others = others.map(|(count, what)| (count, what.to_string()));
@@ -239,11 +247,14 @@ mod tests {
         let pair = |index| [6, 1, 9, 0, index, 75, 0, 1, 0, 0, 1, 0];
         assert!(places.count_place(&pair(1), 2) && places.count_place(&pair(7), 2));
         assert_eq!((places.places[35], places.on_bands), ([1, 1, 0], 2));
+        let budget = [5, 0, 12, 0, 255, 24, 0, 2, 60_001, 0, 60_001, 0];
+        assert!(places.count_place(&budget, 3));
+        assert_eq!((places.places[37], places.with_budgets), ([0, 1, 0], 1));
         let no_such_offset = [5, 0, 2, 255, 255, 7, 7, 1, 0, 1, 17, 0];
         assert!(!places.count_place(&no_such_offset, 1));
         let no_such_side = [4, 0, 8, 0, 0, 32, 0, 0, 1, 1, 8193, 0];
         assert!(!places.count_place(&no_such_side, 1));
-        assert_eq!(places.all(), 6);
+        assert_eq!(places.all(), 7);
     }
 
     #[test]

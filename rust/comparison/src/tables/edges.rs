@@ -135,6 +135,7 @@ pub(super) fn edge(random: &mut Random, own: &Own, form: Form) -> Edge {
             .map(|_| data_bound(random, own))
             .collect(),
         action: action(random, own, form),
+        ..Edge::default()
     }
 }
 

@@ -6,6 +6,7 @@
 
 pub mod apart;
 pub mod bands;
+pub mod budgets;
 pub mod chains;
 mod edges;
 mod exact;

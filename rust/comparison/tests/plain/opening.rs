@@ -80,9 +80,11 @@ fn taken(table: &Table, entered: Entered, fault: Fault) -> Option<(usize, [u32; 
             continue;
         }
         let window = window(&own.locations[usize::from(location)], edge, clocks, fault);
-        let long_enough = |[ready, end]: &[u32; 2]| {
-            ready < end || fault == Fault::WindowOfOneTick && ready == end
+        let budget = match fault {
+            Fault::BudgetOfFirstEdge => own.edges[0].budget,
+            _ => edge.budget,
         };
+        let long_enough = |window: &[u32; 2]| has_time(window, budget.into(), fault);
         if let Some(window) = window.filter(long_enough) {
             let better = best.is_none_or(|(_, kept)| match fault {
                 Fault::TieToHighestEdge => window[0] <= kept[0],
@@ -94,7 +96,26 @@ fn taken(table: &Table, entered: Entered, fault: Fault) -> Option<(usize, [u32; 
             }
         }
     }
-    best
+    match fault {
+        Fault::BudgetOfTakenAlone => {
+            best.filter(|(number, [ready, end])| end - ready >= own.edges[*number].budget.into())
+        }
+        _ => best,
+    }
+}
+
+/// Whether a window has a tick's length and that of a budget.
+fn has_time(&[ready, end]: &[u32; 2], budget: u32, fault: Fault) -> bool {
+    let length = end - ready;
+    let one_tick = fault == Fault::WindowOfOneTick;
+    let enough = match fault {
+        Fault::BudgetsIgnored | Fault::BudgetOfTakenAlone => true,
+        Fault::BudgetOneTickMore => length > budget || budget == 0,
+        Fault::BudgetOneTickLess => length + 1 >= budget,
+        Fault::BudgetFromEntry => end >= budget,
+        _ => length >= budget,
+    };
+    (length > 0 || one_tick) && enough
 }
 
 /// The first and the last tick at which everything holds, counted from the

@@ -18,6 +18,10 @@ pub enum Fault {
     LowForgotten,
     HighForgotten,
     DataForgotten,
+    BudgetForgotten,
+    BudgetOneTickMore,
+    BudgetOneTickLess,
+    BudgetFromEntry,
     FailureForgotten,
     KeptNeverForgotten,
     // From one passage to the next.

@@ -32,6 +32,17 @@ fn two(bytes: &[u8]) -> usize {
     usize::from(bytes[0]) << 8 | usize::from(bytes[1])
 }
 
+/// Whether a trial's window is shorter than a budget.
+fn is_short([ready, end]: [i64; 2], budget: i64, fault: Fault) -> bool {
+    match fault {
+        Fault::BudgetForgotten => false,
+        Fault::BudgetOneTickMore => budget > 0 && end <= ready + budget,
+        Fault::BudgetOneTickLess => end < ready + budget - 1,
+        Fault::BudgetFromEntry => end < budget,
+        _ => end < ready + budget,
+    }
+}
+
 impl Node {
     pub fn new(part: &[u8], clocks: u8, fault: Fault) -> Node {
         let locations = usize::from(part[2]);
@@ -187,6 +198,7 @@ impl Node {
             0x0e if is(Fault::FailureForgotten) => *failed = self.variables[a] > signed,
             0x0e if !is(Fault::DataForgotten) => *failed |= self.variables[a] > signed,
             0x0f => self.keep(k as u8),
+            0x12 => *failed |= is_short([*ready, *end], k, self.fault),
             _ => {}
         }
     }

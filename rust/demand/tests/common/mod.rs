@@ -77,7 +77,13 @@ pub struct Stored {
 
 /// The runs of all vectors whose nodes wake together.
 pub fn stored() -> Vec<Stored> {
-    read_stored(&["named.tsv", "random.tsv", "bands.tsv", "hearings.tsv"])
+    read_stored(&[
+        "named.tsv",
+        "random.tsv",
+        "bands.tsv",
+        "hearings.tsv",
+        "budgets.tsv",
+    ])
 }
 
 /// The runs of the vectors whose nodes wake apart.

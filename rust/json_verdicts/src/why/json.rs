@@ -1,5 +1,6 @@
 //! The reasons of edges as a JSON object on a line of its own.
 
+use super::told::Window;
 use super::Question;
 use crate::json::{object, or_null, string};
 use timed_network::{passages, Reason, Reasons, Refused};
@@ -16,22 +17,17 @@ fn name(reason: Reason) -> &'static str {
     }
 }
 
-/// The object of an answer: the passage, and each edge from its location. `ready` has
+/// The object of an answer: the passage, and each edge from its location. `windows` has
 /// the ticks that are told of them.
-pub fn told(
-    question: &Question,
-    input: &Input,
-    reasons: &Reasons,
-    ready: &[Option<u32>],
-) -> Vec<u8> {
+pub fn told(question: &Question, input: &Input, reasons: &Reasons, windows: &[Window]) -> Vec<u8> {
     let rows = passages(input.table()).unwrap_or_default();
     let row = rows.get(reasons.passage as usize).copied();
     let [_, _, _, entry, first, end, _] = row.unwrap_or_default();
-    let edge = |((number, reason), ready): (&(u8, Reason), &Option<u32>)| {
+    let edge = |((number, reason), window): (&(u8, Reason), &Window)| {
         let (ready, end) = match reason {
             Reason::Taken => (Some(first), Some(end)),
             Reason::HigherNumber => (Some(first), None),
-            _ => (*ready, None),
+            _ => (window.ready, window.end),
         };
         let mut fields = vec![
             ("edge", number.to_string()),
@@ -45,7 +41,7 @@ pub fn told(
         }
         object(&fields)
     };
-    let edges: Vec<String> = reasons.edges.iter().zip(ready).map(edge).collect();
+    let edges: Vec<String> = reasons.edges.iter().zip(windows).map(edge).collect();
     line(&[
         ("component", question.component.to_string()),
         ("tick", question.tick.to_string()),

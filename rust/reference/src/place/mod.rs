@@ -41,13 +41,15 @@ pub enum Part {
     ComponentEnd = 10,
     /// The end of the table.
     TableEnd = 11,
+    /// An edge's budget.
+    Budget = 12,
 }
 
 impl Part {
     /// How many bytes it has.
     fn size(self) -> usize {
         match self {
-            Part::Length | Part::Pair => 2,
+            Part::Length | Part::Pair | Part::Budget => 2,
             Part::Head | Part::Edge => 7,
             Part::Location => 3,
             Part::ClockBound | Part::DataBound => 5,
@@ -116,6 +118,7 @@ pub fn refusal_place(table: &[u8]) -> Option<Place> {
     };
     let mut walk = Walk {
         table,
+        budgets: Table::has_budgets(version),
         component: 0,
         edge: None,
         at: 7 + bands,
@@ -133,6 +136,8 @@ type Located = (Part, Option<u8>, usize);
 /// A walk along the bytes of a table.
 struct Walk<'a> {
     table: &'a [u8],
+    /// Whether each edge has a budget.
+    budgets: bool,
     /// The component that is read.
     component: u8,
     /// The edge that is read, if one is.
@@ -189,9 +194,13 @@ impl<'a> Walk<'a> {
         }
     }
 
-    /// An edge's 7 bytes, then its clock bounds, its data bounds, its items.
+    /// An edge's 7 bytes, its budget where it has one, then its clock bounds, its data
+    /// bounds, its items.
     fn edge(&mut self, counts: &Counts) -> Walked<()> {
         let edge = self.part(Part::Edge, None, |edge| numbers::edge(counts, edge))?;
+        if self.budgets {
+            self.part(Part::Budget, None, |_| [numbers::budget()])?;
+        }
         for index in 0..edge[4] {
             self.part(Part::ClockBound, Some(index), |_| {
                 numbers::clock_bound(counts)

@@ -111,6 +111,11 @@ pub(super) fn edge(counts: &Counts, edge: &[u8]) -> [Number; 7] {
     ]
 }
 
+/// "a 2-byte budget (0 to 60,000)" (document 02, wish 8).
+pub(super) fn budget() -> Number {
+    Number::ticks(0)
+}
+
 /// "Clock bound, 5 bytes: clock, low (0 to 60,000), high (0 to 60,000, or 65,535
 /// for none)."
 pub(super) fn clock_bound(counts: &Counts) -> [Number; 3] {

@@ -58,11 +58,13 @@ pub enum Op {
     Take = 0x10,
     /// 11: go to the present location's block.
     Choose = 0x11,
+    /// 12: the window must have k ticks.
+    Budget = 0x12,
 }
 
 impl Op {
     /// All ops, each at the place of its byte.
-    const ALL: [Op; 18] = [
+    const ALL: [Op; 19] = [
         Op::Sleep,
         Op::Set,
         Op::Add,
@@ -81,6 +83,7 @@ impl Op {
         Op::Keep,
         Op::Take,
         Op::Choose,
+        Op::Budget,
     ];
 
     /// The op of a byte, if there is one.
@@ -153,6 +156,7 @@ impl fmt::Display for Statement {
             Op::Keep => write!(out, "keep e{k}"),
             Op::Take => write!(out, "take"),
             Op::Choose => write!(out, "choose"),
+            Op::Budget => write!(out, "budget {k}"),
         }
     }
 }

@@ -12,7 +12,8 @@ pub fn program(table: &Table) -> Vec<u8> {
 
 /// The program length of a table.
 pub fn program_length(table: &Table) -> usize {
-    let parts = table.components.iter().map(part_length);
+    let parts = table.components.iter();
+    let parts = parts.map(|component| part_length(component, table.version));
     HEADER + parts.sum::<usize>()
 }
 
@@ -28,7 +29,7 @@ pub fn write_program(table: &Table, bytes: &mut [u8]) {
     out.byte(table.components.len() as u8);
     out.two(table.horizon);
     for component in &table.components {
-        write_part(component, &mut out);
+        write_part(component, table.version, &mut out);
     }
     debug_assert_eq!(out.at, length);
 }
@@ -37,26 +38,26 @@ pub fn write_program(table: &Table, bytes: &mut [u8]) {
 /// edges; initial location; a zero byte; a 2-byte start, counted in
 /// statements, for each location's block, then each edge's block; then those
 /// blocks in that order."
-fn write_part(component: &Component, out: &mut Out) {
-    out.two(part_length(component) as u16);
+fn write_part(component: &Component, version: u8, out: &mut Out) {
+    out.two(part_length(component, version) as u16);
     out.byte(component.locations.len() as u8);
     out.byte(component.edges.len() as u8);
     out.byte(component.initial);
     out.byte(0);
-    write_starts(component, out);
+    write_starts(component, version, out);
     for number in 0..component.locations.len() {
-        write_location_block(component, number, out);
+        write_location_block(component, version, number, out);
     }
     for edge in &component.edges {
         write_edge_block(component, edge, out);
     }
 }
 
-fn write_starts(component: &Component, out: &mut Out) {
+fn write_starts(component: &Component, version: u8, out: &mut Out) {
     let mut start = 0;
     for number in 0..component.locations.len() {
         out.two(start as u16);
-        start += location_block_length(component, number);
+        start += location_block_length(component, version, number);
     }
     for edge in &component.edges {
         out.two(start as u16);
@@ -72,8 +73,9 @@ fn edges_from(component: &Component, location: usize) -> impl Iterator<Item = (u
 
 /// "Location block: per edge from it, 0A trial; 0C high for the invariant;
 /// per clock bound 0B low, and 0C high unless 65,535; per data bound 0D, 0E
-/// (low, high); 0F keep, k = edge. Last 10 take."
-fn write_location_block(component: &Component, number: usize, out: &mut Out) {
+/// (low, high); 0F keep, k = edge. Last 10 take." Document 02, wish 8: "A new
+/// statement 12, k = budget, stands before keep in version 3 programs only".
+fn write_location_block(component: &Component, version: u8, number: usize, out: &mut Out) {
     let Location { clock, bound } = component.locations[number];
     for (number, edge) in edges_from(component, number) {
         out.plain(Op::Trial);
@@ -87,6 +89,9 @@ fn write_location_block(component: &Component, number: usize, out: &mut Out) {
         for bound in edge.data_bounds.iter() {
             out.statement(Op::DataLow, bound.variable, bound.low as u16);
             out.statement(Op::DataHigh, bound.variable, bound.high as u16);
+        }
+        if Table::has_budgets(version) {
+            out.statement(Op::Budget, 0, edge.budget);
         }
         out.statement(Op::Keep, 0, number as u16);
     }
@@ -132,29 +137,29 @@ fn write_work(action: &Action, out: &mut Out) {
 }
 
 /// The bytes of a component's part.
-fn part_length(component: &Component) -> usize {
+fn part_length(component: &Component, version: u8) -> usize {
     let locations = component.locations.len();
     let starts = 2 * (locations + component.edges.len());
     // Each edge is tried in the block of its source and in no other.
-    let trials = component.edges.iter().map(trial_length).sum::<usize>();
-    let edges = component
-        .edges
-        .iter()
-        .map(|e| edge_block_length(component, e));
+    let edges = component.edges.iter();
+    let trials = edges.clone().map(|edge| trial_length(edge, version));
+    let trials = trials.sum::<usize>();
+    let edges = edges.map(|edge| edge_block_length(component, edge));
     PART_HEAD + starts + STATEMENT * (locations + trials + edges.sum::<usize>())
 }
 
 /// The statements of a location's block.
-fn location_block_length(component: &Component, number: usize) -> usize {
-    let trials = edges_from(component, number).map(|(_, edge)| trial_length(edge));
+fn location_block_length(component: &Component, version: u8, number: usize) -> usize {
+    let trials = edges_from(component, number).map(|(_, edge)| trial_length(edge, version));
     trials.sum::<usize>() + 1
 }
 
 /// The statements that try one edge.
-fn trial_length(edge: &Edge) -> usize {
+fn trial_length(edge: &Edge, version: u8) -> usize {
     let clock = |bound: &ClockBound| 1 + usize::from(bound.high.is_some());
     let clocks = edge.clock_bounds.iter().map(clock).sum::<usize>();
-    3 + clocks + 2 * edge.data_bounds.len()
+    let budget = usize::from(Table::has_budgets(version));
+    3 + clocks + 2 * edge.data_bounds.len() + budget
 }
 
 /// The statements of an edge's block.

@@ -230,6 +230,8 @@ impl<'a> Node<'a> {
             Op::High => trial.end = trial.end.min(reach),
             Op::DataLow => trial.failed |= value < number,
             Op::DataHigh => trial.failed |= value > number,
+            // Document 02, wish 8: "fails the trial of a shorter window".
+            Op::Budget => trial.failed |= trial.end - trial.ready < i64::from(k),
             Op::Keep => self.keep(k as u8),
             _ => {}
         }

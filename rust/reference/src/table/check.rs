@@ -1,6 +1,6 @@
 //! The reader that builds nothing: checks 1 to 6 and where the parts stand.
 
-use super::parts::{header, Head, Kind, Part, Reader};
+use super::parts::{header, Head, Header, Kind, Part, Reader};
 use super::*;
 
 /// What [`check_only`] answers: the header's numbers, and where each
@@ -48,7 +48,7 @@ pub fn check_only(bytes: &[u8]) -> Result<Directory, Refusal> {
     };
     for number in 0..header.components {
         let start = bytes.len() - reader.left();
-        let entry = check_component(&mut reader, header.channels, start);
+        let entry = check_component(&mut reader, &header, start);
         directory.entries[number as usize] = entry.map_err(|fault| fault.of(number))?;
     }
     let last = header.components - 1;
@@ -56,9 +56,9 @@ pub fn check_only(bytes: &[u8]) -> Result<Directory, Refusal> {
     Ok(directory)
 }
 
-fn check_component(table: &mut Reader, channels: u8, start: usize) -> Part<Entry> {
+fn check_component(table: &mut Reader, header: &Header, start: usize) -> Part<Entry> {
     let mut own = table.component()?;
-    let head = own.head(channels)?;
+    let head = own.head(header)?;
     for _ in 0..head.locations {
         own.location(&head)?;
     }
@@ -81,6 +81,7 @@ fn check_component(table: &mut Reader, channels: u8, start: usize) -> Part<Entry
 #[inline]
 fn check_edge(own: &mut Reader, head: &Head) -> Part<()> {
     let edge = own.edge(head)?;
+    own.budget(head)?;
     for _ in 0..edge.clock_bounds {
         own.clock_bound(head)?;
     }

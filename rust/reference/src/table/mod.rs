@@ -21,8 +21,9 @@ pub const LENGTHS: std::ops::RangeInclusive<usize> = 7..=8192;
 pub const MAX_COMPONENTS: usize = 8;
 /// "channels 0 to 16".
 pub const MAX_CHANNELS: u8 = 16;
-/// Document 02, wish 2: "check 1 takes both versions", 1 and 2.
-pub const VERSIONS: std::ops::RangeInclusive<u8> = 1..=2;
+/// Document 02, wish 2: "check 1 takes both versions", 1 and 2; wish 8: "Check 1
+/// takes version 3 too".
+pub const VERSIONS: std::ops::RangeInclusive<u8> = 1..=3;
 /// Document 02, wish 2: "its band, 0 to 3".
 pub const MAX_BAND: u8 = 3;
 /// "locations 1 to 16".
@@ -33,7 +34,8 @@ pub const MAX_CLOCKS: usize = 4;
 pub const MAX_VARIABLES: usize = 4;
 /// "edges 1 to 32".
 pub const MAX_EDGES: u8 = 32;
-/// The greatest bound and the greatest horizon: "0 to 60,000", "1 to 60,000".
+/// The greatest bound, the greatest horizon and the greatest budget: "0 to 60,000",
+/// "1 to 60,000".
 pub const MAX_TICKS: u16 = 60_000;
 /// The stored form of no high bound: "65,535 for none".
 pub const NO_HIGH: u16 = 65_535;
@@ -67,7 +69,7 @@ impl Refusal {
 /// version 2 has, after the header, one byte per channel with its band".
 #[derive(Clone, Debug, PartialEq, Eq)]
 pub struct Table {
-    /// "version 1", or 2.
+    /// "version 1", or 2 or 3.
     pub version: u8,
     /// The band of each channel; none stand in a table of version 1.
     pub bands: Vec<u8>,
@@ -84,6 +86,12 @@ impl Table {
     /// later version has them too.
     pub fn has_bands(version: u8) -> bool {
         version >= 2
+    }
+
+    /// Whether a budget stands behind each edge's 7 bytes: "Table version 3 is
+    /// version 2 with a 2-byte budget" (document 02, wish 8).
+    pub fn has_budgets(version: u8) -> bool {
+        version >= 3
     }
 
     /// The band of a channel: "Version 1 tables have all channels on band 0".
@@ -127,6 +135,9 @@ pub struct Edge {
     pub destination: u8,
     /// "reset mask (bit i for clock i)".
     pub mask: u8,
+    /// Document 02, wish 8: "a 2-byte budget (0 to 60,000)", 0 in versions that have
+    /// none.
+    pub budget: u16,
     /// "clock bounds (0 to 4)".
     pub clock_bounds: List<ClockBound, 4>,
     /// "data bounds (0 to 4; 0 for receive)".

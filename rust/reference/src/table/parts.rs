@@ -1,7 +1,8 @@
 //! The parts of a table, each tried for its fit and then for its numbers.
 //!
 //! "each part (component, its first 7 bytes, location, edge's 7 bytes, bound,
-//! item) must fit before its contents are tried, for 5, then 6".
+//! item) must fit before its contents are tried, for 5, then 6". A budget is "a part
+//! of its own, after each edge's 7 bytes" (document 02, wish 8).
 
 use super::*;
 
@@ -46,6 +47,8 @@ pub(super) struct Head {
     pub(super) variables: u8,
     pub(super) edges: u8,
     pub(super) channels: u8,
+    /// Whether the table's version has budgets.
+    pub(super) budgets: bool,
 }
 
 /// The kind of an edge with its count of items.
@@ -149,7 +152,7 @@ impl<'a> Reader<'a> {
     /// "its length, these two bytes included (2 bytes); locations 1 to 16;
     /// initial location; clocks 1 to 4; variables 0 to 4; edges 1 to 32".
     #[inline]
-    pub(super) fn head(&mut self, channels: u8) -> Part<Head> {
+    pub(super) fn head(&mut self, header: &Header) -> Part<Head> {
         let &[_, _, locations, initial, clocks, variables, edges] = self.take()?;
         let in_range = (1..=MAX_LOCATIONS).contains(&locations)
             && initial < locations
@@ -163,7 +166,8 @@ impl<'a> Reader<'a> {
             clocks,
             variables,
             edges,
-            channels,
+            channels: header.channels,
+            budgets: Table::has_budgets(header.version),
         })
     }
 
@@ -202,6 +206,20 @@ impl<'a> Reader<'a> {
             clock_bounds,
             data_bounds,
         })
+    }
+
+    /// "a 2-byte budget (0 to 60,000), a part of its own, after each edge's 7
+    /// bytes"; nothing stands there, and it is 0, in a version without budgets. "a
+    /// budget above 60,000 is a 5".
+    #[inline]
+    pub(super) fn budget(&mut self, head: &Head) -> Part<u16> {
+        if !head.budgets {
+            return Ok(0);
+        }
+        let &[high, low] = self.take()?;
+        let budget = two(high, low);
+        demand(budget <= MAX_TICKS, Fault::RANGE)?;
+        Ok(budget)
     }
 
     /// "Clock bound, 5 bytes: clock, low (0 to 60,000), high (0 to 60,000, or

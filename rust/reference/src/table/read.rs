@@ -1,6 +1,6 @@
 //! The reader that builds the table.
 
-use super::parts::{header, Head, Kind, Part, Reader};
+use super::parts::{header, Head, Header, Kind, Part, Reader};
 use super::*;
 
 /// Reads a table with checks 1 to 6: "reading front to back, the first fault
@@ -9,7 +9,7 @@ pub fn read_table(bytes: &[u8]) -> Result<Table, Refusal> {
     let (header, mut reader) = header(bytes)?;
     let mut components = Vec::with_capacity(header.components.into());
     for number in 0..header.components {
-        let component = read_component(&mut reader, header.channels);
+        let component = read_component(&mut reader, &header);
         components.push(component.map_err(|fault| fault.of(number))?);
     }
     let last = header.components - 1;
@@ -23,9 +23,9 @@ pub fn read_table(bytes: &[u8]) -> Result<Table, Refusal> {
     })
 }
 
-fn read_component(table: &mut Reader, channels: u8) -> Part<Component> {
+fn read_component(table: &mut Reader, header: &Header) -> Part<Component> {
     let mut own = table.component()?;
-    let head = own.head(channels)?;
+    let head = own.head(header)?;
     let mut locations = Vec::with_capacity(head.locations.into());
     for _ in 0..head.locations {
         locations.push(own.location(&head)?);
@@ -51,6 +51,7 @@ fn read_edge(own: &mut Reader, head: &Head, edge: &mut Edge) -> Part<()> {
     edge.source = first.source;
     edge.destination = first.destination;
     edge.mask = first.mask;
+    edge.budget = own.budget(head)?;
     let clock_bounds = &mut edge.clock_bounds;
     clock_bounds.fill(first.clock_bounds, || own.clock_bound(head))?;
     let data_bounds = &mut edge.data_bounds;

@@ -5,7 +5,8 @@ use super::*;
 /// The bytes of a table, its lengths and counts put in. Nothing is tried: a
 /// table out of range gives bytes that the reader refuses. Lengths and counts
 /// that their fields cannot hold lose their upper bits. The bands are written
-/// as they are, fewer or more than there are channels, if the version has any.
+/// as they are, fewer or more than there are channels, if the version has any, and so
+/// are the budgets.
 pub fn write_table(table: &Table) -> Vec<u8> {
     let mut bytes = vec![
         table.version,
@@ -20,13 +21,13 @@ pub fn write_table(table: &Table) -> Vec<u8> {
         bytes.extend(&table.bands);
     }
     for component in &table.components {
-        write_component(component, &mut bytes);
+        write_component(component, table.version, &mut bytes);
     }
     set_length(&mut bytes, 1, 0);
     bytes
 }
 
-fn write_component(component: &Component, out: &mut Vec<u8>) {
+fn write_component(component: &Component, version: u8, out: &mut Vec<u8>) {
     let start = out.len();
     out.extend([
         0,
@@ -42,12 +43,12 @@ fn write_component(component: &Component, out: &mut Vec<u8>) {
         out.extend(location.bound.to_be_bytes());
     }
     for edge in &component.edges {
-        write_edge(edge, out);
+        write_edge(edge, version, out);
     }
     set_length(out, start, start);
 }
 
-fn write_edge(edge: &Edge, out: &mut Vec<u8>) {
+fn write_edge(edge: &Edge, version: u8, out: &mut Vec<u8>) {
     let (kind, items) = match &edge.action {
         Action::Internal(updates) => (0, updates.len()),
         Action::Send(_) => (1, 1),
@@ -62,6 +63,9 @@ fn write_edge(edge: &Edge, out: &mut Vec<u8>) {
         edge.data_bounds.len() as u8,
         items as u8,
     ]);
+    if Table::has_budgets(version) {
+        out.extend(edge.budget.to_be_bytes());
+    }
     for bound in edge.clock_bounds.iter() {
         out.push(bound.clock);
         out.extend(bound.low.to_be_bytes());

@@ -10,6 +10,18 @@ pub const PROBE_AND_HUB: &str = "010067020100140026020001000200000500000a\
      01000100010001000003ffff0000010001010000000008ffff003a030001010300000600000a00000a\
      02000200010001000002ffff000100010001010001000009ffff0001000100020001010000000009ffff";
 
+/// The same in version 3, all on band 0, with these budgets of the probe's two edges
+/// and the hub's three.
+pub fn budgeted(budgets: [u16; 5]) -> Table {
+    let mut table = probe_and_hub_table();
+    (table.version, table.bands) = (3, vec![0]);
+    let edges = table.components.iter_mut().flat_map(|c| &mut c.edges);
+    edges
+        .zip(budgets)
+        .for_each(|(edge, budget)| edge.budget = budget);
+    table
+}
+
 pub fn probe_and_hub() -> Vec<u8> {
     unhex(PROBE_AND_HUB)
 }
@@ -64,8 +76,8 @@ pub fn edge(source: u8, destination: u8, mask: u8, low: u16, action: Action) -> 
         destination,
         mask,
         clock_bounds: [clock_bound(low, None)].into_iter().collect(),
-        data_bounds: List::new(),
         action,
+        ..Edge::default()
     }
 }
 
@@ -134,6 +146,7 @@ pub fn vectors() -> Vec<Vector> {
         "hearings.tsv",
         "plan.tsv",
         "edge_choice.tsv",
+        "budgets.tsv",
     ])
 }
 

@@ -53,6 +53,7 @@ fn edge_line(edge: &mut EdgeSource, line: &Line) -> Result<(), SourceError> {
         ["reset", clocks @ ..] if !clocks.is_empty() => add_resets(edge, line, clocks),
         _ => {
             let part = edge_part(line)?;
+            check_once(edge, &part, line)?;
             check_kind(edge.kind, &part, line)?;
             check_order(&edge.parts, &part, line)?;
             edge.parts.push(line.said(part));
@@ -63,6 +64,7 @@ fn edge_line(edge: &mut EdgeSource, line: &Line) -> Result<(), SourceError> {
 
 fn edge_part(line: &Line) -> Result<EdgePart, SourceError> {
     match line.words.as_slice() {
+        ["budget", number] => Ok(EdgePart::Budget(line.number(number)?)),
         ["when", clock, "from", low] => clock_guard(line, clock, low, None),
         ["when", clock, "from", low, "to", high] => clock_guard(line, clock, low, Some(high)),
         ["data", variable, "from", low, "to", high] => Ok(EdgePart::DataGuard {
@@ -117,6 +119,14 @@ fn add_resets(edge: &mut EdgeSource, line: &Line, clocks: &[&str]) -> Result<(),
     Ok(())
 }
 
+/// An edge has one budget.
+fn check_once(edge: &EdgeSource, part: &EdgePart, line: &Line) -> Result<(), SourceError> {
+    if matches!(part, EdgePart::Budget(_)) && edge.has_budget() {
+        return Err(line.error("the budget is stated a second time"));
+    }
+    Ok(())
+}
+
 /// Updates belong to internal edges, pairs to receive edges.
 fn check_kind(kind: EdgeKind, part: &EdgePart, line: &Line) -> Result<(), SourceError> {
     match (part, kind) {
@@ -130,11 +140,13 @@ fn check_kind(kind: EdgeKind, part: &EdgePart, line: &Line) -> Result<(), Source
     }
 }
 
-/// Clock bounds come before data bounds, and both before items.
+/// The budget comes before clock bounds, these before data bounds, and all before items.
 fn check_order(before: &[Said<EdgePart>], part: &EdgePart, line: &Line) -> Result<(), SourceError> {
     let stage = stage_of(part);
     if stage > 0 && before.iter().any(|earlier| stage_of(&earlier.what) > stage) {
-        return Err(line.error("out of order: first 'when', then 'data', then the items"));
+        return Err(
+            line.error("out of order: first 'budget', then 'when', then 'data', then the items")
+        );
     }
     Ok(())
 }
@@ -143,19 +155,20 @@ fn check_order(before: &[Said<EdgePart>], part: &EdgePart, line: &Line) -> Resul
 fn stage_of(part: &EdgePart) -> u8 {
     match part {
         EdgePart::Bytes(_) => 0,
-        EdgePart::ClockGuard { .. } => 1,
-        EdgePart::DataGuard { .. } => 2,
-        EdgePart::Update { .. } | EdgePart::SendChannel(_) | EdgePart::ReceivePair { .. } => 3,
+        EdgePart::Budget(_) => 1,
+        EdgePart::ClockGuard { .. } => 2,
+        EdgePart::DataGuard { .. } => 3,
+        EdgePart::Update { .. } | EdgePart::SendChannel(_) | EdgePart::ReceivePair { .. } => 4,
     }
 }
 
-/// The channel of a send stands directly after its last bound.
+/// The channel of a send stands directly after its last bound, or else its budget.
 fn insert_channel(edge: &mut EdgeSource, channel: Said<u8>) {
-    let is_guard = |part: &Said<EdgePart>| matches!(stage_of(&part.what), 1 | 2);
+    let is_before = |part: &Said<EdgePart>| matches!(stage_of(&part.what), 1..=3);
     let place = edge
         .parts
         .iter()
-        .rposition(is_guard)
+        .rposition(is_before)
         .map_or(0, |last| last + 1);
     let item = Said {
         line: channel.line,

@@ -44,6 +44,7 @@ fn forms(level: Level) -> &'static [&'static str] {
             "mask N",
             "clock bounds N",
             "items N",
+            "budget N",
             "when x0 from N, or: when x0 from N to N",
             "data v0 from N to N, or: data bounds N",
             "reset x0, or: reset x0 x1",

@@ -24,7 +24,7 @@ pub(super) fn place(
     } = stop;
     let start = first + at;
     let there = own.len() - at;
-    let size = [0, 2, 7, 3, 7, 5, 5, 4, 1, 2, 0, 0][usize::from(part)];
+    let size = [0, 2, 7, 3, 7, 5, 5, 4, 1, 2, 0, 0, 2][usize::from(part)];
     let found = match part {
         part::COMPONENT_END => left_over(part, component, start, there),
         _ if there < size => too_short(part, component, start, there, size as u32),
@@ -82,6 +82,7 @@ fn numbers(part: u8, bytes: &[u8], limits: &Limits) -> ([Number; 7], usize) {
         clocks,
         variables,
         channels,
+        ..
     } = *limits;
     let [locations, clocks, variables, channels] =
         [locations, clocks, variables, channels].map(u32::from);
@@ -102,6 +103,7 @@ fn numbers(part: u8, bytes: &[u8], limits: &Limits) -> ([Number; 7], usize) {
             let [c, d, e] = [[2, 1, 0, locations], [3, 1, 0, 1 << clocks], [4, 1, 0, 5]];
             ([a, b, c, d, e, data_bounds, items], 7)
         }
+        part::BUDGET => few([[0, 2, 0, ticks], none, none], 1),
         part::LOCATION => few([[0, 1, 0, clocks], [1, 2, 0, ticks], none], 2),
         part::CLOCK_BOUND => few([[0, 1, 0, clocks], [1, 2, 0, ticks], [3, 2, 0, ticks]], 3),
         part::DATA_BOUND => few([[0, 1, 0, variables], none, none], 1),

@@ -8,7 +8,7 @@ use crate::table::*;
 use crate::NONE;
 use fault::place;
 
-/// A part of a table by its number, 1 to 11.
+/// A part of a table by its number, 1 to 12.
 pub mod part {
     /// A component's length.
     pub const LENGTH: u8 = 1;
@@ -32,6 +32,8 @@ pub mod part {
     pub const COMPONENT_END: u8 = 10;
     /// The table's end.
     pub const TABLE_END: u8 = 11;
+    /// An edge's budget.
+    pub const BUDGET: u8 = 12;
 }
 
 /// Where one of checks 4 to 6 is not passed.
@@ -79,11 +81,13 @@ struct Limits {
     clocks: u8,
     variables: u8,
     channels: u8,
+    budgets: bool,
 }
 
-/// Where checks 4 to 6 stop in a table with so many components and channels, whose
-/// first component starts at a place.
-pub(crate) fn locate(bytes: &[u8], count: usize, channels: u8, first: usize) -> Option<Place> {
+/// Where checks 4 to 6 stop in a table whose header was read, with so many channels and
+/// the first component at a place.
+pub(crate) fn locate(bytes: &[u8], table: &Table, channels: u8, first: usize) -> Option<Place> {
+    let (count, budgets) = (table.count, table.has_budgets());
     let mut start = first;
     for component in 0..count {
         let rest = &bytes[start..];
@@ -96,6 +100,7 @@ pub(crate) fn locate(bytes: &[u8], count: usize, channels: u8, first: usize) -> 
         };
         let mut limits = Limits {
             channels,
+            budgets,
             ..Limits::default()
         };
         if let Err(stop) = walk(own, &mut limits) {
@@ -228,6 +233,10 @@ fn head_fits(
 fn walk_edge(rest: &mut &[u8], limits: &Limits) -> Result<(), Unfit> {
     let head = |head: &[u8; HEAD]| edge_fits(head, limits);
     let &[kind, _, _, _, clock_bounds, data_bounds, items] = take(rest, part::EDGE, NONE, head)?;
+    if limits.budgets {
+        let fits = |&[high, low]: &[u8; BUDGET]| two(high, low) <= MAX_TICKS;
+        take(rest, part::BUDGET, NONE, fits)?;
+    }
     for index in 0..clock_bounds {
         let fits = |bound: &[u8; BOUND]| clock_bound_fits(bound, limits);
         take(rest, part::CLOCK_BOUND, index, fits)?;

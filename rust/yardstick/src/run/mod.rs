@@ -157,6 +157,7 @@ impl Machine {
                 let holds = *node.variable(a) <= k as i16;
                 node.demand(holds);
             }
+            op::BUDGET => node.demand_length(k),
             op::KEEP => node.keep(k as u8),
             op::AGE => node.age(a),
             op::ZERO => node.zero(a),

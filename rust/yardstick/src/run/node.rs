@@ -112,6 +112,13 @@ impl Node {
         }
     }
 
+    /// A budget "fails the trial of a shorter window".
+    #[inline]
+    pub(super) fn demand_length(&mut self, budget: u16) {
+        let [ready, end] = self.trial;
+        self.demand(end.saturating_sub(ready) >= i32::from(budget));
+    }
+
     /// A variable.
     #[inline]
     pub(super) fn variable(&mut self, number: u8) -> &mut i16 {

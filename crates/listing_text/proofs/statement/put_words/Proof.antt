@@ -21,6 +21,12 @@ slice-aggregate-put c = search needs
 put-requires : tie.Need-put-requires
 put-requires c κs = search needs
 
+slice-aggregate-put-field : tie.Need-slice-aggregate-put-field
+slice-aggregate-put-field c = search needs
+
+put-field-requires : tie.Need-put-field-requires
+put-field-requires c κs = search needs
+
 slice-aggregate-put-2 : tie.Need-slice-aggregate-put-2
 slice-aggregate-put-2 c = search needs
 
@@ -57,7 +63,18 @@ same-length-5 c = search needs
 
 returns-5 : tie.Need-returns-5
 unfolding statementWords
-returns-5 c = (no-op (c .before .before .before .before .before .before .before .before .before .before .args .op) (c .before .before .before .before .before .before .before .before .before .before .args .a) (c .before .before .before .before .before .before .before .before .before .before .args .k) (omega (arith, c .before .before .before .before .before .if4 .left, c .before .before .before .before .before .before .if3 .left)) (c .before .before .put2 .ensures .0), omega (arith, c .before .before .put2 .ensures .1))
+returns-5 c =
+    let a = c .before .before .before .before .before .before .before .before .before .before .before .args in
+    (known-op (a .op) 18 (a .a) (a .k) (c .before .before .before .before .before .if5 .taken) (c .before .before .put-field .ensures .0), omega (arith, c .before .before .put-field .ensures .1))
+
+same-length-6 : tie.Need-same-length-6
+same-length-6 c = search needs
+
+returns-6 : tie.Need-returns-6
+unfolding statementWords
+returns-6 c =
+    let a = c .before .before .before .before .before .before .before .before .before .before .before .args in
+    (no-op (a .op) (a .a) (a .k) (omega (arith, c .before .before .before .before .before .if5 .left, c .before .before .before .before .before .before .if4 .left, c .before .before .before .before .before .before .before .if3 .left)) (c .before .before .put2 .ensures .0), omega (arith, c .before .before .put2 .ensures .1))
 
 pub put-words-spec : {M : Type 1} → statement M
-put-words-spec = tie.close (tie.spec put-work-requires put-passage-end-requires put-trial-requires slice-aggregate-put put-requires slice-aggregate-put-2 put-requires-2 same-length returns same-length-2 returns-2 same-length-3 returns-3 same-length-4 returns-4 same-length-5 returns-5)
+put-words-spec = tie.close (tie.spec put-work-requires put-passage-end-requires put-trial-requires slice-aggregate-put put-requires slice-aggregate-put-field put-field-requires slice-aggregate-put-2 put-requires-2 same-length returns same-length-2 returns-2 same-length-3 returns-3 same-length-4 returns-4 same-length-5 returns-5 same-length-6 returns-6)

@@ -27,7 +27,7 @@ abbrev μ-loop : tie.MeasureT-loop
 μ-loop guards count location clocks over all at₀ k₀ at k = k
 
 loop-holds : tie.Need-loop-holds Inv-loop μ-loop
-loop-holds c = (omega (arith, c .before .pre .0), c .before .pre .2, omega arith, omega arith)
+loop-holds c = (omega (arith, c .before .pre .whole), c .before .pre .clocks, omega arith, omega arith)
 
 sub-window : tie.Need-sub-window Inv-loop μ-loop
 sub-window c = search needs
@@ -43,7 +43,7 @@ window-requires c κs =
     let s = c .before .before .before .before in
     let l = c .before .before .loop in
     let g = one-asked (s .args .guards .now) (l .at) (omega (arith, l .inv .0, c .before .loop-test .taken)) (all-first clockGuardAt 5 (s .args .guards .now) (l .at) (l .k) (c .before .loop-test .taken) (l .inv .1)) in
-    (g .0, s .pre .1, g .1)
+    (g .0, s .pre .invariant, g .1)
 
 is-wider-requires : tie.Need-is-wider-requires Inv-loop μ-loop
 is-wider-requires c κs = search needs
@@ -53,7 +53,7 @@ same : (c : tie.After-is-wider Inv-loop μ-loop) → c .is-wider .result ≡ wid
 same c =
     let s = c .before .before .before .before .before .before in
     let w = c .before .window in
-    c .is-wider .ensures ∙ one-wider (s .args .location) (s .args .clocks) (listAt clockGuardAt 5 (s .args .count) (s .args .guards .now)) (s .args .over) (s .pre .3) (s .pre .4) (s .args .guards .now) (c .before .before .before .before .loop .at) (w .ensures .0) (w .ensures .1)
+    c .is-wider .ensures ∙ one-wider (s .args .location) (s .args .clocks) (listAt clockGuardAt 5 (s .args .count) (s .args .guards .now)) (s .args .over) (s .pre .ready) (s .pre .past) (s .args .guards .now) (c .before .before .before .before .loop .at) (w .ensures .0) (w .ensures .1)
 
 sub-result : tie.Need-sub-result Inv-loop μ-loop
 sub-result c = omega (arith, c .before .before .before .before .before .loop .inv .3)

@@ -1,5 +1,6 @@
 -- `reason_text::words::put_bound` meets its contract. Assumes nothing.
 use mathlib.Core.Path.{_≡_, ap, sym}
+use mathlib.Core.Bool.{Bool}
 use mathlib.Core.List.{List}
 use Prim.Native.Nat.{ℕ, _+_, _*_, _<_, _≤_}
 use native.Mathlib.Omega.{arith}
@@ -9,7 +10,7 @@ use mir.Syntax.{w16}
 use mir.Val.{SFits}
 use mir.ValLaws.{toZ-ofZ}
 use Rattle.model.specs.declared.DataGuard.{DataGuard}
-use Rattle.model.specs.Places.{arcAt}
+use Rattle.model.specs.Places.{arcHeadLength, arcAt}
 use Rattle.model.specs.Reasons.{noBound}
 use Rattle.model.specs.Window.{valueAt}
 use Rattle.model.proofs.Basics.Walk.{all-at}
@@ -24,11 +25,14 @@ use Rattle.reason_text.proofs.words.put_bound.Statement.{statement}
 use Rattle.reason_text.proofs.words.put_bound.Tie as tie
 
 -- the bound lies in the edge
-whole : (h : List ℕ) → ArcReady h → (i : ℕ) → i < length (arcAt h .dataGuards) → 7 + (getD h 4 0 + i) * 5 + 5 ≤ length h
-whole h r i k = omega (arith, data-count h, r .decodable .whole)
+whole : (b : Bool) (h : List ℕ) → ArcReady b h → (i : ℕ) → i < length (arcAt b h .dataGuards) → arcHeadLength b + (getD h 4 0 + i) * 5 + 5 ≤ length h
+whole b h r i k = omega (arith, data-count b h, r .decodable .whole)
+
+head-length-requires : tie.Need-head-length-requires
+head-length-requires c κs = search needs
 
 shared-slice-read-wide : tie.Need-shared-slice-read-wide
-shared-slice-read-wide c = search needs
+shared-slice-read-wide c = omega (arith, c .before .before .before .before .pre .1 .decodable .head)
 
 wide-requires : tie.Need-wide-requires
 wide-requires c κs = search needs
@@ -43,21 +47,21 @@ mul-first : tie.Need-mul-first
 mul-first c = search needs
 
 add-first-2 : tie.Need-add-first-2
-add-first-2 c = search needs
+add-first-2 c = omega (arith, c .before .before .before .head-length .ensures .2, c .before .wide .ensures .1, c .wide2 .ensures .1)
 
 sub-data-guard-at : tie.Need-sub-data-guard-at
-sub-data-guard-at c = let s = c .before .before .before .before .before in omega (arith, whole (s .args .edge .now) (s .pre .1) (s .args .number) (s .pre .2), c .before .wide .ensures .0, c .wide2 .ensures .0)
+sub-data-guard-at c = let s = c .before .before .before .before .before .before in omega (arith, whole (s .args .budgets) (s .args .edge .now) (s .pre .1) (s .args .number) (s .pre .2), c .before .wide .ensures .0, c .wide2 .ensures .0, c .before .before .before .head-length .ensures .0)
 
 part-data-guard-at-start : tie.Need-part-data-guard-at-start
-part-data-guard-at-start c = let s = c .before .before .before .before .before in omega (arith, whole (s .args .edge .now) (s .pre .1) (s .args .number) (s .pre .2), c .before .wide .ensures .0, c .wide2 .ensures .0)
+part-data-guard-at-start c = let s = c .before .before .before .before .before .before in omega (arith, whole (s .args .budgets) (s .args .edge .now) (s .pre .1) (s .args .number) (s .pre .2), c .before .wide .ensures .0, c .wide2 .ensures .0, c .before .before .before .head-length .ensures .0)
 
 part-data-guard-at-end : tie.Need-part-data-guard-at-end
 part-data-guard-at-end c = search needs
 
 data-guard-at-requires : tie.Need-data-guard-at-requires
 data-guard-at-requires c κs =
-    let s = c .before .before .before .before .before .before in
-    tail-long (s .args .edge .now) (7 + (c .before .before .wide .result + c .before .wide2 .result) * 5) 5 (omega (arith, whole (s .args .edge .now) (s .pre .1) (s .args .number) (s .pre .2), c .before .before .wide .ensures .0, c .before .wide2 .ensures .0))
+    let s = c .before .before .before .before .before .before .before in
+    tail-long (s .args .edge .now) (c .before .before .before .before .head-length .result + (c .before .before .wide .result + c .before .wide2 .result) * 5) 5 (omega (arith, whole (s .args .budgets) (s .args .edge .now) (s .pre .1) (s .args .number) (s .pre .2), c .before .before .wide .ensures .0, c .before .wide2 .ensures .0, c .before .before .before .before .head-length .ensures .0))
 
 wide-requires-3 : tie.Need-wide-requires-3
 wide-requires-3 c κs = search needs
@@ -67,10 +71,10 @@ mul-put-fails c = search needs
 
 array-copy-out-put-fails : tie.Need-array-copy-out-put-fails
 array-copy-out-put-fails c =
-    let s = c .before .before .before .before .before .before .before .before .before in
+    let s = c .before .before .before .before .before .before .before .before .before .before in
     let h = s .args .edge .now in
-    let at : 7 + (c .before .before .before .before .before .wide .result + c .before .before .before .before .wide2 .result) * 5 ≡ 7 + (getD h 4 0 + s .args .number) * 5 = rw (c .before .before .before .before .before .wide .ensures .0, c .before .before .before .before .wide2 .ensures .0) in
-    let g = bound-at h (s .args .number) _ (s .pre .2) at (c .before .before .data-guard-at .ensures) in
+    let at : c .before .before .before .before .before .before .before .head-length .result + (c .before .before .before .before .before .wide .result + c .before .before .before .before .wide2 .result) * 5 ≡ arcHeadLength (s .args .budgets) + (getD h 4 0 + s .args .number) * 5 = rw (c .before .before .before .before .before .before .before .head-length .ensures .0, c .before .before .before .before .before .wide .ensures .0, c .before .before .before .before .wide2 .ensures .0) in
+    let g = bound-at (s .args .budgets) h (s .args .number) _ (s .pre .2) at (c .before .before .data-guard-at .ensures) in
     omega (arith, c .before .wide3 .ensures .0, ap (λ (x : DataGuard). x .variable) g, all-at noBound (s .pre .1 .dataGuards) (s .args .number) (s .pre .2))
 
 put-fails-requires : tie.Need-put-fails-requires
@@ -81,11 +85,11 @@ same-length c = search needs
 
 returns : tie.Need-returns
 returns c =
-    let s = c .before .before .before .before .before .before .before .before .before .before .before .before .before in
+    let s = c .before .before .before .before .before .before .before .before .before .before .before .before .before .before in
     let h = s .args .edge .now in
     let p = c .before .before .put-fails in
-    let at : 7 + (c .before .before .before .before .before .before .before .before .before .wide .result + c .before .before .before .before .before .before .before .before .wide2 .result) * 5 ≡ 7 + (getD h 4 0 + s .args .number) * 5 = rw (c .before .before .before .before .before .before .before .before .before .wide .ensures .0, c .before .before .before .before .before .before .before .before .wide2 .ensures .0) in
-    let g = bound-at h (s .args .number) _ (s .pre .2) at (c .before .before .before .before .before .before .data-guard-at .ensures) in
+    let at : c .before .before .before .before .before .before .before .before .before .before .before .head-length .result + (c .before .before .before .before .before .before .before .before .before .wide .result + c .before .before .before .before .before .before .before .before .wide2 .result) * 5 ≡ arcHeadLength (s .args .budgets) + (getD h 4 0 + s .args .number) * 5 = rw (c .before .before .before .before .before .before .before .before .before .before .before .head-length .ensures .0, c .before .before .before .before .before .before .before .before .before .wide .ensures .0, c .before .before .before .before .before .before .before .before .wide2 .ensures .0) in
+    let g = bound-at (s .args .budgets) h (s .args .number) _ (s .pre .2) at (c .before .before .before .before .before .before .data-guard-at .ensures) in
     let v = getD (s .args .t5) (c .before .before .before .before .before .wide3 .result) (pos 0) in
     let fits : SFits w16 v = search needs in
     let w = rw (toZ-ofZ w16 v fits, c .before .before .before .before .before .wide3 .ensures .0, g) at (p .ensures .0) in
@@ -95,6 +99,7 @@ pub put-bound-spec : {M : Type 1} → statement M
 put-bound-spec =
     tie.close
     (tie.spec
+    head-length-requires
     shared-slice-read-wide
     wide-requires
     wide-requires-2

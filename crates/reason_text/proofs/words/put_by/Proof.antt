@@ -11,7 +11,7 @@ use Rattle.reason_text.proofs.words.put_by.Statement.{statement}
 use Rattle.reason_text.proofs.words.put_by.Tie as tie
 
 window-requires : tie.Need-window-requires
-window-requires c κs = let s = c .before .before .before in let g = none-asked (s .args .guards .now) in (g .0, s .pre .2, g .1)
+window-requires c κs = let s = c .before .before .before in let g = none-asked (s .args .guards .now) in (g .0, s .pre .2 .invariant, g .1)
 
 is-wider-requires : tie.Need-is-wider-requires
 is-wider-requires c κs = search needs
@@ -36,7 +36,7 @@ returns c =
     let s = c .before .before .before .before .before .before .before .before .before .before .before .before in
     let a = s .args in
     let gs = listAt clockGuardAt 5 (a .count) (a .guards .now) in
-    let q = sym (c .before .before .before .before .before .before .before .is-wider .ensures ∙ none-wider (a .location) (a .clocks) gs (a .over) (s .pre .4) (s .pre .5) (a .guards .now) (c .before .before .before .before .before .before .before .before .window .ensures .0) (c .before .before .before .before .before .before .before .before .window .ensures .1)) ∙ c .before .before .before .before .before .before .if1 .taken in
+    let q = sym (c .before .before .before .before .before .before .before .is-wider .ensures ∙ none-wider (a .location) (a .clocks) gs (a .over) (s .pre .2 .ready) (s .pre .2 .past) (a .guards .now) (c .before .before .before .before .before .before .before .before .window .ensures .0) (c .before .before .before .before .before .before .before .before .window .ensures .1)) ∙ c .before .before .before .before .before .before .if1 .taken in
     let p = c .before .before .put-field in
     (same-words (byWords (a .otherwise .now) (a .over) (a .location) gs (a .clocks)) (p .ensures .0) (by-bound (a .otherwise .now) (a .over) (a .location) gs (a .clocks) q (c .before .before .before .before .before .deciding .ensures)), omega (arith, p .ensures .1))
 
@@ -51,9 +51,9 @@ returns-2 c =
     let s = c .before .before .before .before .before .before .before .before .before .before in
     let a = s .args in
     let gs = listAt clockGuardAt 5 (a .count) (a .guards .now) in
-    let q = sym (c .before .before .before .before .before .is-wider .ensures ∙ none-wider (a .location) (a .clocks) gs (a .over) (s .pre .4) (s .pre .5) (a .guards .now) (c .before .before .before .before .before .before .window .ensures .0) (c .before .before .before .before .before .before .window .ensures .1)) ∙ c .before .before .before .before .if1 .left in
+    let q = sym (c .before .before .before .before .before .is-wider .ensures ∙ none-wider (a .location) (a .clocks) gs (a .over) (s .pre .2 .ready) (s .pre .2 .past) (a .guards .now) (c .before .before .before .before .before .before .window .ensures .0) (c .before .before .before .before .before .before .window .ensures .1)) ∙ c .before .before .before .before .if1 .left in
     let p = c .before .before .put in
-    (same-words (byWords (a .otherwise .now) (a .over) (a .location) gs (a .clocks)) (p .ensures .0) (by-other (a .otherwise .now) (a .over) (a .location) gs (a .clocks) q), omega (arith, p .ensures .1))
+    (same-words (byWords (a .otherwise .now) (a .over) (a .location) gs (a .clocks)) (p .ensures .0) (by-other (a .otherwise .now) (a .over) (a .location) gs (a .clocks) q), omega (arith, p .ensures .1, s .pre .1))
 
 pub put-by-spec : {M : Type 1} → statement M
 put-by-spec =

@@ -13,11 +13,11 @@ use Rattle.reasons.proofs.telling.count_edges.Statement.{statement}
 use Rattle.reasons.proofs.telling.count_edges.Tie as tie
 
 abbrev Inv-loop : tie.InvT-loop
-Inv-loop table start c here count place₀ k₀ e₀ place k e =
+Inv-loop table start c here budgets count place₀ k₀ e₀ place k e =
     (e ≤ count) × (place ≡ arcPlace table start e) × (k ≡ length (edgesBefore (componentIn table c) here e))
 
 abbrev μ-loop : tie.MeasureT-loop
-μ-loop table start c here count place₀ k₀ e₀ place k e = count - e
+μ-loop table start c here budgets count place₀ k₀ e₀ place k e = count - e
 
 -- what is known of the component
 known : (c : tie.After-shared-slice-known Inv-loop μ-loop) → Entered (c .before .args .table .now) (c .before .args .c) (c .before .args .start)
@@ -104,7 +104,7 @@ add-place-3 : tie.Need-add-place-3 Inv-loop μ-loop
 add-place-3 c =
     let a = c .before .before .before .before .before .before .before .before .before .before .before .args in
     let l = c .before .before .before .before .before .loop in
-    omega (arith, next-within (a .table .now) (a .c) (a .start) (known (c .before .before .before .before .before .before .before .before .before .before)) (l .place) (l .e) (l .inv .1) (inside (c .before .before .before .before)) (c .arc-length .result) (c .arc-length .ensures))
+    omega (arith, next-within (a .table .now) (a .c) (a .start) (known (c .before .before .before .before .before .before .before .before .before .before)) (l .place) (l .e) (l .inv .1) (inside (c .before .before .before .before)) (a .budgets) (c .before .before .before .before .before .before .before .before .before .before .before .pre .3) (c .arc-length .result) (c .arc-length .ensures))
 
 add-e : tie.Need-add-e Inv-loop μ-loop
 add-e c = omega (arith, inside (c .before .before .before .before), known (c .before .before .before .before .before .before .before .before .before .before) .mostArcs)
@@ -119,7 +119,7 @@ loop-again c =
     let k = known (c .before .before .before .before .before .before .before .before .before .before) in
     let i = inside (c .before .before .before .before) in (
       omega arith,
-      next-place (a .table .now) (a .c) (a .start) k (l .place) (l .e) (l .inv .1) i (c .arc-length .result) (c .arc-length .ensures),
+      next-place (a .table .now) (a .c) (a .start) k (l .place) (l .e) (l .inv .1) i (a .budgets) (c .before .before .before .before .before .before .before .before .before .before .before .pre .3) (c .arc-length .result) (c .arc-length .ensures),
       count-one (componentIn (a .table .now) (a .c)) (a .here) (l .e) (l .k) (c .before .before .counted .result) _ (l .inv .2) (sym (source-is (a .table .now) (a .c) (a .start) k (l .place) (l .e) (l .inv .1) i)) (c .before .before .counted .ensures .0),
     )
 

@@ -19,7 +19,7 @@ returns : tie.Need-returns
 returns c =
     let a = c .before .before .before .before .before .args in
     let q = sym (c .before .elsewhere .ensures ∙ ap isElsewhere (c .before .before .judge .ensures .0)) ∙ c .if1 .taken in
-    edge-passed (a .location) (entryOf (a .at)) (arcAt (a .edge .now)) (a .taken) (a .ready) (a .e) (a .k) (a .told .now) (is-elsewhere (a .location) (entryOf (a .at)) (arcAt (a .edge .now)) q)
+    edge-passed (a .location) (entryOf (a .at)) (arcAt (a .budgets) (a .edge .now)) (a .taken) (a .ready) (a .e) (a .k) (a .told .now) (is-elsewhere (a .location) (entryOf (a .at)) (arcAt (a .budgets) (a .edge .now)) q)
 
 reason-from-requires : tie.Need-reason-from-requires
 reason-from-requires c κs = search needs
@@ -29,7 +29,7 @@ put-reason-requires c κs =
     let e = c .before .before .before .before .before .before .before in
     let a = e .args in
     let q = sym (c .before .before .before .elsewhere .ensures ∙ ap isElsewhere (c .before .before .before .before .judge .ensures .0)) ∙ c .before .before .if1 .left in
-    (e .pre .4 (is-here (a .location) (entryOf (a .at)) (arcAt (a .edge .now)) q), e .pre .3)
+    (e .pre .4 (is-here (a .location) (entryOf (a .at)) (arcAt (a .budgets) (a .edge .now)) q), e .pre .3)
 
 add-result : tie.Need-add-result
 add-result c = search needs
@@ -42,7 +42,7 @@ returns-2 c =
     let a = c .before .before .before .before .before .before .before .before .before .before .args in
     let j = c .before .before .before .before .before .before .before .judge .ensures .0 in
     let q = sym (c .before .before .before .before .before .before .elsewhere .ensures ∙ ap isElsewhere j) ∙ c .before .before .before .before .before .if1 .left in
-    edge-told (a .location) (entryOf (a .at)) (arcAt (a .edge .now)) (a .taken) (a .ready) (a .e) (a .k) (a .told .now) _ _ (is-here (a .location) (entryOf (a .at)) (arcAt (a .edge .now)) q)
+    edge-told (a .location) (entryOf (a .at)) (arcAt (a .budgets) (a .edge .now)) (a .taken) (a .ready) (a .e) (a .k) (a .told .now) _ _ (is-here (a .location) (entryOf (a .at)) (arcAt (a .budgets) (a .edge .now)) q)
     (c .before .before .before .before .reason-from .ensures ∙ ap (λ s. reasonFrom s (a .e) (a .taken) (a .at .tick) (a .ready)) j) (c .before .before .put-reason .ensures)
 
 pub put-edge-spec : {M : Type 1} → statement M

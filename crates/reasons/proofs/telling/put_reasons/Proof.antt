@@ -19,12 +19,12 @@ use Rattle.reasons.proofs.telling.put_reasons.Statement.{statement}
 use Rattle.reasons.proofs.telling.put_reasons.Tie as tie
 
 abbrev Inv-loop : tie.InvT-loop
-Inv-loop table start c at taken ready told₀ count there location place₀ k₀ e₀ told place k e =
+Inv-loop table start c at taken ready told₀ budgets count there location place₀ k₀ e₀ told place k e =
     (e ≤ count) × (place ≡ arcPlace table start e) × (k ≡ length (edgesBefore (componentIn table c) (at .location) e)) × (length told ≡ length told₀)
     × (told ≡ sets told₀ 0 (each (edgeBytes (componentIn table c) (entryOf at) taken ready) (edgesBefore (componentIn table c) (at .location) e)))
 
 abbrev μ-loop : tie.MeasureT-loop
-μ-loop table start c at taken ready told₀ count there location place₀ k₀ e₀ told place k e = count - e
+μ-loop table start c at taken ready told₀ budgets count there location place₀ k₀ e₀ told place k e = count - e
 
 -- what is known of the component
 known : (c : tie.After-shared-slice-known Inv-loop μ-loop) → Entered (c .before .args .table .now) (c .before .args .c) (c .before .args .start)
@@ -135,8 +135,8 @@ put-edge-requires c κs =
     let k = (known (c .before .before .before .before .before .before .before .before .before .before .before .before)) in
     let C = componentIn (a .table .now) (a .c) in
     let i = inside (c .before .before) in
-    let is = arc-is (a .table .now) (a .c) (a .start) k (l .place) (l .e) (l .inv .1) i in (
-      arc-asked (a .table .now) (a .c) (a .start) k (l .place) (l .e) (l .inv .1) i,
+    let is = arc-is (a .table .now) (a .c) (a .start) k (l .place) (l .e) (l .inv .1) i (a .budgets) (s .pre .6) in (
+      arc-asked (a .table .now) (a .c) (a .start) k (l .place) (l .e) (l .inv .1) i (a .budgets) (s .pre .6),
       rw (location-is (c .before .before .before .before .before .before)) (k .clock (a .at .location) (s .pre .3)),
       s .pre .4,
       omega (arith, before-few C (a .at .location) (l .e), l .inv .2, small (c .before .before)),
@@ -159,7 +159,7 @@ add-place-3 : tie.Need-add-place-3 Inv-loop μ-loop
 add-place-3 c =
     let a = c .before .before .before .before .before .before .before .before .before .before .before .before .before .before .before .before .before .before .args in
     let l = c .before .before .before .before .before .before .before .before .loop in
-    omega (arith, next-within (a .table .now) (a .c) (a .start) (known (c .before .before .before .before .before .before .before .before .before .before .before .before .before .before .before .before .before)) (l .place) (l .e) (l .inv .1) (inside (c .before .before .before .before .before .before .before)) (c .arc-length .result) (c .arc-length .ensures))
+    omega (arith, next-within (a .table .now) (a .c) (a .start) (known (c .before .before .before .before .before .before .before .before .before .before .before .before .before .before .before .before .before)) (l .place) (l .e) (l .inv .1) (inside (c .before .before .before .before .before .before .before)) (a .budgets) (c .before .before .before .before .before .before .before .before .before .before .before .before .before .before .before .before .before .before .pre .6) (c .arc-length .result) (c .arc-length .ensures))
 
 add-e : tie.Need-add-e Inv-loop μ-loop
 add-e c = omega (arith, small (c .before .before .before .before .before .before .before))
@@ -175,9 +175,9 @@ loop-again c =
     let i = inside (c .before .before .before .before .before .before .before) in
     let p = c .before .before .before .before .put-edge in
     let C = componentIn (a .table .now) (a .c) in
-    let t = turn C _ (entryOf (a .at)) (a .taken) (a .ready) (l .e) _ (l .k) (p .result) (a .told .now) (l .told) _ (location-is (c .before .before .before .before .before .before .before .before .before .before .before)) (arc-is (a .table .now) (a .c) (a .start) k (l .place) (l .e) (l .inv .1) i) (p .ensures) (l .inv .2) (l .inv .4) in (
+    let t = turn C _ (entryOf (a .at)) (a .taken) (a .ready) (l .e) _ (l .k) (p .result) (a .told .now) (l .told) _ (location-is (c .before .before .before .before .before .before .before .before .before .before .before)) (arc-is (a .table .now) (a .c) (a .start) k (l .place) (l .e) (l .inv .1) i (a .budgets) (c .before .before .before .before .before .before .before .before .before .before .before .before .before .before .before .before .before .before .pre .6)) (p .ensures) (l .inv .2) (l .inv .4) in (
       omega arith,
-      next-place (a .table .now) (a .c) (a .start) k (l .place) (l .e) (l .inv .1) i (c .arc-length .result) (c .arc-length .ensures),
+      next-place (a .table .now) (a .c) (a .start) k (l .place) (l .e) (l .inv .1) i (a .budgets) (c .before .before .before .before .before .before .before .before .before .before .before .before .before .before .before .before .before .before .pre .6) (c .arc-length .result) (c .arc-length .ensures),
       t .0,
       p .kept .1 .1 .1 .1 .1 .1 .0 ∙ l .inv .3,
       t .1,

@@ -2,7 +2,7 @@
 use mathlib.Core.Path.{refl, ap, _∙_}
 use Prim.Native.Nat.{ℕ}
 use Rattle.refusal_place.specs.Walk.{fits, contents}
-use Rattle.refusal_place.specs.declared.Part.the-variants.{ComponentLength, ComponentHead, Location, EdgeHead, ClockBound, DataBound, Update, Channel, Pair, ComponentEnd, TableEnd}
+use Rattle.refusal_place.specs.declared.Part.the-variants.{ComponentLength, ComponentHead, Location, EdgeHead, ClockBound, DataBound, Update, Channel, Pair, ComponentEnd, TableEnd, Budget}
 use Rattle.refusal_place.proofs.Within.{inside-as}
 use borrow.Author.Needs.{needs}
 use Rattle.refusal_place.proofs.edges.inside.Statement.{statement}
@@ -70,6 +70,12 @@ enum-told-10 c = search needs
 
 enum-told-11 : tie.Need-enum-told-11
 enum-told-11 c = search needs
+
+enum-told-12 : tie.Need-enum-told-12
+enum-told-12 c = search needs
+
+budget-requires : tie.Need-budget-requires
+budget-requires c κs = search needs
 
 returns : tie.Need-returns
 unfolding contents
@@ -162,6 +168,14 @@ returns-11 c =
       s .fits2 .ensures .1,
     )
 
+returns-12 : tie.Need-returns-12
+returns-12 c =
+    let s = c .before .before .before in
+    let a = s .before .before .before .args in (
+      inside-as (a .table .now) (a .end) (a .sizes) (a .who) (a .w) Budget (s .fits2 .result) (c .budget .result) (c .before .enum-told12 .given .1) (s .fits2 .ensures .0 ∙ ap (λ (n : ℕ). fits (a .end) (a .who) n (a .w)) (s .before .width .ensures .0)) (s .fits2 .ensures .1) (c .budget .ensures .0),
+      c .budget .ensures .1 ∙ s .fits2 .ensures .1,
+    )
+
 pub inside-spec : {M : Type 1} → statement M
 inside-spec =
     tie.close
@@ -187,6 +201,8 @@ inside-spec =
     pair-requires
     enum-told-10
     enum-told-11
+    enum-told-12
+    budget-requires
     returns
     returns-2
     returns-3
@@ -197,4 +213,5 @@ inside-spec =
     returns-8
     returns-9
     returns-10
-    returns-11)
+    returns-11
+    returns-12)

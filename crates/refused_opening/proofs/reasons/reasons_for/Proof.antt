@@ -5,7 +5,7 @@ use Prim.Native.Nat.{_+_, _*_}
 use native.Mathlib.Omega.{arith}
 use borrow.Author.Tests.{eq-eqb, ne-eqb}
 use Rattle.model.specs.Reader.{locationAt}
-use Rattle.model.specs.Table.{locationOf}
+use Rattle.model.specs.Table.{headerOf, locationOf}
 use Rattle.model.specs.Places.{readOf, componentIn, locationPlace}
 use Rattle.decoder.proofs.Found.{found}
 use Rattle.window.specs.Views.{entryOf}
@@ -79,7 +79,7 @@ returns-2 c =
     let C = componentIn (a .table .now) (a .c) in
     c .count-edges .ensures
     ∙ ap (λ l. reasonsAmong l (entryOf (a .at)) (C .arcs)) (location-is (c .before))
-    ∙ reasons-cut (readOf (a .table .now) .table .channels) C (limits-of (a .table .now) (c .before .before .before .before .before .shared-slice-known .given) (s .pre .0) (a .c) (s .pre .1)) (entryOf (a .at)) (s .pre .3)
+    ∙ reasons-cut (headerOf (readOf (a .table .now))) C (limits-of (a .table .now) (c .before .before .before .before .before .shared-slice-known .given) (s .pre .0) (a .c) (s .pre .1)) (entryOf (a .at)) (s .pre .3)
     ∙ sym (ap (λ b. cond b (reasons C (cut C (entryOf (a .at)))) (record { leaving = 0; blocked = 0; windowless = 0 })) (eq-eqb (a .number) 8 (c .before .before .before .before .if1 .left)))
 
 pub reasons-for-spec : {M : Type 1} → statement M

@@ -37,7 +37,7 @@ first-of-requires : tie.Need-first-of-requires
 first-of-requires c κs =
     let e = c .before .before .before .before .before .before .before in
     let items = c .before .before .items-place in
-    updates-asked (e .args .bytes .now) (e .pre) (items .result) (items .ensures) (sym (c .before .before .before .enum-told .given .1) ∙ c .before .before .before .before .before .action-at .ensures)
+    updates-asked (e .args .budgets) (e .args .bytes .now) (e .pre) (items .result) (items .ensures .0) (sym (c .before .before .before .enum-told .given .1) ∙ c .before .before .before .before .before .action-at .ensures)
 
 enum-told-2 : tie.Need-enum-told-2
 enum-told-2 c = search needs
@@ -56,18 +56,18 @@ returns c =
     let a = c .before .before .before .before .before .before .before .before .args in
     let h = a .bytes .now in
     let items = c .before .before .before .items-place in
-    found (λ bs. firstOut 0 (listAt updateAt 4 (getD h 6 0) bs) (a .values)) h (items .result) (itemsPlace h) (items .ensures) (c .first-of .ensures)
-    ∙ ap (λ us. firstOut 0 us (a .values)) (sym (internal-updates h (sym (c .before .before .before .before .enum-told .given .1) ∙ c .before .before .before .before .before .before .action-at .ensures)))
+    found (λ bs. firstOut 0 (listAt updateAt 4 (getD h 6 0) bs) (a .values)) h (items .result) (itemsPlace (a .budgets) h) (items .ensures .0) (c .first-of .ensures)
+    ∙ ap (λ us. firstOut 0 us (a .values)) (sym (internal-updates (a .budgets) h (sym (c .before .before .before .before .enum-told .given .1) ∙ c .before .before .before .before .before .before .action-at .ensures)))
 
 returns-2 : tie.Need-returns-2
 returns-2 c =
     let a = c .before .before .before .before .before .args in
-    no-updates (c .none-out .result) (a .values) (c .none-out .ensures) (send-updates (a .bytes .now) _ (sym (c .before .enum-told2 .given .1) ∙ c .before .before .before .action-at .ensures))
+    no-updates (c .none-out .result) (a .values) (c .none-out .ensures) (send-updates (a .budgets) (a .bytes .now) _ (sym (c .before .enum-told2 .given .1) ∙ c .before .before .before .action-at .ensures))
 
 returns-3 : tie.Need-returns-3
 returns-3 c =
     let a = c .before .before .before .before .before .args in
-    no-updates (c .none-out2 .result) (a .values) (c .none-out2 .ensures) (receive-updates (a .bytes .now) (sym (c .before .enum-told3 .given .1) ∙ c .before .before .before .action-at .ensures))
+    no-updates (c .none-out2 .result) (a .values) (c .none-out2 .ensures) (receive-updates (a .budgets) (a .bytes .now) (sym (c .before .enum-told3 .given .1) ∙ c .before .before .before .action-at .ensures))
 
 pub first-out-spec : {M : Type 1} → statement M
 first-out-spec =

@@ -1,5 +1,6 @@
 -- `refused_opening::updates::overflow_for` meets its contract. Assumes nothing.
 use borrow.Author.Tests.{eq-eqb, ne-eqb}
+use Rattle.model.specs.Table.{headerOf}
 use Rattle.model.specs.Places.{readOf, componentIn}
 use Rattle.window.specs.Views.{entryOf}
 use Rattle.schedule.proofs.Tables.{limits-of}
@@ -22,7 +23,7 @@ returns-2 c =
     let s = c .before .before .before in
     let a = s .args in
     let C = componentIn (a .table .now) (a .c) in
-    let o = overflow-cut (readOf (a .table .now) .table .channels) C (limits-of (a .table .now) (c .before .before .shared-slice-known .given) (s .pre .0) (a .c) (s .pre .1)) (entryOf (a .at)) (s .pre .3) in
+    let o = overflow-cut (headerOf (readOf (a .table .now))) C (limits-of (a .table .now) (c .before .before .shared-slice-known .given) (s .pre .0) (a .c) (s .pre .1)) (entryOf (a .at)) (s .pre .3) in
     rw (eq-eqb (a .number) 9 (c .before .if1 .left), ← o) (c .overflow-there .ensures)
 
 pub overflow-for-spec : {M : Type 1} → statement M

@@ -13,10 +13,10 @@ use Rattle.window.proofs.index.put_places.Statement.{statement}
 use Rattle.window.proofs.index.put_places.Tie as tie
 
 abbrev Inv-loop : tie.InvT-loop
-Inv-loop table start c index₀ from count place₀ e₀ index place e = (e ≤ count) × (place ≡ arcPlace table start e) × PlacesPut table index₀ index c start e
+Inv-loop table start c index₀ budgets from count place₀ e₀ index place e = (e ≤ count) × (place ≡ arcPlace table start e) × PlacesPut table index₀ index c start e
 
 abbrev μ-loop : tie.MeasureT-loop
-μ-loop table start c index₀ from count place₀ e₀ index place e = count - e
+μ-loop table start c index₀ budgets from count place₀ e₀ index place e = count - e
 
 -- what is known of the component
 known : (c : tie.After-shared-slice-known Inv-loop μ-loop) → Entered (c .before .args .table .now) (c .before .args .c) (c .before .args .start)
@@ -103,7 +103,7 @@ add-place-3 : tie.Need-add-place-3 Inv-loop μ-loop
 add-place-3 c =
     let a = c .before .before .before .before .before .before .before .before .before .before .args in
     let l = c .before .before .before .loop in
-    omega (arith, next-within (a .table .now) (a .c) (a .start) (known (c .before .before .before .before .before .before .before .before .before)) (l .place) (l .e) (l .inv .1) (inside (c .before .before)) (c .arc-length .result) (c .arc-length .ensures))
+    omega (arith, next-within (a .table .now) (a .c) (a .start) (known (c .before .before .before .before .before .before .before .before .before)) (l .place) (l .e) (l .inv .1) (inside (c .before .before)) (a .budgets) (c .before .before .before .before .before .before .before .before .before .before .pre .6) (c .arc-length .result) (c .arc-length .ensures))
 
 add-e : tie.Need-add-e Inv-loop μ-loop
 add-e c = omega (arith, inside (c .before .before), known (c .before .before .before .before .before .before .before .before .before) .mostArcs)
@@ -118,7 +118,7 @@ loop-again c =
     let k = known (c .before .before .before .before .before .before .before .before .before) in
     let i = inside (c .before .before) in (
       omega arith,
-      next-place (a .table .now) (a .c) (a .start) k (l .place) (l .e) (l .inv .1) i (c .arc-length .result) (c .arc-length .ensures),
+      next-place (a .table .now) (a .c) (a .start) k (l .place) (l .e) (l .inv .1) i (a .budgets) (c .before .before .before .before .before .before .before .before .before .before .pre .6) (c .arc-length .result) (c .arc-length .ensures),
       places-turn (a .table .now) (a .index .now) (a .c) (a .start) (l .index) (l .e) (l .place) (l .inv .2) (c .before .before .before .before .before .before .before .before .before .before .pre .4) (omega (arith, i, k .mostArcs)) (l .inv .1),
     )
 

@@ -37,7 +37,7 @@ update-requires : tie.Need-update-requires
 update-requires c κs =
     let e = c .before .before .before .before .before .before .before in
     let items = c .before .before .items-place in
-    updates-asked (e .args .bytes .now) (e .pre) (items .result) (items .ensures) (sym (c .before .before .before .enum-told .given .1) ∙ c .before .before .before .before .before .action-at .ensures)
+    updates-asked (e .args .budgets) (e .args .bytes .now) (e .pre) (items .result) (items .ensures .0) (sym (c .before .before .before .enum-told .given .1) ∙ c .before .before .before .before .before .action-at .ensures)
 
 enum-told-2 : tie.Need-enum-told-2
 enum-told-2 c = search needs
@@ -50,18 +50,18 @@ returns c =
     let a = c .before .before .before .before .before .before .before .before .args in
     let h = a .bytes .now in
     let items = c .before .before .before .items-place in
-    found (λ bs. updated (listAt updateAt 4 (getD h 6 0) bs) (a .values)) h (items .result) (itemsPlace h) (items .ensures) (c .update .ensures)
-    ∙ ap (λ us. updated us (a .values)) (sym (internal-updates h (sym (c .before .before .before .before .enum-told .given .1) ∙ c .before .before .before .before .before .before .action-at .ensures)))
+    found (λ bs. updated (listAt updateAt 4 (getD h 6 0) bs) (a .values)) h (items .result) (itemsPlace (a .budgets) h) (items .ensures .0) (c .update .ensures)
+    ∙ ap (λ us. updated us (a .values)) (sym (internal-updates (a .budgets) h (sym (c .before .before .before .before .enum-told .given .1) ∙ c .before .before .before .before .before .before .action-at .ensures)))
 
 returns-2 : tie.Need-returns-2
 returns-2 c =
     let a = c .before .before .before .before .args in
-    no-updates (arcAt (a .bytes .now) .updates) (a .values) (send-updates (a .bytes .now) _ (sym (c .enum-told2 .given .1) ∙ c .before .before .action-at .ensures))
+    no-updates (arcAt (a .budgets) (a .bytes .now) .updates) (a .values) (send-updates (a .budgets) (a .bytes .now) _ (sym (c .enum-told2 .given .1) ∙ c .before .before .action-at .ensures))
 
 returns-3 : tie.Need-returns-3
 returns-3 c =
     let a = c .before .before .before .before .args in
-    no-updates (arcAt (a .bytes .now) .updates) (a .values) (receive-updates (a .bytes .now) (sym (c .enum-told3 .given .1) ∙ c .before .before .action-at .ensures))
+    no-updates (arcAt (a .budgets) (a .bytes .now) .updates) (a .values) (receive-updates (a .budgets) (a .bytes .now) (sym (c .enum-told3 .given .1) ∙ c .before .before .action-at .ensures))
 
 pub edge-update-spec : {M : Type 1} → statement M
 edge-update-spec =

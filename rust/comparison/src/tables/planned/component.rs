@@ -169,6 +169,7 @@ impl Writer<'_> {
                 clock_bounds: bounds.shuffled(self.random),
                 data_bounds: variant.data.into_iter().collect(),
                 action: variant.action,
+                ..Edge::default()
             });
         }
         for _ in 0..self.random.within(0..=self.style.decoys) {

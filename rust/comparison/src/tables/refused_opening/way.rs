@@ -75,8 +75,8 @@ impl Way {
             destination: self.location(link + 1),
             mask: random.below(1 << self.clocks) as u8,
             clock_bounds: [ClockBound { clock, low, high }].into_iter().collect(),
-            data_bounds: List::new(),
             action: Action::Internal(self.updates(random)),
+            ..Edge::default()
         };
         for clock in 0..self.clocks {
             self.values[clock] = match edge.mask >> clock & 1 {
