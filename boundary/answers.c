@@ -106,7 +106,33 @@ static void write_part(const struct stored *stored, enum where where) {
         write_text("-");
 }
 
-static void write_ran(timed_network_run_numbers answer) {
+/* The bytes of each observation that an answer has: the first 32 where it is older than wish 9. */
+static size_t observation_width(const char *answer) {
+    const size_t old = 32;
+    const char *first = strchr(answer, '|');
+    return first != NULL && strcspn(first + 1, "|") == 2 * old ? old : OBSERVATION;
+}
+
+static unsigned long read_four(const uint8_t *at) {
+    return (unsigned long)at[0] << 24 | (unsigned long)at[1] << 16 | (unsigned long)at[2] << 8 |
+           at[3];
+}
+
+/* An observation as the corpus has it: node, tick and finish tick. */
+static void write_shown(const uint8_t *observation) {
+    unsigned long finish = read_four(observation + OBSERVATION - 4);
+    write_number("", observation[0]);
+    write_number(" ", read_four(observation + 4));
+    if (finish == TIMED_NETWORK_NO_WORK)
+        write_text(" -");
+    else
+        write_number(" ", finish);
+}
+
+static void write_ran(timed_network_run_numbers answer, const struct stored *stored) {
+    size_t width = observation_width(stored->answer);
+    const char *first = strchr(stored->answer, '|');
+    int of_corpus = first != NULL && strchr(first, ' ') != NULL;
     if (write_refusal(answer.number, answer.component))
         return;
     write_number("", answer.end);
@@ -115,12 +141,15 @@ static void write_ran(timed_network_run_numbers answer) {
     write_number(" ", answer.used);
     for (size_t i = 0; i < answer.size; i++) {
         write_text("|");
-        write_hex(observations + OBSERVATION * i, OBSERVATION);
+        if (of_corpus)
+            write_shown(observations + OBSERVATION * i);
+        else
+            write_hex(observations + OBSERVATION * i, width);
     }
 }
 
 static void write_run(const struct stored *stored, enum where where) {
-    write_ran(guarded_run(where, stored->table, stored->choices, MAX_OBSERVATIONS));
+    write_ran(guarded_run(where, stored->table, stored->choices, stored->lent), stored);
 }
 
 static void write_check_spread(const struct stored *stored, enum where where) {
@@ -132,7 +161,8 @@ static void write_check_spread(const struct stored *stored, enum where where) {
 
 static void write_run_apart(const struct stored *stored, enum where where) {
     write_ran(guarded_run_apart(where, stored->table, stored->choices, &stored->waking,
-                                stored->lent));
+                                stored->lent),
+              stored);
 }
 
 /* A number, where 255 is none. */

@@ -96,7 +96,7 @@ static void lent_lengths(void) {
             continue;
         trying("lent lengths", cases[i].name);
         int example = strcmp(cases[i].name, "probe_and_hub") == 0;
-        for (long more = example ? -260 : -2; more <= 2; more++)
+        for (long more = example ? -290 : -2; more <= 2; more++)
             for (int where = 0; where < PLACES; where++)
                 lend((enum where)where, cases[i].table, none, more);
     }
@@ -274,28 +274,29 @@ static void cut_programs(void) {
             nodes_random((enum where)where, of(program_bytes + 6, cut));
 }
 
-/* As many choices as a run takes, and one more. */
+/* As many choices as a run takes, and one more. The table has eight passages. */
 static void many_choices(void) {
+    enum { NEEDED = 8 * OBSERVATION };
     struct bytes table = find("probe_and_hub", CHECK)->table;
     memset(choices_bytes, 0, sizeof choices_bytes);
     for (int where = 0; where < PLACES; where++) {
         trying("many choices", "probe_and_hub");
         timed_network_run_numbers taken =
-            guarded_run((enum where)where, table, of(choices_bytes, MAX_CHOICES), 256);
+            guarded_run((enum where)where, table, of(choices_bytes, MAX_CHOICES), NEEDED);
         same(taken.number == 0 && taken.end == 3, "a million choices");
         timed_network_run_numbers refused =
-            guarded_run((enum where)where, table, of(choices_bytes, MAX_CHOICES + 1), 256);
+            guarded_run((enum where)where, table, of(choices_bytes, MAX_CHOICES + 1), NEEDED);
         same(refused.number == 14, "a million choices and one");
         struct waking above = {0, {1}, 1};
         refused = guarded_run_apart((enum where)where, table,
-                                    of(choices_bytes, MAX_CHOICES), &above, 256);
+                                    of(choices_bytes, MAX_CHOICES), &above, NEEDED);
         same(refused.number == 20, "a million choices and an offset");
         refused = guarded_run_apart((enum where)where, table,
-                                    of(choices_bytes, MAX_CHOICES + 1), &above, 256);
+                                    of(choices_bytes, MAX_CHOICES + 1), &above, NEEDED);
         same(refused.number == 14, "a million choices and one, and an offset");
         struct waking nine = {0, {1}, 9};
         refused =
-            guarded_run_apart((enum where)where, table, of(choices_bytes, 1), &nine, 256);
+            guarded_run_apart((enum where)where, table, of(choices_bytes, 1), &nine, NEEDED);
         same(refused.number == 20, "an offset and one more than there can be nodes");
     }
 }

@@ -3,7 +3,8 @@
 #include <string.h>
 
 /* The ops that are named here. */
-enum { SLEEP = 0, ADD = 2, SEND = 4, LISTEN = 5, PAIR = 6, TAKE = 16, NO_STATEMENT = 255 };
+enum { SLEEP = 0, ADD = 2, DONE = 3, SEND = 4, LISTEN = 5, PAIR = 6, TAKE = 16 };
+enum { NO_STATEMENT = 255 };
 
 enum { NODES = 8, PLACES_OF_A_KIND = 4, STATEMENT = 4 };
 
@@ -126,11 +127,12 @@ static void take_message(enum where where, timed_network_node_registers *node,
         fail("a message is taken or left wrongly");
 }
 
-/* The nodes of a run, each with its part and its counts. */
+/* The nodes of a run, each with its part, its counts and the tick of its last work. */
 struct network {
     unsigned count;
     struct bytes part[NODES];
     uint8_t clocks[NODES], variables[NODES];
+    uint64_t finish[NODES];
     timed_network_node_registers node[NODES];
 };
 
@@ -150,6 +152,7 @@ static struct network network_of(enum where where, struct bytes table) {
         network.part[c] = of(program_bytes + part.start, part.length);
         network.clocks[c] = table.at[at + 4];
         network.variables[c] = table.at[at + 5];
+        network.finish[c] = TIMED_NETWORK_NO_WORK;
         network.node[c] = started(where, network.part[c]);
         at += word_at(table, at);
     }
@@ -184,17 +187,22 @@ static void observe(uint8_t *at, const struct network *network, unsigned c, uint
         put(&at, i < network->clocks[c] ? node->clocks[i] + node->n : 0, 4);
     for (int i = 0; i < PLACES_OF_A_KIND; i++)
         put(&at, i < network->variables[c] ? (uint16_t)node->values[i] : 0, 2);
+    put(&at, network->finish[c], 4);
 }
 
 /* The node finishes its statement, a send that of its listener too. */
-static void finish(enum where where, struct network *network, unsigned c) {
+static void finish(enum where where, struct network *network, unsigned c, uint64_t tick) {
     timed_network_node_registers *node = &network->node[c];
     struct bytes part = network->part[c];
-    if (op_at(node, part) == SEND) {
+    uint8_t op = op_at(node, part);
+    if (op == SEND) {
         uint8_t channel = part.at[node->pc + 1];
         unsigned other = listener(network, c, channel);
         take_message(where, &network->node[other], network->part[other], channel);
+        network->finish[other] = tick;
     }
+    if (op >= DONE && op <= LISTEN)
+        network->finish[c] = tick;
     step(where, node, part, network->clocks[c], network->variables[c]);
 }
 
@@ -219,7 +227,7 @@ void nodes_run(enum where where, const struct stored *stored) {
                 fail("more is shown than the run observes");
             observe(shown + OBSERVATION * size++, &network, c, tick);
         }
-        finish(where, &network, c);
+        finish(where, &network, c, tick);
     }
     if (size != ran.size || memcmp(shown, observations, OBSERVATION * size) != 0)
         fail("the nodes show something else than the run observes");

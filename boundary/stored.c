@@ -195,6 +195,35 @@ static void read_questions(const char *root, char *name, struct bytes table) {
     }
 }
 
+static int is_there(const char *root, const char *path) {
+    char full[1024];
+    snprintf(full, sizeof full, "%s/%s", root, path);
+    FILE *file = fopen(full, "rb");
+    return file != NULL && fclose(file) == 0;
+}
+
+/* Runs of a table of the corpus, if it has some: spread, offsets, choices, answer a line. */
+static void read_runs(const char *root, char *name, struct bytes table) {
+    char path[300], waking[300];
+    snprintf(path, sizeof path, "corpus/%s.runs", name);
+    if (!is_there(root, path))
+        return;
+    char *line = (char *)read_file(root, path).at;
+    while (*line != 0) {
+        char *next = cut(line, '\n');
+        char *offsets = cut(line, ' ');
+        char *choices = cut(offsets, ' ');
+        struct stored *stored = add(name, RUN_APART, cut(choices, ' '));
+        stored->table = table;
+        stored->lent = MAX_OBSERVATIONS;
+        stored->choices = from_hex(choices);
+        int none = strcmp(offsets, "-") == 0;
+        snprintf(waking, sizeof waking, none ? "%s" : "%s %s", line, offsets);
+        read_waking(&stored->waking, waking);
+        line = next;
+    }
+}
+
 /* Where tables of the corpus are refused: a name, and a place or an opening, a line. */
 static void read_places(const char *root) {
     char *line = (char *)read_file(root, "corpus/places.tsv").at;
@@ -209,7 +238,7 @@ static void read_places(const char *root) {
     }
 }
 
-/* A table of the corpus: its verdict, and its schedule and its reasons if accepted. */
+/* A table of the corpus: its verdict, and if accepted its schedule, reasons and runs. */
 static void read_corpus(const char *root) {
     char *line = (char *)read_file(root, "corpus/answers.tsv").at;
     while (*line != 0) {
@@ -229,6 +258,7 @@ static void read_corpus(const char *root) {
                     text.at[i] = i + 1 < text.length ? '|' : 0;
             add(line, SCHEDULE, (char *)text.at)->table = table;
             read_questions(root, line, table);
+            read_runs(root, line, table);
         }
         line = next;
     }
@@ -245,6 +275,7 @@ void stored_read(const char *root) {
     read_vectors(root, "vectors/apart.tsv");
     read_vectors(root, "vectors/reasons.tsv");
     read_vectors(root, "vectors/budgets.tsv");
+    read_vectors(root, "vectors/finishes.tsv");
     read_vectors(root, "vectors/places.tsv");
     read_corpus(root);
     read_places(root);

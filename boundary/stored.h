@@ -8,7 +8,7 @@ struct stored {
     char *name;
     enum call request;        /* CHECK to REASONS */
     struct bytes table;       /* for PART the program */
-    size_t lent;              /* for TIMING_CHART, PLAN, RUN_APART and REASONS */
+    size_t lent;              /* for TIMING_CHART, PLAN, RUN, RUN_APART and REASONS */
     struct slots slots;       /* for PLAN, which has no table */
     struct bytes choices;     /* for RUN and RUN_APART */
     struct waking waking;     /* for RUN_APART; for CHECK_SPREAD the spread */

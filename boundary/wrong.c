@@ -106,9 +106,12 @@ timed_network_run_numbers __wrap_timed_network_run(const uint8_t *table, size_t 
     if (wrong(15) && answer.number == 13 && observations_length > 0)
         observations[0] = 0; /* writes where too little is lent */
     if (wrong(16) && answer.number == 0)
-        observations[32 * answer.size] = 7; /* writes one observation more */
+        observations[TIMED_NETWORK_OBSERVATION * answer.size] = 7; /* one observation more */
     if (wrong(17) && answer.end == 3)
         answer.used += 1; /* counts a choice that is not allowed */
+    if (answer.number == 13 && asks_for_32_bytes(table, length, observations_length))
+        answer.number = 0; /* counts 32 bytes for each passage */
+    spoil_finishes(observations, answer.size, NULL, 0);
     return answer;
 }
 
@@ -313,11 +316,12 @@ __wrap_timed_network_run_apart(const uint8_t *table, size_t length, const uint8_
     if (wrong(74) && answer.number == 20 && observations_length > 0)
         observations[0] = 0; /* writes after that refusal */
     if (wrong(75) && answer.number == 0)
-        observations[32 * answer.size] = 7; /* writes one observation more */
+        observations[TIMED_NETWORK_OBSERVATION * answer.size] = 7; /* one observation more */
     if (wrong(76) && answer.size > 0 && offsets_length > 0)
         observations[7] += (uint8_t)offsets[0]; /* the common tick in an observation */
     if (wrong(77) && answer.number == 19)
         answer.tick = 1; /* a refused run with a tick */
+    spoil_finishes(observations, answer.size, offsets, offsets_length);
     return answer;
 }
 

@@ -14,4 +14,11 @@ int wrong(int fault);
 /* Reads a byte. */
 void touch(const uint8_t *at);
 
+/* Puts wrong finish ticks into so many observations. */
+void spoil_finishes(uint8_t *observations, size_t size, const uint32_t *offsets,
+                    size_t offsets_length);
+
+/* Whether a run with so many bytes lent is let pass, since there are 32 for each passage. */
+int asks_for_32_bytes(const uint8_t *table, size_t length, size_t lent);
+
 #endif

@@ -17,7 +17,7 @@ usage: vanillatarn COMMAND ...
   translate TABLE [-o FILE]                 the program of its nodes
   list PROGRAM                              a program, a statement a line
   part PROGRAM NODE [-o FILE]               the part of a program that belongs to one node
-  run [--spread G] [--offsets A,B,..] TABLE CHOICES
+  run [--spread G] [--offsets A,B,..] [--close N] [--json] TABLE CHOICES
                                             how a run ends, and what is observed
   choices [--early|--late] [--offsets A,B,..] TABLE [-o FILE]
                                             choices that take a run to the horizon
@@ -187,15 +187,21 @@ bytes: what is loaded on that node.
 Exit status: 0 written, 1 the program has no part for this node, or an empty one.
 TEXT
         run) cat <<'TEXT' ;;
-usage: vanillatarn run [--spread G] [--offsets A,B,..] TABLE CHOICES
+usage: vanillatarn run [--spread G] [--offsets A,B,..] [--close N] [--json]
+                       TABLE CHOICES
 
 Runs the programs of the table's nodes together under a list of choices, a byte
 each (0 to 7: that node finishes its statement; 255: a tick passes). Prints how
-the run ended, the tick, the choices used, and each observation.
+the run ended, the tick, the choices used, and each observation. Its last column,
+finished, is the tick at which the node's previous work finished, for a receive
+the message or the timeout; - in a node's first.
 
+--close:   only the observations whose previous work finished N ticks or less
+           before its window's end (0: at the end), and how many there are
+--json:    an object (docs/FORMATS.md)
 --offsets: the ticks at which nodes 0, 1 and so on wake, with commas between
            them; those left out are 0. Until its tick a node's clock stands at 0
-           and it may not be chosen. An observation has the tick of its node's
+           and it may not be chosen. An observation has the ticks of its node's
            own clock; the tick at the end is the common one.
 --spread:  the largest offset that there may be (at most 1,000, else 19); without
            it 0. The table has to be accepted at this spread. An offset above it

@@ -51,6 +51,12 @@ read_option() {
             read_offsets "$2"
             taken=2
             ;;
+        --close)
+            has_option c --close
+            (($# > 1)) || misused '--close lacks its number'
+            read_close "$2"
+            taken=2
+            ;;
         --early | --late)
             has_option m "$1"
             manner=$1

@@ -1,12 +1,15 @@
 # `vanillatarn run`, `choices` and `spread`; and nodes that wake apart, the options --spread and --offsets.
 # shellcheck shell=bash
-# shellcheck disable=SC2034,SC2154 # vanillatarn sets table, files, scratch, manner, refused and spread; number is set by read_decimal
+# shellcheck disable=SC2034,SC2154 # vanillatarn sets table, files, form, scratch, manner, broken, refused and spread; number is set by read_decimal
 
 # The offsets with commas between them, as the programs take them: none are given. The largest of them.
 offsets=- largest=0
 
 # What was given already.
 given_spread='' given_offsets=''
+
+# Which observations are printed: those whose previous work finished so many ticks or less before its window's end; all of them without it.
+close=''
 
 read_spread() {
     local number
@@ -31,6 +34,13 @@ read_offsets() {
     offsets="${words[*]}" given_offsets=yes
 }
 
+read_close() {
+    local number
+    [[ -z $close ]] || misused '--close is given twice'
+    read_decimal --close "$1"
+    close=$number
+}
+
 # The option with which the verdict on the table is told, for a message.
 spread_words() {
     [[ $spread == 0 ]] || printf -- '--spread %s ' "$spread"
@@ -51,21 +61,42 @@ do_spread() {
     print_answer 'accepted up to a spread of '
 }
 
+# Writes the run: what the verified program wrote, as --close and --json ask.
+show_run() {
+    local status=0
+    if [[ $form == words && -z $close ]]; then
+        show out
+        return
+    fi
+    need_linked run_observations json_verdicts
+    open_outputs
+    "$tool" "$form" "${close:--}" "$spread" "$offsets" "$scratch/table" "$scratch/choices" "$scratch/out" || status=$?
+    ((status <= broken)) || stop "$broken" 'run_observations failed'
+    ((status == 0)) || exit "$broken"
+}
+
 do_run() {
+    local needed=(program:trial_run)
     [[ $table != - || ${files[1]} != - ]] || misused 'only one of the files can be standard input'
-    take_table program:trial_run
+    [[ $form == words && -z $close ]] || needed+=(linked:run_observations:json_verdicts)
+    take_table "${needed[@]}"
     # The program itself refuses more choices, with 14.
     take "${files[1]}" choices 1000000 ''
     need_program trial_run
     ask "$scratch/table" "$scratch/choices" "$spread" "$offsets"
     case $(first_line out) in
-        'horizon reached' | 'choices used up') show out ;;
+        'horizon reached' | 'choices used up') show_run ;;
         'late: '* | 'choice not allowed: '*)
             [[ $(first_line out) == late* ]] || not_another "${files[1]}" choices 'list of choices' table text program part
-            show out
+            show_run
             exit "$refused"
             ;;
-        'refused '*) refuse out ;;
+        'refused '*)
+            [[ $form == json ]] || refuse out
+            name_kind out
+            show_run
+            exit "$refused"
+            ;;
         *) fail ;;
     esac
 }

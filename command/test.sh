@@ -75,6 +75,7 @@ head -c 65536 /dev/zero >longer
 "$root/vanillatarn" part program.bin 0 -o part0.bin
 "$root/vanillatarn" choices cellar.bin -o early.bin
 "$root/vanillatarn" run cellar.bin early.bin >out
+"$root/vanillatarn" run --json cellar.bin early.bin >out
 rm cellar.bin plan.bin program.bin part0.bin early.bin
 
 ## Help
@@ -409,7 +410,7 @@ chart cellar.bin -o file|'chart' has no option -o
 translate --late cellar.bin|'translate' has no option --late
 TEXT
 
-for part in build kinds numbers why spread verdict places svg install words; do
+for part in build kinds numbers why spread finishes verdict places svg install words; do
     # shellcheck source=/dev/null # build first: others use its root
     source "$root/command/test_$part.sh"
 done

@@ -163,9 +163,9 @@ gives expected
 
 ## Runs
 
-# The columns of an observation's 32 bytes.
+# The columns of an observation's 36 bytes, or of the first 32, which the vectors older than wish 9 have: those have no finish tick.
 columns() {
-    local place number
+    local place number finish=${1:64:8}
     printf '%d %d %d %d' "0x${1:0:2}" "0x${1:2:2}" "0x${1:4:2}" "0x${1:8:8}"
     for place in 16 24 32 40; do
         printf ' %d' "0x${1:place:8}"
@@ -174,7 +174,21 @@ columns() {
         number=$((16#${1:place:4}))
         printf ' %d' "$((number > 32767 ? number - 65536 : number))"
     done
+    case $finish in
+        '') ;;
+        ffffffff) printf ' -' ;;
+        *) printf ' %d' "0x$finish" ;;
+    esac
     echo
+}
+
+# What a run printed without its columns' blanks; where the stored answer in $1 has no finish ticks, without their column.
+without_blanks() {
+    if [[ $1 =~ \|[0-9a-f]{72}$ ]]; then
+        sed -E 's/^ +//; s/ +/ /g' out
+    else
+        sed -E -e 's/^ +//; s/ +/ /g' -e '/^node edge/,$ s/ [^ ]*$//' out
+    fi
 }
 
 # The line with the offsets of so many nodes; nothing where all of them are 0.
@@ -202,21 +216,23 @@ told_of() {
     esac
     echo "tick $tick, choices used $used, observations ${#observations[@]}"
     [[ -z $line ]] || echo "$line"
-    echo 'node edge location tick x0 x1 x2 x3 v0 v1 v2 v3'
+    echo "node edge location tick x0 x1 x2 x3 v0 v1 v2 v3$([[ ! $answer =~ \|[0-9a-f]{72}$ ]] || echo ' finished')"
     for observation in "${observations[@]}"; do
         columns "$observation"
     done
 }
 
-# Each run of the vectors.
-tried=0
+# Each run of the vectors of nodes that wake apart and of finish ticks.
+tried=0 finishes=0
 while IFS=$'\t' read -r name request answer; do
     read -r word hex choices spread offsets <<<"$request"
     [[ $word == run && $hex != - ]] || continue
     bytes_of "$hex" >vector.bin
     bytes_of "$choices" >vector.choices
-    words=(--spread "$spread")
+    words=()
+    [[ -z $spread ]] || words+=(--spread "$spread")
     [[ -z $offsets ]] || words+=(--offsets "$offsets")
+    [[ ! $answer =~ \|[0-9a-f]{72}$ ]] || finishes=$((finishes + 1))
     call run "${words[@]}" vector.bin vector.choices
     what="vanillatarn run ${words[*]}, $name"
     if [[ $answer == refused* ]]; then
@@ -225,12 +241,13 @@ while IFS=$'\t' read -r name request answer; do
     else
         says "$([[ $answer == [01]' '* ]] && echo 0 || echo 1)"
         told_of "$answer" "$choices" "$(offset_line "$((16#${hex:6:2}))" "$offsets")" >expected
-        sed -E 's/^ +//; s/ +/ /g' out >found
+        without_blanks "$answer" >found
         check 'what is printed is the stored answer' cmp -s expected found
     fi
     tried=$((tried + 1))
-done <"$root/vectors/apart.tsv"
-check 'there are such vectors' test "$tried" -gt 50
+done < <(cat "$root/vectors/apart.tsv" "$root/vectors/finishes.tsv")
+check 'there are such vectors' test "$tried" -gt 120
+check 'there are those with finish ticks' test "$finishes" -gt 70
 
 # Without a spread and offsets, with a spread of 0, and with offsets of 0 it is the run of before.
 for words in '--spread 0' '--offsets 0' '--offsets 0,0 --spread 0' '--offsets 0,0,0,0,0,0,0,0' '--spread 0000 --offsets 00,0'; do
@@ -249,9 +266,9 @@ for words in '2,0' '0,2' '1' '2,2' '0,0' '2,1,900'; do
         call run --spread 2 --offsets "$words" wide.bin apart.choices
         says 0
         starts 'horizon reached'
-        sed -n '/^node edge/,$p' out >"seen$manner"
+        sed -n -E '/^node edge/,$ s/ +[^ ]*$//p' out >"seen$manner"
     done
-    check 'what is observed does not hang on the choices' cmp -s <(sort seen--early) <(sort seen--late)
+    check 'what is observed does not hang on the choices, but for the finish ticks' cmp -s <(sort seen--early) <(sort seen--late)
 done
 call choices wide.bin
 cp out expected

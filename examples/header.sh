@@ -73,6 +73,7 @@ constant() {
 for name in FIELDS MAX_PASSAGES CHART_ROW REASON MAX_PLAN MAX_PROGRAM OBSERVATION MAX_CHOICES MAX_SPREAD MAX_BUDGET TICK; do
     fact "$name is another one in the wrapper in Rust" test "$(macro $name)" = "$(constant $name)"
 done
+fact "NO_WORK is another one in the wrapper in Rust" test "$(macro NO_WORK)" = "$(constant NO_WORK)u"
 
 # The version is that of the file; its number follows from it.
 version=$(cat VERSION)

@@ -30,8 +30,8 @@
  * The version of this header and its archive, as words and as a number that
  * grows: 10,000 x major + 100 x minor + patch.
  */
-#define TIMED_NETWORK_VERSION "0.8.0"
-#define TIMED_NETWORK_VERSION_NUMBER 800
+#define TIMED_NETWORK_VERSION "0.9.0"
+#define TIMED_NETWORK_VERSION_NUMBER 900
 
 /*
  * Limits and sizes. "Enough" is what a buffer needs for any table.
@@ -49,8 +49,9 @@
 #define TIMED_NETWORK_REASONS_ENOUGH (3 * 32)           /* bytes of a question's */
 #define TIMED_NETWORK_MAX_PLAN 414                      /* bytes of a plan: enough */
 #define TIMED_NETWORK_MAX_PROGRAM 24576                 /* bytes of a program: enough */
-#define TIMED_NETWORK_OBSERVATION 32                    /* bytes of an observation */
-#define TIMED_NETWORK_OBSERVATIONS_ENOUGH (32 * 1024)   /* bytes of a run's */
+#define TIMED_NETWORK_OBSERVATION 36                    /* bytes of an observation */
+#define TIMED_NETWORK_OBSERVATIONS_ENOUGH (36 * 1024)   /* bytes of a run's */
+#define TIMED_NETWORK_NO_WORK 4294967295u               /* no finish tick */
 #define TIMED_NETWORK_MAX_CHOICES 1000000               /* choices of a run */
 #define TIMED_NETWORK_MAX_SPREAD 1000                   /* ticks of a spread */
 #define TIMED_NETWORK_MAX_BUDGET 60000                  /* ticks of an edge's budget */
@@ -489,7 +490,7 @@ timed_network_part(const uint8_t *program, size_t program_length, uint8_t node);
  * number, component: as in a verdict, with two numbers more, tried in this
  * order after 1 to 12:
  *
- *  13  fewer bytes are lent than 32 for each passage of the schedule;
+ *  13  fewer bytes are lent than 36 for each passage of the schedule;
  *      component 255
  *  14  there are more than 1,000,000 choices; component 255
  *
@@ -530,14 +531,17 @@ typedef struct timed_network_run_numbers {
  *                      pointer is not read.
  * observations:        the first of `observations_length` bytes that can be
  *                      written.
- * observations_length: how many bytes there are. 32 x 1,024 are always
+ * observations_length: how many bytes there are. 36 x 1,024 are always
  *                      enough. It may be 0; then the pointer is not used.
  *
- * Each observation takes 32 bytes: component, edge, location, 0, tick (4
+ * Each observation takes 36 bytes: component, edge, location, 0, tick (4
  * bytes), four clocks (4 bytes each), four variables (2 bytes each), absent
- * ones 0; the first byte of a number is its highest. They stand in the order
- * in which they were made from the front on. The bytes past them stay as they
- * were, even where there is room for more; after a refusal all of them do.
+ * ones 0; then the finish tick (4 bytes): when the node's previous work was
+ * finished, for a receive by the message or the timeout. It lies in the window
+ * of the node's passage before; a node's first observation has 4,294,967,295.
+ * The first byte of a number is its highest. They stand in the order in which
+ * they were made from the front on. The bytes past them stay as they were, even
+ * where there is room for more; after a refusal all of them do.
  *
  * The observations must overlap neither the table nor the choices.
  */
@@ -564,10 +568,11 @@ timed_network_run(const uint8_t *table, size_t length,
  * observations,
  * observations_length: as for timed_network_run.
  *
- * A node does everything by its own clock, and an observation's tick is that of
- * its node's own clock. The tick in the answer and the horizon are the common
- * ones. The observations stand in the order in which they were made, so their
- * ticks need not rise from one node's to another's.
+ * A node does everything by its own clock, and both ticks of an observation are
+ * those of its node's own clock: of one message the sender and the receiver have
+ * different finish ticks where they woke apart. The tick in the answer and the
+ * horizon are the common ones. The observations stand in the order in which they
+ * were made, so their ticks need not rise from one node's to another's.
  *
  * Refused as timed_network_check_spread refuses at this spread, then with 13
  * and 14 as timed_network_run refuses, then with one number more, component

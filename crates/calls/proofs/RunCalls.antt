@@ -13,12 +13,12 @@ use Rattle.model.specs.Table.{Read, size}
 use Rattle.model.specs.Places.{Valid, readOf}
 use Rattle.model.specs.Schedule.{Passage}
 use Rattle.model.specs.Checks.{acceptedScheduleAt}
-use Rattle.model.specs.Run.{Setting, Result, settingAt, run, observationBytes}
+use Rattle.model.specs.Run.{Setting, Result, settingAt, run, observationWidth, writtenBytes, writtenIn}
 use Rattle.model.specs.Demand3.{ticksIn}
 use Rattle.model.specs.Apart.{Permitted, Demand3Apart}
 use Rattle.model.specs.Calls.{readAt, offsetsFine, RunCall, notRun, ran, runWithAt, runPlannedAt, runReadAt, runCallAt}
 use Rattle.model.proofs.Reader.Located.{valid-read}
-use Rattle.model.proofs.Observations.Size.{observations-long}
+use Rattle.model.proofs.Observations.Size.{all-long}
 use Rattle.model.proofs.Run.CallsApart.{offsets-fine, demanded-apart}
 use Rattle.model.proofs.Run.Few.{few-apart}
 use Rattle.run.specs.Ends.{PlannedApart}
@@ -123,27 +123,27 @@ module _ (G : ℕ) (bs os cs lent : List ℕ) (v : Valid bs) (small : G ≤ 1000
   is-run : runCallAt G bs os cs lent ≡ runWithAt G (readOf bs) S os cs lent
   is-run = of-plan G bs os cs lent v small ∙ ap (λ (x : Answer (List Passage)). runPlannedAt G (readOf bs) x os cs lent) p
 
-  pub too-short : length lent < length S * 32 → runCallAt G bs os cs lent ≡ notRun 13 255 lent
-  too-short h = is-run ∙ rw (lt-ltb (length lent) (length S * 32) h)
+  pub too-short : length lent < length S * observationWidth → runCallAt G bs os cs lent ≡ notRun 13 255 lent
+  too-short h = is-run ∙ rw (lt-ltb (length lent) (length S * observationWidth) h)
 
-  module _ (h : length S * 32 ≤ length lent) where
+  module _ (h : length S * observationWidth ≤ length lent) where
     pub too-many : 1000000 < length cs → runCallAt G bs os cs lent ≡ notRun 14 255 lent
-    too-many k = is-run ∙ rw (le-ltb (length lent) (length S * 32) h, lt-ltb 1000000 (length cs) k)
+    too-many k = is-run ∙ rw (le-ltb (length lent) (length S * observationWidth) h, lt-ltb 1000000 (length cs) k)
 
     module _ (k : length cs ≤ 1000000) where
       pub too-late : offsetsFine G (size (readOf bs .table)) os ≡ false → runCallAt G bs os cs lent ≡ notRun 20 255 lent
-      too-late o = is-run ∙ rw (le-ltb (length lent) (length S * 32) h, le-ltb 1000000 (length cs) k, o)
+      too-late o = is-run ∙ rw (le-ltb (length lent) (length S * observationWidth) h, le-ltb 1000000 (length cs) k, o)
 
       pub is-done : offsetsFine G (size (readOf bs .table)) os ≡ true
           → runCallAt G bs os cs lent ≡ ran (run (settingAt (readOf bs) (readOf bs .horizon) S os) cs) lent
-      is-done o = is-run ∙ rw (le-ltb (length lent) (length S * 32) h, le-ltb 1000000 (length cs) k, o)
+      is-done o = is-run ∙ rw (le-ltb (length lent) (length S * observationWidth) h, le-ltb 1000000 (length cs) k, o)
 
 -- ## What the run answers
 
 -- the bytes that a run leaves are those of the call
 pub bytes-done : (g : Setting) (cs lent later : List ℕ)
-    → later ≡ each observationBytes (run g cs .state .observations) ++ drop (length (run g cs .state .observations) * 32) lent → later ≡ ran (run g cs) lent .lent
-bytes-done g cs lent later e = e ∙ rw (observations-long (run g cs .state .observations))
+    → later ≡ each writtenBytes (writtenIn (run g cs .state)) ++ drop (length (writtenIn (run g cs .state)) * observationWidth) lent → later ≡ ran (run g cs) lent .lent
+bytes-done g cs lent later e = e ∙ rw (all-long (writtenIn (run g cs .state)))
 
 module _ (bs : List ℕ) (v : Valid bs) {rows os : List ℕ} {n : ℕ} (P : PlannedApart bs rows n os) (cs : List ℕ) where
   abbrev result : Result

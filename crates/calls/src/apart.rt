@@ -8,9 +8,10 @@ ghost use Rattle.model.specs.Reader.{byte};
 ghost use Rattle.model.specs.Places.{Valid, readOf};
 ghost use Rattle.model.specs.Schedule.{Passage};
 ghost use Rattle.model.specs.Checks.{acceptedScheduleAt};
-ghost use Rattle.model.specs.Run.{settingAt, run};
+ghost use Rattle.model.specs.Run.{settingAt, run, observationWidth};
 ghost use Rattle.model.specs.Calls.{notRun, ran, endOf, offsetsFine, runCallAt, Demand3ApartOf};
 ghost use Rattle.model.specs.Observations.{ObservationsReadAt};
+ghost use Rattle.model.specs.Finishes.{FinishesApartOf};
 ghost use Rattle.table.specs.Directory.{startsOf};
 ghost use Rattle.run.specs.Ends.{Planned, PlannedApart};
 ghost use Rattle.calls.specs.Ran.{Answers};
@@ -70,7 +71,7 @@ fn run_permitted(
     choices: &[u8],
     observations: &mut [u8],
 ) -> Ran
-    requires { ⌜ Valid (now table) × (starts ≡ startsOf (now table) (byte (now table) 3)) × PlannedApart (now table) (now rows) count (now offsets) × (count * 32 ≤ length (now observations)) × (length (now choices) ≤ 1000000) ⌝ }
+    requires { ⌜ Valid (now table) × (starts ≡ startsOf (now table) (byte (now table) 3)) × PlannedApart (now table) (now rows) count (now offsets) × (count * observationWidth ≤ length (now observations)) × (length (now choices) ≤ 1000000) ⌝ }
     ensures { λ r. ⌜ ((G : ℕ) (S : List Passage) → acceptedScheduleAt G (readOf (now (table .entry))) ≡ accepted S → Answers (ran (run (settingAt (readOf (now (table .entry))) (readOf (now (table .entry)) .horizon) S (now (offsets .entry))) (now (choices .entry))) (now (observations .entry))) r (now (observations .exit))) ⌝ }
 {
     let e = run::run_table(table, starts, rows, count, offsets, choices, observations);
@@ -141,9 +142,9 @@ fn run_read(
     }
 }
 
-// Runs the programs of a table accepted at a spread under a list of choices, each node with an offset within the spread; 32 bytes an
-// observation. Every number and every lent byte is the definition's, demand 3 for nodes that wake apart holds of the run, and what was
-// written, read back, is what the run observed.
+// Runs the programs of a table accepted at a spread under a list of choices, each node with an offset within the spread; 36 bytes an
+// observation. Every number and every lent byte is the definition's, demand 3 for nodes that wake apart holds of the run, what was
+// written, read back, is what the run observed, and the tick in each observation lies in the previous window.
 pub fn run_apart(
     table: &[u8],
     choices: &[u8],
@@ -151,7 +152,7 @@ pub fn run_apart(
     offsets: &[u32],
     observations: &mut [u8],
 ) -> Ran
-    ensures { λ r. ⌜ Answers (runCallAt spread (now (table .entry)) (now (offsets .entry)) (now (choices .entry)) (now (observations .entry))) r (now (observations .exit)) × Demand3ApartOf spread (now (table .entry)) (now (offsets .entry)) (now (choices .entry)) × ObservationsReadAt spread (now (table .entry)) (now (offsets .entry)) (now (choices .entry)) (now (observations .entry)) ⌝ }
+    ensures { λ r. ⌜ Answers (runCallAt spread (now (table .entry)) (now (offsets .entry)) (now (choices .entry)) (now (observations .entry))) r (now (observations .exit)) × Demand3ApartOf spread (now (table .entry)) (now (offsets .entry)) (now (choices .entry)) × ObservationsReadAt spread (now (table .entry)) (now (offsets .entry)) (now (choices .entry)) (now (observations .entry)) × FinishesApartOf spread (now (table .entry)) (now (offsets .entry)) (now (choices .entry)) ⌝ }
 {
     let r = table::read_at(table, spread);
     let v = r.verdict;

@@ -14,6 +14,7 @@ ghost use Rattle.model.specs.Program.{partOf, within};
 ghost use Rattle.model.specs.Calls.{checkCall, scheduleCall, translateCall, runCall, Demand3Of};
 ghost use Rattle.model.specs.Acceptance.{Accepts};
 ghost use Rattle.model.specs.Observations.{ObservationsRead};
+ghost use Rattle.model.specs.Finishes.{FinishesOf};
 ghost use Rattle.table.specs.Directory.{startsOf};
 ghost use Rattle.calls.specs.Ran.{Answers};
 use model::End;
@@ -151,11 +152,11 @@ pub fn part<'a>(program: &'a [u8], node: u8) -> &'a [u8]
     program::part(program, node)
 }
 
-// Runs an accepted table's programs under a list of choices; 32 bytes an observation. Every number and every lent byte is the definition's,
-// demand 3 holds of the run, and what was written, read back, is what the run observed. It is the run of nodes that wake apart, without a
+// Runs an accepted table's programs under a list of choices; 36 bytes an observation. Every number and every lent byte is the definition's,
+// demand 3 holds of the run, what was written, read back, is what the run observed, and its ticks lie in the previous windows. It is the run of nodes that wake apart, without a
 // spread and without offsets.
 pub fn run(table: &[u8], choices: &[u8], observations: &mut [u8]) -> Ran
-    ensures { λ r. ⌜ Answers (runCall (now (table .entry)) (now (choices .entry)) (now (observations .entry))) r (now (observations .exit)) × Demand3Of (now (table .entry)) (now (choices .entry)) × ObservationsRead (now (table .entry)) (now (choices .entry)) (now (observations .entry)) ⌝ }
+    ensures { λ r. ⌜ Answers (runCall (now (table .entry)) (now (choices .entry)) (now (observations .entry))) r (now (observations .exit)) × Demand3Of (now (table .entry)) (now (choices .entry)) × ObservationsRead (now (table .entry)) (now (choices .entry)) (now (observations .entry)) × FinishesOf (now (table .entry)) (now (choices .entry)) ⌝ }
 {
     let none = [0u32; 1];
     apart::run_apart(table, choices, 0, &none[0..0], observations)

@@ -1,17 +1,17 @@
 -- One choice of a node, by what the node stands at. Assumes nothing.
 use mathlib.Core.Path.{_≡_, refl, sym}
-use mathlib.Core.Bool.{true, false}
-use mathlib.Core.List.{List, [], _∷_}
+use mathlib.Core.Bool.{true, false, cond}
+use mathlib.Core.List.{[], _∷_}
 use Prim.Native.Nat.{ℕ, _≤_, _<_}
 use native.Mathlib.Omega.{arith}
 use borrow.Author.Tests.{lt-ltb, le-ltb, le-leb, lt-leb, ne-eqb, not-true, not-false}
 use lib.ListN.{length}
 use Rattle.model.specs.Lists.{isNone}
-use Rattle.model.specs.Network.{Work, one}
-use Rattle.model.specs.Run.{Setting, offsetOf, ownTick, Run, forbidden, on, nodeOf, standOf, Stand, sleeping, sending, listening, finishing, adding, working, taking, elsewhere, nowhere, observes, moved, finished, finishes, choose1}
+use Rattle.model.specs.Network.{one}
+use Rattle.model.specs.Run.{Setting, offsetOf, ownTick, previousFinish, Run, forbidden, on, nodeOf, standOf, Stand, sleeping, sending, listening, finishing, adding, working, taking, elsewhere, nowhere, observes, moved, finished, finishes, choose1}
 use Rattle.model.proofs.Basics.Bools.{clash}
 use Rattle.stand.specs.Stands.{mayFinish}
-use Rattle.machine.proofs.Ops.{plain}
+use Rattle.machine.proofs.Ops.{plain, lastStand}
 
 module _ (g : Setting) (s : Run) (b : ℕ) where
   -- a number below 255 chooses the node, if it is awake
@@ -31,20 +31,20 @@ module _ (g : Setting) (s : Run) (b : ℕ) where
 
   -- a sleep
   pub sleep-over : mayFinish (ownTick g b (s .tick)) (nodeOf s b) sleeping ≡ true
-      → finishes g s b sleeping ≡ on (moved s b (finished g s b) (observes b (ownTick g b (s .tick)) (nodeOf s b) ∷ []) [])
+      → finishes g s b sleeping ≡ on (moved s b (finished g s b) (observes b (ownTick g b (s .tick)) (nodeOf s b) ∷ []) (previousFinish g b (s .works) ∷ []) [])
   sleep-over e = rw e
 
   -- what may be finished without another node, and is no sleep
   pub done-alone : (st : Stand) → plain st ≡ true → mayFinish (ownTick g b (s .tick)) (nodeOf s b) st ≡ true
-      → (ws : List Work) × (finishes g s b st ≡ on (moved s b (finished g s b) [] ws))
+      → finishes g s b st ≡ on (moved s b (finished g s b) [] [] (cond (lastStand st) (one b (s .tick) ∷ []) []))
   done-alone sleeping p e = clash p
   done-alone (sending k) p e = clash p
-  done-alone (listening qs) p e = (one b (s .tick) ∷ [], rw e)
-  done-alone finishing p e = (one b (s .tick) ∷ [], refl)
-  done-alone (adding v z) p e = ([], rw e)
-  done-alone working p e = ([], refl)
-  done-alone taking p e = ([], rw (not-true (isNone (nodeOf s b .kept)) e))
-  done-alone elsewhere p e = ([], refl)
+  done-alone (listening qs) p e = rw e
+  done-alone finishing p e = refl
+  done-alone (adding v z) p e = rw e
+  done-alone working p e = refl
+  done-alone taking p e = rw (not-true (isNone (nodeOf s b .kept)) e)
+  done-alone elsewhere p e = refl
   done-alone nowhere p e = clash e
 
   -- a sleep whose tick is another

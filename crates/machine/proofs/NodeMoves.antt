@@ -1,6 +1,7 @@
 -- What stands in the slices after a node's registers were put back, and after it has finished its statement or taken a message. Assumes nothing.
 use mathlib.Core.Path.{_≡_, refl, sym, ap, ap₂, subst, _∙_}
 use mathlib.Core.Logic.{_⊎_, ⊎-elim}
+use mathlib.Core.Bool.{Bool, true, false, cond}
 use mathlib.Core.List.{List}
 use Prim.Native.Nat.{ℕ, suc, _+_, _*_, _≤_, _<_}
 use native.Mathlib.Omega.{arith}
@@ -19,7 +20,7 @@ use Rattle.stand.specs.Stands.{dueTick, lastTick}
 use Rattle.registers.specs.Words.{wordIn, nodeIn, partIn, heldIn, Eight, Stored}
 use Rattle.registers.proofs.Frames.{node-alike, part-alike, held-alike, stored-part, same-trans, put-there, put-beside, put-node, put-others, put-eight, stored-eight}
 use Rattle.statement.specs.Done.{Finished}
-use Rattle.machine.specs.Running.{RowIs, readyAt, viewIn, NodeStands}
+use Rattle.machine.specs.Running.{RowIs, readyAt, viewIn, finishesWork, NodeStands}
 use Rattle.machine.specs.Chosen.{opOf, Inside, Noted, NodePut, RowPassed, NodeMoved}
 use Rattle.machine.proofs.Lent.{lent, lent-is, lent-short}
 use Rattle.machine.proofs.Sleeps.{sleep-finished, work-finished, message-taken}
@@ -48,6 +49,10 @@ module _ (program rows : List ℕ) (n : ℕ) (l : List ℕ) (v : List ℤ) (c : 
   kept-wake : wordIn l₃ c 28 ≡ wordIn l₁ c 28
   kept-wake = put-beside l₂ c 27 last b 28 (λ z. omega arith) ∙ put-beside l₁ c 26 due a 28 (λ z. omega arith)
 
+  -- and when its last work finished
+  kept-finish : wordIn l₃ c 29 ≡ wordIn l₁ c 29
+  kept-finish = put-beside l₂ c 27 last b 29 (λ z. omega arith) ∙ put-beside l₁ c 26 due a 29 (λ z. omega arith)
+
   node : nodeIn l₃ v₁ c ≡ q
   node = put-node l₂ c 27 last b v₁ (omega arith) ∙ put-node l₁ c 26 due a v₁ (omega arith) ∙ s .node
 
@@ -69,6 +74,7 @@ module _ (program rows : List ℕ) (n : ℕ) (l : List ℕ) (v : List ℤ) (c : 
         node = node;
         beside = λ k i m. kept k m ∙ s .beside k i (omega arith);
         wakes = kept-wake ∙ s .beside 28 (omega arith) (omega arith);
+        finish = kept-finish ∙ s .beside 29 (omega arith) (omega arith);
         due =
             put-beside l₂ c 27 last b 26 (λ z. omega arith) ∙ put-there l₁ c 26 due a (eight₁ .words) h (omega arith) ∙ ed
             ∙ ap₂ (λ (x : Rattle.model.specs.Machine.Node) (k : ℕ). dueTick x (standOf x) + k) same (sym kept-wake);
@@ -128,6 +134,9 @@ module _ (program rows : List ℕ) (n : ℕ) (l : List ℕ) (v : List ℤ) (c : 
 
   wakes-same : wordIn l′ c 28 ≡ wordIn l c 28
   wakes-same = p .wakes ∙ w .beside 28 (omega arith) (λ z. omega arith)
+
+  pub finish-same : wordIn l′ c 29 ≡ wordIn l c 29
+  finish-same = p .finish ∙ w .beside 29 (omega arith) (λ z. omega arith)
 
   held-same : heldIn l′ c ≡ heldIn l c
   held-same = held-alike l l′ c fixed
@@ -224,7 +233,7 @@ module _ (program rows : List ℕ) (n : ℕ) (l : List ℕ) (v : List ℤ) (c ba
   pub finish-moved : (r : Node) (op : ℕ) (l₁ : List ℕ) → r ≡ nodeIn l v c → op ≡ opIn (drop (r .pc) (lent program base size))
       → nodeOf (lent program base size) held q ≡ finish (lent program base size) (nodeOf (lent program base size) held r) (nodeOf (lent program base size) held r .rest)
       → Grown r q → Passing rows n l c op l₁ → NodePut program rows n l₁ v c q l′ v′
-      → NodeMoved program rows n l v c (finish (partIn program l c) (viewIn program l v c) (viewIn program l v c .rest)) l′ v′
+      → NodeMoved program rows n l v c (finish (partIn program l c) (viewIn program l v c) (viewIn program l v c .rest)) l′ v′ × (wordIn l′ c 29 ≡ wordIn l c 29)
   finish-moved r op l₁ er eo ef g way p =
       let part = partIn program l c in
       let r₀ = nodeIn l v c in
@@ -241,7 +250,7 @@ module _ (program rows : List ℕ) (n : ℕ) (l : List ℕ) (v : List ℤ) (c ba
       subst (RowSet rows n l c (r₀ .sleeps) (q .sleeps)) (sym (s .1))
       (set-same rows n l c (r₀ .sleeps) (q .sleeps) (work-finished part (heldIn l c) r₀ q f₀ (λ e. s .0 (o₀ ∙ e)))))
       way in
-      node-moved program rows n l v c l₁ q l′ v′ g₀ w p _ f₀
+      (node-moved program rows n l v c l₁ q l′ v′ g₀ w p _ f₀, finish-same program rows n l v c l₁ q l′ v′ g₀ w p)
 
   pub message-moved : (r : Node) (i : ℕ) → r ≡ nodeIn l v c → opOf program l v c ≡ 5
       → q ≡ listened (lent program base size) i r → NodePut program rows n l v c q l′ v′
@@ -307,7 +316,7 @@ passes program rows n l v c base size op l₁ b z e s o a way =
 pub words-moved : (program rows : List ℕ) (n : ℕ) (l : List ℕ) (v : List ℤ) (c base size op pc : ℕ) (l₁ l₂ : List ℕ) (v₂ : List ℤ) (l₃ : List ℕ) → c < 8 → base ≡ wordIn l c 21
     → size ≡ wordIn l c 22 → op ≡ opOf program l v c → Passing rows n l c op l₁ → Passed program l v c base size op l₁
     → Finished (lent program base size) l₁ v c pc l₂ v₂ → Noted (lent program base size) rows n l₂ c l₃
-    → NodeMoved program rows n l v c (finish (partIn program l c) (viewIn program l v c) (viewIn program l v c .rest)) l₃ v₂
+    → NodeMoved program rows n l v c (finish (partIn program l c) (viewIn program l v c) (viewIn program l v c .rest)) l₃ v₂ × (wordIn l₃ c 29 ≡ wordIn l c 29)
 words-moved program rows n l v c base size op pc l₁ l₂ v₂ l₃ h b z o way a f w =
     let bytes = lent program base size in
     let q = f .node in
@@ -320,3 +329,54 @@ words-moved program rows n l v c base size op pc l₁ l₂ v₂ l₃ h b z o way
     (subst (λ (x : Node). Grown x q) (a .node) (f .grown))
     way
     (node-noted (a .eight) h (f .stored) (a .part ∙ sym (stored-part (f .stored) program)) w)
+
+-- ## When its work finished
+
+-- only that word of node c is another
+pub finish-put : {program rows : List ℕ} {n : ℕ} {l : List ℕ} {v : List ℤ} {c : ℕ} {x : Rattle.model.specs.Machine.Node} {l′ : List ℕ} {v′ : List ℤ} {l″ : List ℕ} (tick : ℕ)
+    → NodeMoved program rows n l v c x l′ v′ → l″ ≡ set l′ (c * 32 + 29) tick → NodeMoved program rows n l v c x l″ v′
+finish-put {program} {rows} {n} {l} {v} {c} {x} {l′} {v′} {l″} tick m e =
+    let kept : (k : ℕ) → k < 29 → wordIn l″ c k ≡ wordIn l′ c k = λ k h. put-beside l′ c 29 tick e k (λ z. omega arith) in
+    let node : nodeIn l″ v′ c ≡ nodeIn l′ v′ c = put-node l′ c 29 tick e v′ (omega arith) in
+    let counts : heldIn l″ c ≡ heldIn l′ c = held-alike l′ l″ c (λ k i h. kept k (omega arith)) in
+    let part : partIn program l″ c ≡ partIn program l′ c = part-alike program l′ l″ c (λ k i h. kept k (omega arith)) in
+    let view : viewIn program l″ v′ c ≡ viewIn program l′ v′ c =
+    ap₂ (λ (p : List ℕ) (held : Counts). nodeOf p held (nodeIn l″ v′ c)) part counts ∙ ap (nodeOf (partIn program l′ c) (heldIn l′ c)) node in
+    record {
+      view = view ∙ m .view;
+      stands = λ j s.
+          let a = m .stands j s in
+          record {
+            inside = rw (kept 21 (omega arith), kept 22 (omega arith)) (a .inside);
+            short = rw (kept 22 (omega arith)) (a .short);
+            part = part ∙ a .part;
+            held = subst Held (sym counts) (a .held);
+            within = subst (Within (j + 131070)) (sym node) (a .within);
+            row = rw (kept 20 (omega arith), kept 25 (omega arith)) (a .row);
+            wakes = rw (kept 28 (omega arith)) (a .wakes);
+            due = kept 26 (omega arith) ∙ a .due ∙ sym (ap₂ (λ (q : Rattle.model.specs.Machine.Node) (k : ℕ). dueTick q (standOf q) + k) view (kept 28 (omega arith)));
+            last =
+                kept 27 (omega arith) ∙ a .last
+                ∙ sym
+                (ap₂ (λ (y k : ℕ). y + k) (ap₂ (λ (q : Rattle.model.specs.Machine.Node) (k : ℕ). lastTick q (readyAt (rowsOf rows n) k) (standOf q)) view (kept 25 (omega arith))) (kept 28 (omega arith)));
+          };
+      fixed = λ k i h. kept k (omega arith) ∙ m .fixed k i h;
+      wakes = kept 28 (omega arith) ∙ m .wakes;
+      others = λ i d. same-trans (m .others i d) (put-others l′ c 29 tick e v′ i d (omega arith));
+      eight = put-eight l′ c 29 tick e v′ (m .eight);
+    }
+
+-- it is put where the op finishes a work
+pub finish-noted : {program rows : List ℕ} {n : ℕ} {l : List ℕ} {v : List ℤ} {c : ℕ} {x : Rattle.model.specs.Machine.Node} {l′ : List ℕ} {v′ : List ℤ} {l″ : List ℕ} (op tick : ℕ) → c < 8
+    → NodeMoved program rows n l v c x l′ v′ × (wordIn l′ c 29 ≡ wordIn l c 29) → l″ ≡ cond (finishesWork op) (set l′ (c * 32 + 29) tick) l′
+    → NodeMoved program rows n l v c x l″ v′ × (wordIn l″ c 29 ≡ cond (finishesWork op) tick (wordIn l c 29))
+finish-noted {program} {rows} {n} {l} {v} {c} {x} {l′} {v′} {l″} op tick h m e = go (finishesWork op) e
+  where
+    go : (b : Bool) → l″ ≡ cond b (set l′ (c * 32 + 29) tick) l′ → NodeMoved program rows n l v c x l″ v′ × (wordIn l″ c 29 ≡ cond b tick (wordIn l c 29))
+    go true p = (finish-put tick (m .0) p, put-there l′ c 29 tick p (m .0 .eight .words) h (omega arith))
+    go false p = (subst (λ (y : List ℕ). NodeMoved program rows n l v c x y v′) (sym p) (m .0), ap (λ (y : List ℕ). wordIn y c 29) p ∙ m .1)
+
+-- a message was taken at that tick
+pub finish-heard : {program rows : List ℕ} {n : ℕ} {l : List ℕ} {v : List ℤ} {c : ℕ} {x : Rattle.model.specs.Machine.Node} {l′ : List ℕ} {v′ : List ℤ} {l″ : List ℕ} (tick : ℕ) → c < 8
+    → NodeMoved program rows n l v c x l′ v′ → l″ ≡ set l′ (c * 32 + 29) tick → NodeMoved program rows n l v c x l″ v′ × (wordIn l″ c 29 ≡ tick)
+finish-heard {c = c} {l′ = l′} tick h m e = (finish-put tick m e, put-there l′ c 29 tick e (m .eight .words) h (omega arith))

@@ -4,7 +4,7 @@ use mathlib.Core.Bool.{Bool, true, false}
 use mathlib.Core.List.{List}
 use Prim.Native.Nat.{ℕ, _≤_}
 use native.Mathlib.Omega.{arith}
-use borrow.Author.Tests.{eqb-true, eqb-false}
+use borrow.Author.Tests.{eqb-true, eqb-false, le-leb, lt-leb}
 use lib.Dec.{eqb}
 use lib.ListN.{drop}
 use Rattle.model.specs.Reader.{byte}
@@ -16,6 +16,7 @@ use Rattle.node.specs.declared.Node.{Node}
 use Rattle.node.specs.Views.{restAt, opIn, nodeOf, Addable}
 use Rattle.node.proofs.Ops.{stand-op}
 use Rattle.stand.specs.Stands.{mayFinish, never, dueTick, lastTick}
+use Rattle.machine.specs.Running.{finishesWork}
 use Rattle.stand.proofs.ByOp.{Sort, sleeps, works, adds, ends, sends, listens, takes, between, lost, sort-is, unnamed}
 
 -- it neither sleeps nor sends
@@ -42,7 +43,34 @@ plain-at (takes a e) z f = rw e
 plain-at (between a b c e) z f = rw e
 plain-at (lost a e) z f = rw e
 
+-- it finishes its node's work
+abbrev pub lastStand : Stand → Bool
+lastStand sleeping = false
+lastStand (sending k) = true
+lastStand (listening qs) = true
+lastStand finishing = true
+lastStand (adding v z) = false
+lastStand working = false
+lastStand taking = false
+lastStand elsewhere = false
+lastStand nowhere = false
+
+last-at : {bs : List ℕ} {k : ℕ} {s : Stand} → Sort bs k s → finishesWork k ≡ lastStand s
+last-at (sleeps a e) = rw (a, e) refl
+last-at (works a e) = rw (a, e) refl
+last-at (adds a e) = rw (a, e) refl
+last-at (ends a e) = rw (a, e) refl
+last-at (sends a e) = rw (a, e) refl
+last-at (listens a e) = rw (a, e) refl
+last-at (takes a e) = rw (a, e) refl
+last-at {k = k} (between a b c e) = rw (e, le-leb 3 k (omega arith), lt-leb k 5 (omega arith)) refl
+last-at (lost a e) = rw (a, e) refl
+
 module _ (p : List ℕ) (at : ℕ) where
+  -- the ops that finish a work
+  pub stands-last : finishesWork (opIn (drop at p)) ≡ lastStand (standAt (restAt p at))
+  stands-last = last-at (sort-is p at (opIn (drop at p)) refl)
+
   -- neither a sleep nor a send
   pub stands-plain : (opIn (drop at p) ≡ 0 → ⊥) → (opIn (drop at p) ≡ 4 → ⊥) → plain (standAt (restAt p at)) ≡ true
   stands-plain = plain-at (sort-is p at (opIn (drop at p)) refl)

@@ -10,13 +10,13 @@ use lib.Seq.{sets}
 use Rattle.model.specs.Lists.{each}
 use Rattle.model.specs.Network.{Observation}
 use Rattle.model.specs.Machine.{finish}
-use Rattle.model.specs.Run.{Run, forbidden, on, standOf, choose1, observationBytes}
+use Rattle.model.specs.Run.{Run, forbidden, on, standOf, choose1, observationWidth, writtenBytes, withTicks}
 use Rattle.rows.specs.Rows.{rowsOf}
 use Rattle.node.specs.declared.Counts.{Counts}
 use Rattle.node.specs.declared.Node.{Node}
 use Rattle.node.specs.Views.{opIn, nodeOf}
 use Rattle.stand.specs.Stands.{dueTick, lastTick}
-use Rattle.registers.specs.Words.{wordIn, nodeIn, partIn, Eight, SameNode, placeIn, readyTickIn, partStart, partLength, rowIn, dueIn, lastIn, wakeTickIn}
+use Rattle.registers.specs.Words.{wordIn, nodeIn, partIn, Eight, SameNode, placeIn, readyTickIn, partStart, partLength, rowIn, dueIn, lastIn, wakeTickIn, finishTickIn}
 use Rattle.machine.specs.declared.Moved.{Moved}
 use Rattle.machine.specs.Running.{RowIs, readyAt, settingIn, viewIn, NodeStands, Running}
 
@@ -43,6 +43,7 @@ pub record NodePut (program rows : List ℕ) (n : ℕ) (l : List ℕ) (v : List 
   pub node : nodeIn l′ v′ c ≡ q
   pub beside : (k : ℕ) → 21 ≤ k → k < 26 → wordIn l′ c k ≡ wordIn l c k
   pub wakes : wakeTickIn l′ c ≡ wakeTickIn l c
+  pub finish : finishTickIn l′ c ≡ finishTickIn l c
   pub due : dueIn l′ c ≡ dueTick (viewIn program l′ v′ c) (standOf (viewIn program l′ v′ c)) + wakeTickIn l′ c
   pub last : lastIn l′ c ≡ lastTick (viewIn program l′ v′ c) (readyAt (rowsOf rows n) (rowIn l′ c)) (standOf (viewIn program l′ v′ c)) + wakeTickIn l′ c
   pub others : (i : ℕ) → (i ≡ c → ⊥) → SameNode l v l′ v′ i
@@ -83,8 +84,10 @@ pub record After (program rows : List ℕ) (n H count : ℕ) (b : ℕ) (l : List
   pub used : next .used ≡ suc (s .used)
   pub seen : List Observation
   pub observed : next .observations ≡ s .observations ++ seen
+  pub ticks : List ℕ
+  pub noted : next .previous ≡ s .previous ++ ticks
   pub counted : m .written ≡ written + length seen
-  pub bytes : out′ ≡ sets out (written * 32) (each observationBytes seen)
+  pub bytes : out′ ≡ sets out (written * observationWidth) (each writtenBytes (withTicks seen ticks))
 
 -- Choice b of a node: "After a choice, one node's registers after the statement and nothing of any other node has changed, send and tick excepted."
 -- The last two fields say, for all eight places: of any other node nothing has changed, a send excepted; a send

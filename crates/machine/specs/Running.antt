@@ -1,20 +1,22 @@
 -- The run's state as the code keeps it, in the words of the definitions (model's specs/Run.antt).
 use mathlib.Core.Path.{_≡_}
-use mathlib.Core.Bool.{cond}
+use mathlib.Core.Bool.{Bool, cond, _&&_}
 use mathlib.Core.List.{List, map}
-use Prim.Native.Nat.{ℕ, suc, _+_, _*_, _≤_, _<_}
-use lib.Dec.{ltb}
+use Prim.Native.Nat.{ℕ, suc, _+_, _-_, _*_, _≤_, _<_}
+use lib.Dec.{leb, ltb}
 use lib.IntN.{ℤ}
 use lib.ListN.{length, drop}
-use Rattle.model.specs.Lists.{below}
+use Rattle.model.specs.Lists.{only, below}
 use Rattle.model.specs.Schedule.{Passage, own}
 use Rattle.model.specs.Checks.{passageAt}
 use Rattle.model.specs.Machine.{Node, partBytes}
-use Rattle.model.specs.Run.{Counts, Setting, readyOfNth, Run, standOf}
+use Rattle.model.specs.Network.{Work}
+use Rattle.model.specs.Order.{workTick}
+use Rattle.model.specs.Run.{Counts, Setting, readyOfNth, Run, takesPart, lastOf, noWork, standOf}
 use Rattle.rows.specs.Rows.{rowsOf}
 use Rattle.node.specs.Views.{nodeOf, Held, Within}
 use Rattle.stand.specs.Stands.{never, dueTick, lastTick}
-use Rattle.registers.specs.Words.{nodeIn, partIn, heldIn, Eight, partStart, partLength, rowIn, dueIn, lastIn, wakeTickIn}
+use Rattle.registers.specs.Words.{nodeIn, partIn, heldIn, Eight, partStart, partLength, rowIn, dueIn, lastIn, wakeTickIn, finishTickIn}
 
 -- ## Rows of the schedule
 
@@ -73,6 +75,14 @@ pub record Standing (program rows : List ℕ) (n : ℕ) (l : List ℕ) (v : List
   pub eight : Eight l v
   pub each : (c : ℕ) → c < count → NodeStands program rows n l v c 2000000000000000000
 
+-- when the last of these works that node c has a part in finished, by its own clock
+abbrev pub previousIn : List ℕ → ℕ → List Work → ℕ
+previousIn l c ws = lastOf noWork (map (λ w. workTick w - wakeTickIn l c) (only (takesPart c) ws))
+
+-- a statement with that op finishes its node's work: done, send, listen
+abbrev pub finishesWork : ℕ → Bool
+finishesWork op = leb 3 op && leb op 5
+
 -- the slices are the nodes of s
 pub record Running (program rows : List ℕ) (n : ℕ) (l : List ℕ) (v : List ℤ) (count : ℕ) (s : Run) : Type 0 where
   pub most : count ≤ 8
@@ -80,3 +90,5 @@ pub record Running (program rows : List ℕ) (n : ℕ) (l : List ℕ) (v : List 
   pub eight : Eight l v
   pub nodes : s .nodes ≡ map (viewIn program l v) (below count)
   pub each : (c : ℕ) → c < count → NodeStands program rows n l v c (s .used * 131070)
+  pub finish : (c : ℕ) → c < count → finishTickIn l c ≡ previousIn l c (s .works)
+  pub alike : length (s .previous) ≡ length (s .observations)

@@ -1,7 +1,7 @@
 // The nodes together: one choice, and the whole list of choices (document 01, 'The run'). The programs' bytes are carried out; the rows of
 // the schedule serve lateness alone.
 ghost use mathlib.Core.Path.{_≡_};
-ghost use mathlib.Core.Bool.{true, _&&_};
+ghost use mathlib.Core.Bool.{true, cond, _&&_};
 ghost use mathlib.Core.List.{List, map};
 ghost use Prim.Native.Nat.{ℕ, _+_, _-_, _*_, _≤_, _<_};
 ghost use lib.Dec.{leb};
@@ -10,13 +10,14 @@ ghost use lib.ListN.{length, drop, set};
 ghost use Rattle.model.specs.Lists.{isNone, below};
 ghost use Rattle.model.specs.Schedule.{own};
 ghost use Rattle.model.specs.Machine.{finish};
-ghost use Rattle.model.specs.Run.{Setting, Run, standOf, names, listeners, takesMessage};
+ghost use Rattle.model.specs.Run.{Setting, Run, standOf, names, listeners, takesMessage, observationWidth};
 ghost use Rattle.rows.specs.Rows.{num, rowsOf};
 ghost use Rattle.node.specs.Views.{Held, Within, opIn, Addable};
 ghost use Rattle.stand.specs.Stands.{never, mayFinish};
-ghost use Rattle.registers.specs.Words.{nodeIn, partIn, heldIn, Eight, placeIn, readyTickIn, wakeTickIn};
-ghost use Rattle.machine.specs.Running.{RowsStand, readyAt, viewIn, NodeStands, Standing};
+ghost use Rattle.registers.specs.Words.{nodeIn, partIn, heldIn, Eight, placeIn, readyTickIn, wakeTickIn, finishTickIn};
+ghost use Rattle.machine.specs.Running.{RowsStand, readyAt, viewIn, finishesWork, NodeStands, Standing};
 ghost use Rattle.machine.specs.Chosen.{opOf, Inside, Noted, NodePut, RowPassed, IsFirst, NodeMoved, observesNow, Chosen};
+use model::layout;
 use model::op;
 use node::Node;
 
@@ -111,7 +112,21 @@ fn pass_row(rows: &[u32], passages: usize, words: &mut [u64], c: usize)
     }
 }
 
-// Node c finishes its statement, whose op that is.
+// Notes that tick of node c's own clock as the one at which its last work finished, if a statement with that op finishes a work.
+fn note_finish(words: &mut [u64], c: usize, op: u8, tick: u64)
+    requires { ⌜ (256 ≤ length (now words)) × (c < 8) ⌝ }
+    ensures { λ _. ⌜ now (words .exit) ≡ cond (finishesWork op) (set (now (words .entry)) (c * 32 + 29) tick) (now (words .entry)) ⌝ }
+{
+    if op < op::DONE {
+        return;
+    }
+    if op::LISTEN < op {
+        return;
+    }
+    registers::put_word(words, c, registers::FINISH_TICK, tick);
+}
+
+// Node c finishes its statement, whose op that is, at that tick of its own clock.
 fn finish_node(
     program: &[u8],
     rows: &[u32],
@@ -120,9 +135,10 @@ fn finish_node(
     values: &mut [i16],
     c: usize,
     op: u8,
+    tick: u64,
 )
     requires { ⌜ Eight (now words) (now values) × RowsStand (now rows) passages × (c < 8) × NodeStands (now program) (now rows) passages (now words) (now values) c 3000000000000000000 × (op ≡ opOf (now program) (now words) (now values) c) × Addable (drop (placeIn (now words) c) (partIn (now program) (now words) c)) (heldIn (now words) c) (nodeIn (now words) (now values) c) ⌝ }
-    ensures { λ _. ⌜ NodeMoved (now (program .entry)) (now (rows .entry)) passages (now (words .entry)) (now (values .entry)) c (finish (partIn (now (program .entry)) (now (words .entry)) c) (viewIn (now (program .entry)) (now (words .entry)) (now (values .entry)) c) (viewIn (now (program .entry)) (now (words .entry)) (now (values .entry)) c .rest)) (now (words .exit)) (now (values .exit)) ⌝ }
+    ensures { λ _. ⌜ NodeMoved (now (program .entry)) (now (rows .entry)) passages (now (words .entry)) (now (values .entry)) c (finish (partIn (now (program .entry)) (now (words .entry)) c) (viewIn (now (program .entry)) (now (words .entry)) (now (values .entry)) c) (viewIn (now (program .entry)) (now (words .entry)) (now (values .entry)) c .rest)) (now (words .exit)) (now (values .exit)) × (finishTickIn (now (words .exit)) c ≡ cond (finishesWork op) tick (finishTickIn (now (words .entry)) c)) ⌝ }
 {
     let base = registers::word(words, c, registers::PART_START) as usize;
     let end = base + registers::word(words, c, registers::PART_LENGTH) as usize;
@@ -131,9 +147,10 @@ fn finish_node(
     }
     let pc = statement::finish(&program[base..end], words, values, c, op);
     note(&program[base..end], rows, passages, words, c, pc);
+    note_finish(words, c, op, tick);
 }
 
-// Node i takes a message on the channel.
+// Node i takes a message on the channel, at that tick of its own clock.
 fn hear(
     program: &[u8],
     rows: &[u32],
@@ -142,15 +159,26 @@ fn hear(
     values: &mut [i16],
     i: usize,
     channel: u8,
+    tick: u64,
 )
     requires { ⌜ Eight (now words) (now values) × RowsStand (now rows) passages × (i < 8) × NodeStands (now program) (now rows) passages (now words) (now values) i 3000000000000000000 × (opOf (now program) (now words) (now values) i ≡ 5) ⌝ }
-    ensures { λ _. ⌜ NodeMoved (now (program .entry)) (now (rows .entry)) passages (now (words .entry)) (now (values .entry)) i (takesMessage (partIn (now (program .entry)) (now (words .entry)) i) channel (viewIn (now (program .entry)) (now (words .entry)) (now (values .entry)) i)) (now (words .exit)) (now (values .exit)) ⌝ }
+    ensures { λ _. ⌜ NodeMoved (now (program .entry)) (now (rows .entry)) passages (now (words .entry)) (now (values .entry)) i (takesMessage (partIn (now (program .entry)) (now (words .entry)) i) channel (viewIn (now (program .entry)) (now (words .entry)) (now (values .entry)) i)) (now (words .exit)) (now (values .exit)) × (finishTickIn (now (words .exit)) i ≡ tick) ⌝ }
 {
     let base = registers::word(words, i, registers::PART_START) as usize;
     let end = base + registers::word(words, i, registers::PART_LENGTH) as usize;
     let before = registers::load(words, values, i);
     let next = stand::take_message(&program[base..end], before, channel);
     put_node(program, rows, passages, words, values, i, next);
+    registers::put_word(words, i, registers::FINISH_TICK, tick);
+}
+
+// The clock of node c at a common tick: 0 until it wakes.
+fn own_tick(words: &[u64], c: usize, tick: u64) -> u64
+    requires { ⌜ (256 ≤ length (now words)) × (c < 8) ⌝ }
+    ensures { λ r. ⌜ r ≡ tick - wakeTickIn (now (words .entry)) c ⌝ }
+{
+    let since = registers::word(words, c, registers::WAKE_TICK);
+    if tick < since { 0 } else { tick - since }
 }
 
 // The common tick at which the window of node c began.
@@ -197,7 +225,7 @@ fn listener(program: &[u8], words: &[u64], count: usize, c: usize, channel: u8) 
     8
 }
 
-// Node c, which stands at a send, finishes it, and its listener takes the message. Whether there is a listener.
+// Node c, which stands at a send, finishes it at that common tick, and its listener takes the message. Whether there is a listener.
 fn send_message(
     program: &[u8],
     rows: &[u32],
@@ -206,9 +234,10 @@ fn send_message(
     values: &mut [i16],
     count: usize,
     c: usize,
+    tick: u64,
 ) -> bool
     requires { ⌜ Standing (now program) (now rows) passages (now words) (now values) count × (c < count) × (opOf (now program) (now words) (now values) c ≡ 4) ⌝ }
-    ensures { λ r. ⌜ ((H tick written : ℕ) (out : List ℕ) → wakeTickIn (now (words .entry)) c ≤ tick → Chosen (now (program .entry)) (now (rows .entry)) passages H count tick c (now (words .entry)) (now (values .entry)) out written (record { allowed = r; written = written }) (now (words .exit)) (now (values .exit)) out) ⌝ }
+    ensures { λ r. ⌜ ((H written : ℕ) (out : List ℕ) → wakeTickIn (now (words .entry)) c ≤ tick → Chosen (now (program .entry)) (now (rows .entry)) passages H count tick c (now (words .entry)) (now (values .entry)) out written (record { allowed = r; written = written }) (now (words .exit)) (now (values .exit)) out) ⌝ }
 {
     let base = registers::word(words, c, registers::PART_START) as usize;
     let end = base + registers::word(words, c, registers::PART_LENGTH) as usize;
@@ -218,8 +247,10 @@ fn send_message(
     if 8 <= i {
         return false;
     }
-    finish_node(program, rows, passages, words, values, c, op::SEND);
-    hear(program, rows, passages, words, values, i, channel);
+    let sent = own_tick(words, c, tick);
+    let heard = own_tick(words, i, tick);
+    finish_node(program, rows, passages, words, values, c, op::SEND, sent);
+    hear(program, rows, passages, words, values, i, channel, heard);
     true
 }
 
@@ -257,7 +288,7 @@ fn go_alone(
     out: &mut [u8],
     written: usize,
 ) -> Moved
-    requires { ⌜ Standing (now program) (now rows) passages (now words) (now values) count × (c < count) × (op ≡ opOf (now program) (now words) (now values) c) × (opOf (now program) (now words) (now values) c ≡ 4 → ⊥) × (observesNow (now program) (now words) (now values) c tick ≡ true → written * 32 + 32 ≤ length (now out)) × (written ≤ 1000000) ⌝ }
+    requires { ⌜ Standing (now program) (now rows) passages (now words) (now values) count × (c < count) × (op ≡ opOf (now program) (now words) (now values) c) × (opOf (now program) (now words) (now values) c ≡ 4 → ⊥) × (observesNow (now program) (now words) (now values) c tick ≡ true → written * observationWidth + observationWidth ≤ length (now out)) × (written ≤ 1000000) ⌝ }
     ensures { λ moved. ⌜ ((H common : ℕ) → wakeTickIn (now (words .entry)) c ≤ common → tick ≡ common - wakeTickIn (now (words .entry)) c → Chosen (now (program .entry)) (now (rows .entry)) passages H count common c (now (words .entry)) (now (values .entry)) (now (out .entry)) written moved (now (words .exit)) (now (values .exit)) (now (out .exit))) ⌝ }
 {
     if !may_finish(program, words, values, c, op, tick) {
@@ -269,14 +300,23 @@ fn go_alone(
     if op == op::SLEEP {
         let held = registers::counts(words, c);
         let before = registers::load(words, values, c);
-        observation::put_observation(before, held, c as u8, tick, out, written * 32);
-        finish_node(program, rows, passages, words, values, c, op::SLEEP);
+        let previous = registers::word(words, c, registers::FINISH_TICK);
+        observation::put_written(
+            before,
+            held,
+            c as u8,
+            tick,
+            previous,
+            out,
+            written * layout::OBSERVATION_WIDTH,
+        );
+        finish_node(program, rows, passages, words, values, c, op::SLEEP, tick);
         return Moved {
             allowed: true,
             written: written + 1,
         };
     }
-    finish_node(program, rows, passages, words, values, c, op);
+    finish_node(program, rows, passages, words, values, c, op, tick);
     Moved {
         allowed: true,
         written,
@@ -296,7 +336,7 @@ pub fn choose_node(
     out: &mut [u8],
     written: usize,
 ) -> Moved
-    requires { ⌜ Standing (now program) (now rows) passages (now words) (now values) count × (choice < 255) × (choice < count → wakeTickIn (now words) choice ≤ tick → observesNow (now program) (now words) (now values) choice (tick - wakeTickIn (now words) choice) ≡ true → written * 32 + 32 ≤ length (now out)) × (written ≤ 1000000) ⌝ }
+    requires { ⌜ Standing (now program) (now rows) passages (now words) (now values) count × (choice < 255) × (choice < count → wakeTickIn (now words) choice ≤ tick → observesNow (now program) (now words) (now values) choice (tick - wakeTickIn (now words) choice) ≡ true → written * observationWidth + observationWidth ≤ length (now out)) × (written ≤ 1000000) ⌝ }
     ensures { λ moved. ⌜ ((H : ℕ) → Chosen (now (program .entry)) (now (rows .entry)) passages H count tick choice (now (words .entry)) (now (values .entry)) (now (out .entry)) written moved (now (words .exit)) (now (values .exit)) (now (out .exit))) ⌝ }
 {
     let c = choice as usize;
@@ -318,7 +358,7 @@ pub fn choose_node(
     let pc = registers::word(words, c, registers::PLACE) as usize;
     let op = node::op_at(&program[base..end], pc);
     if op == op::SEND {
-        let allowed = send_message(program, rows, passages, words, values, count, c);
+        let allowed = send_message(program, rows, passages, words, values, count, c, tick);
         return Moved { allowed, written };
     }
     go_alone(

@@ -16,7 +16,7 @@ use Rattle.model.specs.Reader.{readTable}
 use Rattle.model.specs.Schedule.{Passage, sevenOf}
 use Rattle.model.specs.Checks.{acceptedSchedule, acceptedScheduleAt, acceptedScheduleOf}
 use Rattle.model.specs.Program.{programBytes}
-use Rattle.model.specs.Run.{Result, settingAt, settingOf, run, observationBytes}
+use Rattle.model.specs.Run.{Result, settingAt, settingOf, run, observationBytes, observationWidth, writtenBytes, writtenIn}
 use Rattle.model.specs.Demand3.{Demand3}
 use Rattle.model.specs.Apart.{Permitted, Demand3Apart}
 
@@ -153,7 +153,7 @@ notRun n c lent = record { verdict = Refused n c; end = Horizon; tick = 0; used 
 -- the observations' bytes are laid over the front of what was lent
 abbrev pub ran : Result → List ℕ → RunCall
 ran r lent =
-    let bytes = each observationBytes (r .state .observations) in
+    let bytes = each writtenBytes (writtenIn (r .state)) in
     record {
       verdict = Accepted;
       end = endOf (r .end) (r .node);
@@ -163,10 +163,10 @@ ran r lent =
       lent = bytes ++ drop (length bytes) lent;
     }
 
--- 13. "Does the lent buffer hold .. a run's 32 bytes for each passage?" Then 14. "Are there at most 1,000,000 choices?"
+-- 13. "Does the lent buffer hold .. a run's 32 bytes for each passage?" Now "Check 13 counts 36 bytes per passage". Then 14. "Are there at most 1,000,000 choices?"
 abbrev pub runWith : Read → List Passage → List ℕ → List ℕ → RunCall
 runWith t S choices lent =
-    cond (ltb (length lent) (length S * 32)) (notRun 13 255 lent)
+    cond (ltb (length lent) (length S * observationWidth)) (notRun 13 255 lent)
     (cond (ltb 1000000 (length choices)) (notRun 14 255 lent) (ran (run (settingOf t S) choices) lent))
 
 abbrev pub runPlanned : Read → Answer (List Passage) → List ℕ → List ℕ → RunCall
@@ -192,7 +192,7 @@ offsetsFine G (suc n) (o ∷ os) = leb o G && offsetsFine G n os
 
 abbrev pub runWithAt : ℕ → Read → List Passage → List ℕ → List ℕ → List ℕ → RunCall
 runWithAt G t S os choices lent =
-    cond (ltb (length lent) (length S * 32)) (notRun 13 255 lent)
+    cond (ltb (length lent) (length S * observationWidth)) (notRun 13 255 lent)
     (cond (ltb 1000000 (length choices)) (notRun 14 255 lent)
     (cond (offsetsFine G (size (t .table)) os) (ran (run (settingAt t (t .horizon) S os) choices) lent) (notRun 20 255 lent)))
 

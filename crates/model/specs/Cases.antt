@@ -143,14 +143,22 @@ tickAfter T path = onward (follow T (start T) path) (λ s. some (s .tick)) none
 -- ## What a run answers
 
 -- an observation's bytes, for one clock and one variable, all below 256: "component, edge, location, 0, tick (4 bytes), four clocks
--- grown by n (4 each), four variables (2 each); absent ones 0"
-abbrev pub observed : ℕ → ℕ → ℕ → ℕ → ℕ → ℕ → List ℕ
-observed component edge location now clock value =
+-- grown by n (4 each), four variables (2 each); absent ones 0"; then when the previous work finished
+abbrev pub old32 : ℕ → ℕ → ℕ → ℕ → ℕ → ℕ → List ℕ
+old32 component edge location now clock value =
     (component ∷ edge ∷ location ∷ 0 ∷ 0 ∷ 0 ∷ 0 ∷ now ∷ 0 ∷ 0 ∷ 0 ∷ clock ∷ replicate 12 0) ++ (0 ∷ value ∷ replicate 6 0)
+
+-- a node's first
+abbrev pub firstSeen : ℕ → ℕ → ℕ → ℕ → ℕ → ℕ → List ℕ
+firstSeen component edge location now clock value = old32 component edge location now clock value ++ replicate 4 0xff
+
+-- one whose previous work finished at that tick, below 256
+abbrev pub observed : ℕ → ℕ → ℕ → ℕ → ℕ → ℕ → ℕ → List ℕ
+observed component edge location now clock value finish = old32 component edge location now clock value ++ (0 ∷ 0 ∷ 0 ∷ finish ∷ [])
 
 -- the bytes lent to the runs: four more than the eight passages need
 abbrev pub lent : List ℕ
-lent = replicate 260 0xaa
+lent = replicate 292 0xaa
 
 -- end, tick, choices used and number of observations; the lent bytes afterwards are the observations' bytes and so many that are kept
 abbrev pub answered : End → ℕ → ℕ → ℕ → List ℕ → ℕ → RunCall
@@ -170,16 +178,16 @@ refusedWith n c bs = record { verdict = Refused n c; end = Horizon; tick = 0; us
 
 -- hub's and probe's first sleep
 abbrev pub hubSlept : List ℕ
-hubSlept = observed 1 0 0 2 2 0
+hubSlept = firstSeen 1 0 0 2 2 0
 
 abbrev pub bothSlept : List ℕ
-bothSlept = hubSlept ++ observed 0 0 0 3 3 0
+bothSlept = hubSlept ++ firstSeen 0 0 0 3 3 0
 
 -- "They stand in finishing order": one for each passage of the schedule, at its ready
 abbrev pub allSlept : List ℕ
 allSlept =
-    bothSlept ++ observed 0 1 1 8 8 0 ++ observed 1 1 1 9 9 0 ++ observed 1 0 0 12 2 1 ++ observed 0 0 0 13 3 0 ++ observed 0 1 1 18 8 0
-    ++ observed 1 1 1 19 9 1
+    bothSlept ++ observed 0 1 1 8 8 0 3 ++ observed 1 1 1 9 9 0 3 ++ observed 1 0 0 12 2 1 9 ++ observed 0 0 0 13 3 0 8 ++ observed 0 1 1 18 8 0 13
+    ++ observed 1 1 1 19 9 1 13
 
 -- both nodes to their first sleep, two ticks, the hub's sleep, a tick, the probe's sleep
 abbrev pub toTheSend : List ℕ
@@ -204,7 +212,7 @@ bothSend =
     replicate 5 0 ++ replicate 5 1 ++ replicate 5 2 ++ replicate 5 3 ++ (255 ∷ 2 ∷ 3 ∷ 255 ∷ 255 ∷ 0 ∷ 255 ∷ 1 ∷ 0 ∷ 1 ∷ [])
 
 abbrev pub bothSent : List ℕ
-bothSent = observed 2 0 0 1 1 0 ++ observed 3 0 0 1 1 0 ++ observed 0 0 0 3 3 0 ++ observed 1 0 0 4 4 0
+bothSent = firstSeen 2 0 0 1 1 0 ++ firstSeen 3 0 0 1 1 0 ++ firstSeen 0 0 0 3 3 0 ++ firstSeen 1 0 0 4 4 0
 
 abbrev pub Holds : Row → Type 0
 Holds (bytes t bs) = tableBytes t ≡ bs
@@ -267,31 +275,31 @@ rows =
     -- an absent component
     ∷ walks (stepIn 2 0 ∷ []) none
     -- "No choices: end 1, tick 0."
-    ∷ runs workedBytes [] lent (answered UsedUp 0 0 0 [] 260)
+    ∷ runs workedBytes [] lent (answered UsedUp 0 0 0 [] 292)
     -- a byte too few for the eight passages: 13
-    ∷ runs workedBytes [] (replicate 255 0xaa) (refusedWith 13 255 (replicate 255 0xaa))
+    ∷ runs workedBytes [] (replicate 287 0xaa) (refusedWith 13 255 (replicate 287 0xaa))
     -- just enough
-    ∷ runs workedBytes [] (replicate 256 0xaa) (answered UsedUp 0 0 0 [] 256)
+    ∷ runs workedBytes [] (replicate 288 0xaa) (answered UsedUp 0 0 0 [] 288)
     -- a table that is refused is not run
     ∷ runs (tableBytes (worked 0)) (255 ∷ []) lent (refusedWith 3 255 lent)
     -- byte 254
-    ∷ runs workedBytes (254 ∷ []) lent (answered NotAllowed 0 0 0 [] 260)
+    ∷ runs workedBytes (254 ∷ []) lent (answered NotAllowed 0 0 0 [] 292)
     -- an absent node
-    ∷ runs workedBytes (2 ∷ []) lent (answered NotAllowed 0 0 0 [] 260)
+    ∷ runs workedBytes (2 ∷ []) lent (answered NotAllowed 0 0 0 [] 292)
     -- ticks only: hub yet to reach its sleep at 2
-    ∷ runs workedBytes (255 ∷ 255 ∷ 255 ∷ 255 ∷ 255 ∷ []) lent (answered (Late 1) 3 3 0 [] 260)
+    ∷ runs workedBytes (255 ∷ 255 ∷ 255 ∷ 255 ∷ 255 ∷ []) lent (answered (Late 1) 3 3 0 [] 292)
     -- tick while a sleep is due
-    ∷ runs workedBytes (1 ∷ 1 ∷ 1 ∷ 1 ∷ 1 ∷ 255 ∷ 255 ∷ 255 ∷ []) lent (answered NotAllowed 2 7 0 [] 260)
+    ∷ runs workedBytes (1 ∷ 1 ∷ 1 ∷ 1 ∷ 1 ∷ 255 ∷ 255 ∷ 255 ∷ []) lent (answered NotAllowed 2 7 0 [] 292)
     -- listen before its end
-    ∷ runs workedBytes (1 ∷ 1 ∷ 1 ∷ 1 ∷ 1 ∷ 255 ∷ 255 ∷ 1 ∷ 1 ∷ []) lent (answered NotAllowed 2 8 1 hubSlept 228)
+    ∷ runs workedBytes (1 ∷ 1 ∷ 1 ∷ 1 ∷ 1 ∷ 255 ∷ 255 ∷ 1 ∷ 1 ∷ []) lent (answered NotAllowed 2 8 1 hubSlept 256)
     -- send at its end 5
-    ∷ runs workedBytes (toTheSend ++ (255 ∷ 255 ∷ 0 ∷ [])) lent (answered UsedUp 5 18 2 bothSlept 196)
+    ∷ runs workedBytes (toTheSend ++ (255 ∷ 255 ∷ 0 ∷ [])) lent (answered UsedUp 5 18 2 bothSlept 220)
     -- no send by its end 5: late at 6
-    ∷ runs workedBytes (toTheSend ++ (255 ∷ 255 ∷ 255 ∷ 255 ∷ [])) lent (answered (Late 0) 6 18 2 bothSlept 196)
+    ∷ runs workedBytes (toTheSend ++ (255 ∷ 255 ∷ 255 ∷ 255 ∷ [])) lent (answered (Late 0) 6 18 2 bothSlept 220)
     -- send at 3, listener's statement is finished too
-    ∷ runs workedBytes (toTheSend ++ (0 ∷ 1 ∷ 1 ∷ 1 ∷ [])) lent (answered UsedUp 3 19 2 bothSlept 196)
+    ∷ runs workedBytes (toTheSend ++ (0 ∷ 1 ∷ 1 ∷ 1 ∷ [])) lent (answered UsedUp 3 19 2 bothSlept 220)
     -- hub ahead, probe not: late at 9
-    ∷ runs workedBytes (toTheSend ++ (0 ∷ replicate 8 1 ++ replicate 6 255)) lent (answered (Late 0) 9 30 2 bothSlept 196)
+    ∷ runs workedBytes (toTheSend ++ (0 ∷ replicate 8 1 ++ replicate 6 255)) lent (answered (Late 0) 9 30 2 bothSlept 220)
     -- to the horizon, all eight observations; later choices are ignored
     ∷ runs workedBytes (toTheHorizon ++ (0 ∷ 255 ∷ 254 ∷ [])) lent (answered Horizon 20 110 8 allSlept 4)
     -- Document 02, wish 2. Two sends at once on two bands: accepted. On one band, and in version 1: 10, component 0.
@@ -315,7 +323,7 @@ rows =
     ∷ checks (tableBytes (workBudgets 3 1)) (Refused 8 0)
     ∷ checks (tableBytes (workBudgets 60001 1)) (Refused 5 0)
     -- both messages at tick 4
-    ∷ runs (onBands 0 1) bothSend lent (answered UsedUp 4 30 4 bothSent 132)
+    ∷ runs (onBands 0 1) bothSend lent (answered UsedUp 4 30 4 bothSent 148)
     ∷ []
 
 pub cases : All Holds rows

@@ -135,8 +135,9 @@ abbrev pub toHorizon : Told → ℕ → Told
 toHorizon x H =
     record { read = x .read; horizon = H; schedule = x .schedule; choices = x .choices; path = x .path; last = x .last; result = x .result; after = x .after }
 
+-- of the ticks in the observations demand 3 says nothing (`FinishCases`)
 abbrev pub runOf : ℕ → ℕ → List Node → List Observation → List Work → Run
-runOf now count nodes observations works = record { tick = now; used = count; nodes = nodes; observations = observations; works = works }
+runOf now count nodes observations works = record { tick = now; used = count; nodes = nodes; observations = observations; previous = []; works = works }
 
 -- it says this end and this node
 abbrev pub ending : Told → ℕ → ℕ → Told

@@ -12,10 +12,11 @@ pub mod Checks
 pub mod Chains
 pub mod Program
 pub mod Machine
+pub mod Order
 pub mod Run
 pub mod Demand3
-pub mod Order
 pub mod Apart
+pub mod Finishes
 pub mod Calls
 pub mod Acceptance
 pub mod Observations
@@ -33,4 +34,5 @@ pub mod DemandCases
 pub mod DemandWrongs
 pub mod ApartCases
 pub mod ApartWrongs
+pub mod FinishCases
 pub mod Progress

@@ -14,7 +14,7 @@ use Rattle.model.specs.Window.{channelOf}
 use Rattle.model.specs.Schedule.{Passage, passageArc, own}
 use Rattle.model.specs.Checks.{mayHear, acceptedScheduleAt, acceptedScheduleOf, passageAt}
 use Rattle.model.specs.Network.{State, Label, together, passageIn, start, mayJoin, follow, passagesOn, Observation, observation}
-use Rattle.model.specs.Run.{settingAt, offsetIn, settingTo, settingOf, run}
+use Rattle.model.specs.Run.{settingAt, offsetIn, settingTo, settingOf, run, observationWidth}
 use Rattle.model.specs.Calls.{ran, runCall}
 use Rattle.model.specs.Demand3.{PassAs, SteppedBefore, observationsOf}
 use Rattle.model.specs.Apart.{Permitted}
@@ -57,12 +57,12 @@ Happens =
     (bytes : List ℕ) (t : Read) (S : List Passage) → readTable bytes ≡ accepted t → acceptedScheduleOf t ≡ accepted S
     → Reaches t (t .horizon) S × Continues t (t .horizon) S × UsesAtMost 1000000 t (t .horizon) S
 
--- So the call `run` refuses none of these lists, where the lent buffer holds 32 bytes for each passage (13): it answers with their run.
+-- So the call `run` refuses none of these lists, where the lent buffer holds 36 bytes for each passage (13): it answers with their run.
 abbrev pub Answers : Type 0
 Answers =
     (bytes : List ℕ) (t : Read) (S : List Passage) → readTable bytes ≡ accepted t → acceptedScheduleOf t ≡ accepted S
     → (choices : List ℕ) → ReachesBy t (t .horizon) S choices
-    → (lent : List ℕ) → length S * 32 ≤ length lent → runCall bytes choices lent ≡ ran (run (settingOf t S) choices) lent
+    → (lent : List ℕ) → length S * observationWidth ≤ length lent → runCall bytes choices lent ≡ ran (run (settingOf t S) choices) lent
 
 -- ## Something happens where nodes wake apart
 

@@ -23,7 +23,7 @@ use Rattle.model.specs.Program.{programBytes, partOf}
 use Rattle.model.specs.Machine.{exec}
 use Rattle.model.specs.Run.{choose1, run, observationBytes}
 use Rattle.model.specs.Calls.{Call, RunCall, acceptedScheduleIn, acceptedScheduleInAt, checkCall, checkCallAt, scheduleCall, translateCall, runCall, offsetsFine, runCallAt}
-use Rattle.model.specs.Cases.{probe, hub, addOne, changed, resting, sender, observed, lent, answered, refusedWith}
+use Rattle.model.specs.Cases.{probe, hub, addOne, changed, resting, sender, firstSeen, lent, answered, refusedWith}
 
 -- ## Bytes that the reader refuses
 
@@ -116,7 +116,7 @@ workingProgram budget = 3 ∷ 0 ∷ 60 ∷ 1 ∷ 0 ∷ 5
     ∷ 0x00 ∷ 0 ∷ 0 ∷ 0 ∷ 0x03 ∷ 0 ∷ 0 ∷ 0 ∷ 0x08 ∷ 0 ∷ 0 ∷ 0 ∷ 0x09 ∷ 0 ∷ 0 ∷ 0 ∷ 0x11 ∷ 0 ∷ 0 ∷ 0
     ∷ []
 
--- bytes lent to its run: eight more than its one passage needs
+-- bytes lent to its run: four more than its one passage needs
 abbrev pub lent40 : List ℕ
 lent40 = replicate 40 0xaa
 
@@ -135,7 +135,7 @@ abbrev pub toTheProbesSleep : List ℕ
 toTheProbesSleep = 255 ∷ replicate 5 0 ++ (255 ∷ []) ++ replicate 5 1 ++ (255 ∷ 1 ∷ 255 ∷ 255 ∷ 0 ∷ [])
 
 abbrev pub bothSlept : List ℕ
-bothSlept = observed 1 0 0 1 1 0 ++ observed 0 0 0 4 4 0
+bothSlept = firstSeen 1 0 0 1 1 0 ++ firstSeen 0 0 0 4 4 0
 
 -- ## The rows
 
@@ -241,15 +241,15 @@ rows =
     ∷ schedules (header 1 7 1 0 20) [] (unwritten 4 0 [])
     ∷ translates single (replicate 55 7) (unwritten 13 255 (replicate 55 7))
     ∷ translates single (replicate 57 7) (written 56 (singleProgram ++ (7 ∷ [])))
-    ∷ runs single [] (replicate 31 7) (refusedWith 13 255 (replicate 31 7))
+    ∷ runs single [] (replicate 35 7) (refusedWith 13 255 (replicate 35 7))
     -- version 3: a byte too few; budgets of 2 and 0; the node goes through statement 12 to its sleep
     ∷ translates (workingSingle 2) (replicate 59 7) (unwritten 13 255 (replicate 59 7))
     ∷ translates (workingSingle 2) (replicate 60 7) (written 60 (workingProgram 2))
     ∷ translates (workingSingle 0) (replicate 60 7) (written 60 (workingProgram 0))
-    ∷ runs (workingSingle 2) (replicate 6 0 ++ replicate 3 255 ++ (0 ∷ [])) lent40 (answered UsedUp 3 10 1 (observed 0 0 0 3 3 0) 8)
+    ∷ runs (workingSingle 2) (replicate 6 0 ++ replicate 3 255 ++ (0 ∷ [])) lent40 (answered UsedUp 3 10 1 (firstSeen 0 0 0 3 3 0) 4)
     -- 14. "Are there at most 1,000,000 choices?" After 13
     ∷ runsOn single lent40 (refusedWith 14 255 lent40)
-    ∷ runsOn single (replicate 31 7) (refusedWith 13 255 (replicate 31 7))
+    ∷ runsOn single (replicate 35 7) (refusedWith 13 255 (replicate 35 7))
     -- 19. "A G above 1,000 is refused with 19 after 3"
     ∷ within 1000 single Accepted
     ∷ within 1001 single (Refused 19 255)
@@ -275,20 +275,20 @@ rows =
     -- 20. "an offset above G with 20 after 14": of the first node, of the second; after 13; a number past the last node is not looked at
     ∷ wakes 2 (tableBytes wide) (3 ∷ []) [] lent (refusedWith 20 255 lent)
     ∷ wakes 2 (tableBytes wide) (2 ∷ 3 ∷ []) [] lent (refusedWith 20 255 lent)
-    ∷ wakes 2 (tableBytes wide) (3 ∷ []) [] (replicate 255 7) (refusedWith 13 255 (replicate 255 7))
-    ∷ wakes 2 (tableBytes wide) (2 ∷ 2 ∷ 3 ∷ []) [] lent (answered UsedUp 0 0 0 [] 260)
+    ∷ wakes 2 (tableBytes wide) (3 ∷ []) [] (replicate 287 7) (refusedWith 13 255 (replicate 287 7))
+    ∷ wakes 2 (tableBytes wide) (2 ∷ 2 ∷ 3 ∷ []) [] lent (answered UsedUp 0 0 0 [] 292)
     ∷ wakes 1001 single (0 ∷ []) [] lent40 (refusedWith 19 255 lent40)
     ∷ wakes 3 (tableBytes wide) [] [] lent (refusedWith 16 0 lent)
     -- "Observations carry the node's own clock": hub's at 1 and probe's at 4, written at the ticks 3 and 5; the message at 5
-    ∷ wakes 2 (tableBytes wide) (1 ∷ 2 ∷ []) (toTheProbesSleep ++ (0 ∷ [])) lent (answered UsedUp 5 18 2 bothSlept 196)
+    ∷ wakes 2 (tableBytes wide) (1 ∷ 2 ∷ []) (toTheProbesSleep ++ (0 ∷ [])) lent (answered UsedUp 5 18 2 bothSlept 220)
     -- "until that tick .. choosing it isn't allowed"
-    ∷ wakes 2 (tableBytes wide) (1 ∷ 2 ∷ []) (0 ∷ []) lent (answered NotAllowed 0 0 0 [] 260)
-    ∷ wakes 2 (tableBytes wide) (1 ∷ 2 ∷ []) (255 ∷ 0 ∷ 1 ∷ []) lent (answered NotAllowed 1 2 0 [] 260)
+    ∷ wakes 2 (tableBytes wide) (1 ∷ 2 ∷ []) (0 ∷ []) lent (answered NotAllowed 0 0 0 [] 292)
+    ∷ wakes 2 (tableBytes wide) (1 ∷ 2 ∷ []) (255 ∷ 0 ∷ 1 ∷ []) lent (answered NotAllowed 1 2 0 [] 292)
     -- late by the own clock: hub's sleep is due at 1, which is tick 3, and without offsets tick 1
-    ∷ wakes 2 (tableBytes wide) (1 ∷ 2 ∷ []) (replicate 5 255) lent (answered (Late 1) 4 4 0 [] 260)
-    ∷ wakes 2 (tableBytes wide) [] (replicate 5 255) lent (answered (Late 1) 2 2 0 [] 260)
+    ∷ wakes 2 (tableBytes wide) (1 ∷ 2 ∷ []) (replicate 5 255) lent (answered (Late 1) 4 4 0 [] 292)
+    ∷ wakes 2 (tableBytes wide) [] (replicate 5 255) lent (answered (Late 1) 2 2 0 [] 292)
     -- "The horizon stays on the common tick"; a sleep before it is due by the own clock, and a tick while it is
-    ∷ wakes 1 single (1 ∷ []) (toItsSleep ++ (0 ∷ 0 ∷ 255 ∷ 255 ∷ [])) lent40 (answered Horizon 5 12 1 (observed 0 0 0 3 3 0) 8)
+    ∷ wakes 1 single (1 ∷ []) (toItsSleep ++ (0 ∷ 0 ∷ 255 ∷ 255 ∷ [])) lent40 (answered Horizon 5 12 1 (firstSeen 0 0 0 3 3 0) 4)
     ∷ wakes 1 single (1 ∷ []) (255 ∷ replicate 5 0 ++ (255 ∷ 255 ∷ 0 ∷ [])) lent40 (answered NotAllowed 3 8 0 [] 40)
     ∷ wakes 1 single (1 ∷ []) (toItsSleep ++ (255 ∷ [])) lent40 (answered NotAllowed 4 9 0 [] 40)
     ∷ []
@@ -301,5 +301,5 @@ cases =
     too-many : Holds (runsOn single lent40 (refusedWith 14 255 lent40))
     too-many choices h = let e = lt-ltb 1000000 (length choices) h in rw e
 
-    too-short : Holds (runsOn single (replicate 31 7) (refusedWith 13 255 (replicate 31 7)))
+    too-short : Holds (runsOn single (replicate 35 7) (refusedWith 13 255 (replicate 35 7)))
     too-short choices h = refl

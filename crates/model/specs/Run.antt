@@ -1,5 +1,5 @@
 -- Document 01, "The run": the nodes together, one choice, the whole list, and the four ways to end.
-use mathlib.Core.Bool.{Bool, true, false, cond, _&&_, not}
+use mathlib.Core.Bool.{Bool, true, false, cond, _&&_, _||_, not}
 use mathlib.Core.List.{List, [], _∷_, _++_, map}
 use mathlib.Core.Option.{Option, none, some}
 use Prim.Native.Nat.{ℕ, zero, suc, _+_, _-_, _/_, _%_}
@@ -14,6 +14,7 @@ use Rattle.model.specs.Window.{valueAt, inRange, paired}
 use Rattle.model.specs.Schedule.{Passage, own}
 use Rattle.model.specs.Program.{Statement, sleep, setTo, addTo, done, send, listen, age, reset, enter, trial, low, high, dataLow, dataHigh, keep, budget, takeEdge, choose, programBytes}
 use Rattle.model.specs.Network.{Work, one, two, Observation}
+use Rattle.model.specs.Order.{workTick}
 use Rattle.model.specs.Machine.{Node, noTrial, startNode, partBytes, exec, finish, withPlace}
 
 -- What a run goes by: the program's bytes, the horizon, the counts of clocks and variables of each node (for the observations), and the ready
@@ -59,12 +60,14 @@ settingTo t H S = settingAt t H S []
 abbrev pub settingOf : Read → List Passage → Setting
 settingOf t S = settingTo t (t .horizon) S
 
--- The run's state. Beside the observations stands the log of finished works, which the code does not keep.
+-- The run's state. With the observations stands, for each, the tick at which the node's previous work finished; and the log of finished works,
+-- which the code does not keep.
 pub record Run : Type 0 where
   pub tick : ℕ
   pub used : ℕ
   pub nodes : List Node
   pub observations : List Observation
+  pub previous : List ℕ
   pub works : List Work
 
 abbrev pub noNode : Node
@@ -94,7 +97,7 @@ startNodes program c (k ∷ ks) = startNode (partBytes program c) (k .clocks) (k
 
 -- "It starts at tick 0, no observation yet, each node at its program's start": "All nodes start together at tick 0"
 abbrev pub startRun : Setting → Run
-startRun g = record { tick = 0; used = 0; nodes = startNodes (g .program) 0 (g .counts); observations = []; works = [] }
+startRun g = record { tick = 0; used = 0; nodes = startNodes (g .program) 0 (g .counts); observations = []; previous = []; works = [] }
 
 abbrev pub offsetOf : Setting → ℕ → ℕ
 offsetOf g c = getD (g .offsets) c 0
@@ -106,6 +109,30 @@ ownTick g c tick = tick - offsetOf g c
 -- ".. and choosing it isn't allowed"
 abbrev pub awake : Setting → ℕ → ℕ → Bool
 awake g c tick = leb (offsetOf g c) tick
+
+-- ## When a node's works finished
+
+-- node c has a part in a work: it finished it alone, it sent, or it took the message
+abbrev pub takesPart : ℕ → Work → Bool
+takesPart c (one d k) = eqb d c
+takesPart c (two a b k t) = eqb a c || eqb b c
+
+-- the ticks at which node c's works finished, "by its own clock, for a receive the message or timeout"
+abbrev pub finishTicks : Setting → ℕ → List Work → List ℕ
+finishTicks g c ws = map (λ w. ownTick g c (workTick w)) (only (takesPart c) ws)
+
+-- the last of these numbers, z where there is none
+abbrev pub lastOf : ℕ → List ℕ → ℕ
+lastOf z [] = z
+lastOf z (n ∷ ns) = lastOf n ns
+
+-- "The first observation has 4,294,967,295 there."
+abbrev pub noWork : ℕ
+noWork = 4294967295
+
+-- "the tick at which the node's previous work finished"
+abbrev pub previousFinish : Setting → ℕ → List Work → ℕ
+previousFinish g c ws = lastOf noWork (finishTicks g c ws)
 
 -- ## What a node stands at
 
@@ -215,10 +242,17 @@ observes c tick r =
     }
 
 module _ (s : Run) where
-  -- one node moved; its observation, if it has one, comes last: "They stand in finishing order."
-  abbrev pub moved : ℕ → Node → List Observation → List Work → Run
-  moved c r os ws =
-      record { tick = s .tick; used = suc (s .used); nodes = set (s .nodes) c r; observations = s .observations ++ os; works = s .works ++ ws }
+  -- one node moved; its observation, if it has one, comes last, with the tick that stands in it: "They stand in finishing order."
+  abbrev pub moved : ℕ → Node → List Observation → List ℕ → List Work → Run
+  moved c r os fs ws =
+      record {
+        tick = s .tick;
+        used = suc (s .used);
+        nodes = set (s .nodes) c r;
+        observations = s .observations ++ os;
+        previous = s .previous ++ fs;
+        works = s .works ++ ws;
+      }
 
   -- "A send finishes its listener's statement too, a message between the two"
   abbrev pub messaged : ℕ → Node → ℕ → Node → ℕ → Run
@@ -228,12 +262,13 @@ module _ (s : Run) where
         used = suc (s .used);
         nodes = set (set (s .nodes) c r) i q;
         observations = s .observations;
+        previous = s .previous;
         works = snoc (s .works) (two c i k (s .tick));
       }
 
   -- a tick has passed
   abbrev pub ticked : Run
-  ticked = record { tick = suc (s .tick); used = suc (s .used); nodes = s .nodes; observations = s .observations; works = s .works }
+  ticked = record { tick = suc (s .tick); used = suc (s .used); nodes = s .nodes; observations = s .observations; previous = s .previous; works = s .works }
 
 module _ (g : Setting) where
   abbrev pub finished : Run → ℕ → Node
@@ -247,15 +282,16 @@ module _ (g : Setting) where
   -- window ends now; a send without a listener .."; and an addition out of range, which no accepted table's program meets.
   abbrev pub finishes : Run → ℕ → Stand → Outcome
   finishes s c sleeping =
-      cond (eqb (ownTick g c (s .tick)) (nodeOf s c .t)) (on (moved s c (finished s c) (observes c (ownTick g c (s .tick)) (nodeOf s c) ∷ []) [])) forbidden
+      cond (eqb (ownTick g c (s .tick)) (nodeOf s c .t))
+      (on (moved s c (finished s c) (observes c (ownTick g c (s .tick)) (nodeOf s c) ∷ []) (previousFinish g c (s .works) ∷ []) [])) forbidden
   finishes s c (sending k) = sent s c k (listeners g s c k)
   finishes s c (listening qs) =
-      cond (eqb (ownTick g c (s .tick)) (windowEnd (nodeOf s c))) (on (moved s c (finished s c) [] (one c (s .tick) ∷ []))) forbidden
-  finishes s c finishing = on (moved s c (finished s c) [] (one c (s .tick) ∷ []))
-  finishes s c (adding v z) = cond (inRange (valueAt (nodeOf s c .values) v +ℤ z)) (on (moved s c (finished s c) [] [])) forbidden
-  finishes s c working = on (moved s c (finished s c) [] [])
-  finishes s c taking = cond (isNone (nodeOf s c .kept)) forbidden (on (moved s c (finished s c) [] []))
-  finishes s c elsewhere = on (moved s c (finished s c) [] [])
+      cond (eqb (ownTick g c (s .tick)) (windowEnd (nodeOf s c))) (on (moved s c (finished s c) [] [] (one c (s .tick) ∷ []))) forbidden
+  finishes s c finishing = on (moved s c (finished s c) [] [] (one c (s .tick) ∷ []))
+  finishes s c (adding v z) = cond (inRange (valueAt (nodeOf s c .values) v +ℤ z)) (on (moved s c (finished s c) [] [] [])) forbidden
+  finishes s c working = on (moved s c (finished s c) [] [] [])
+  finishes s c taking = cond (isNone (nodeOf s c .kept)) forbidden (on (moved s c (finished s c) [] [] []))
+  finishes s c elsewhere = on (moved s c (finished s c) [] [] [])
   finishes s c nowhere = forbidden
 
   -- "a tick while a sleep or listen is due"
@@ -335,7 +371,7 @@ unfoldable pub run : Setting → List ℕ → Result
 unfolding runFrom startNodes
 run g cs = runFrom g cs (startRun g)
 
--- ## An observation's 32 bytes
+-- ## An observation's bytes
 
 abbrev pub be32 : ℕ → List ℕ
 be32 n = n / 16777216 % 256 ∷ n / 65536 % 256 ∷ n / 256 % 256 ∷ n % 256 ∷ []
@@ -354,3 +390,25 @@ unfolding each
 observationBytes o =
     (o .component ∷ o .edge ∷ o .location ∷ 0 ∷ be32 (o .tick))
     ++ (each be32 (four 0 (o .clocks)) ++ each (λ z. be16 (unsigned z)) (four (pos 0) (o .values)))
+
+-- An observation as it is written, with the tick at which the node's previous work finished: "Each observation becomes 36 bytes".
+pub record Written : Type 0 where
+  pub observation : Observation
+  pub previous : ℕ
+
+abbrev pub observationWidth : ℕ
+observationWidth = 36
+
+-- "after the old 32 comes the tick"
+abbrev pub writtenBytes : Written → List ℕ
+writtenBytes w = observationBytes (w .observation) ++ be32 (w .previous)
+
+-- observations and the ticks that stand in them
+abbrev pub withTicks : List Observation → List ℕ → List Written
+withTicks [] fs = []
+withTicks (o ∷ os) [] = []
+withTicks (o ∷ os) (f ∷ fs) = record { observation = o; previous = f } ∷ withTicks os fs
+
+-- what a run has written
+abbrev pub writtenIn : Run → List Written
+writtenIn s = withTicks (s .observations) (s .previous)

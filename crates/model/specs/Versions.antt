@@ -18,7 +18,7 @@ use Rattle.model.specs.Window.{Entry, Pick, readyOf, pastOf, dataHolds, 
 use Rattle.model.specs.Schedule.{Passage, passageArc, names, own, others, schedule, sevenOf}
 use Rattle.model.specs.Checks.{isSend, isReceive, two, faultOf, limit}
 use Rattle.model.specs.Program.{Statement, trial, high, keep, takeEdge, clockTests, dataTests, edgeBlock, blockBytes, startBytes}
-use Rattle.model.specs.Run.{Setting, readyOfNth, run, observationBytes}
+use Rattle.model.specs.Run.{Setting, readyOfNth, run, observationBytes, observationWidth}
 use Rattle.model.specs.Calls.{Call, RunCall, laid, verdictOf, scheduleWith, bytesWith, notRun, ran}
 use Rattle.model.specs.Meetings.{MeetingsCall, withMet, listOr, about}
 use Rattle.model.specs.Chart.{chart}
@@ -183,7 +183,7 @@ settingOf01 t S =
 abbrev pub runWith01 : Read → List ℕ → List ℕ → Answer (List Passage) → RunCall
 runWith01 t choices lent (refused n c) = notRun n c lent
 runWith01 t choices lent (accepted S) =
-    cond (ltb (length lent) (length S * 32)) (notRun 13 255 lent)
+    cond (ltb (length lent) (length S * observationWidth)) (notRun 13 255 lent)
     (cond (ltb 1000000 (length choices)) (notRun 14 255 lent) (ran (run (settingOf01 t S) choices) lent))
 
 abbrev pub runRead01 : List ℕ → List ℕ → Answer Read → RunCall

@@ -139,5 +139,7 @@ pub const PASSAGE_MESSAGE: usize = 6;
 
 pub const PASSAGE_WIDTH: usize = 7;
 
-// "32 bytes" an observation.
-pub const OBSERVATION_WIDTH: usize = 32;
+// "Each observation becomes 36 bytes: after the old 32 comes the tick at which the node's previous work finished" (four bytes).
+pub const OBSERVATION_PREVIOUS: usize = 32;
+
+pub const OBSERVATION_WIDTH: usize = 36;

@@ -12,8 +12,8 @@ use lib.Seq.{sets}
 use Rattle.model.specs.Lists.{All, empty, more, each, be16}
 use Rattle.model.specs.Bytes.{unsigned}
 use Rattle.model.specs.Network.{Observation}
-use Rattle.model.specs.Run.{be32, four, observationBytes}
-use Rattle.model.proofs.Observations.Size.{clocks-long}
+use Rattle.model.specs.Run.{be32, four, observationBytes, Written, writtenBytes}
+use Rattle.model.proofs.Observations.Size.{clocks-long, observation-long}
 
 -- each is bounded, and so is what stands at a place
 pub bounded : (m : ℕ) {xs : List ℕ} → All (λ x. x ≤ m) xs → (i : ℕ) → getD xs i 0 ≤ m
@@ -98,3 +98,7 @@ observation-put o at v ep eq er es =
     let y = joined o (head ++ be32 (v .tick)) clocks at x er refl in
     let z = joined o ((head ++ be32 (v .tick)) ++ clocks) values at y es (omega (arith, clocks-long (v .clocks))) in
     z ∙ ap (λ (l : List ℕ). sets o at l) (append-assoc (head ++ be32 (v .tick)) clocks values)
+
+-- the tick behind the 32 bytes
+pub written-put : (o : List ℕ) (at : ℕ) (w : Written) {p q : List ℕ} → p ≡ sets o at (observationBytes (w .observation)) → q ≡ sets p (at + 32) (be32 (w .previous)) → q ≡ sets o at (writtenBytes w)
+written-put o at w ep eq = joined o (observationBytes (w .observation)) (be32 (w .previous)) at ep eq (omega (arith, observation-long (w .observation)))

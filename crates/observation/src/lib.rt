@@ -1,4 +1,4 @@
-// The 32 bytes of an observation (document 01, 'The run').
+// The 36 bytes of an observation (document 01, 'The run'; document 02, wish 9).
 ghost use mathlib.Core.Path.{_≡_};
 ghost use mathlib.Core.Bool.{cond};
 ghost use mathlib.Core.List.{List, [], _∷_, map};
@@ -8,8 +8,9 @@ ghost use lib.ListN.{length, take};
 ghost use lib.Seq.{sets};
 ghost use Rattle.model.specs.Lists.{All, each, be16};
 ghost use Rattle.model.specs.Bytes.{unsigned};
-ghost use Rattle.model.specs.Run.{be32, four, observes, observationBytes};
+ghost use Rattle.model.specs.Run.{be32, four, observes, observationBytes, observationWidth, writtenBytes};
 ghost use Rattle.node.specs.Views.{nodeOf, Held, Within};
+use model::layout;
 use node::Counts;
 use node::Node;
 
@@ -95,8 +96,8 @@ fn put_values(values: [i16; 4], count: u8, out: &mut [u8], at: usize)
     put16(out, at + 6, held_value(3 < count, values[3]));
 }
 
-// The observation of node c, which stands at its sleep at that tick.
-pub fn put_observation(registers: Node, held: Counts, c: u8, tick: u64, out: &mut [u8], at: usize)
+// The observation of node c, which stands at its sleep at that tick, without its last number: the first 32 bytes.
+fn put_observation(registers: Node, held: Counts, c: u8, tick: u64, out: &mut [u8], at: usize)
     requires { ⌜ (at + 32 ≤ length (now out)) × Held held × Within 4000000000000000000 registers ⌝ }
     ensures { λ _. ⌜ ((part : List ℕ) → now (out .exit) ≡ sets (now (out .entry)) at (observationBytes (observes c tick (nodeOf part held registers)))) ⌝ }
 {
@@ -106,4 +107,21 @@ pub fn put_observation(registers: Node, held: Counts, c: u8, tick: u64, out: &mu
     put32(out, at + 4, tick);
     put_clocks(clocks, registers.n, held.clocks, out, at + 8);
     put_values(values, held.variables, out, at + 24);
+}
+
+// The observation of node c, which stands at its sleep at that tick and finished its previous work at the other.
+pub fn put_written(
+    registers: Node,
+    held: Counts,
+    c: u8,
+    tick: u64,
+    previous: u64,
+    out: &mut [u8],
+    at: usize,
+)
+    requires { ⌜ (at + observationWidth ≤ length (now out)) × Held held × Within 4000000000000000000 registers ⌝ }
+    ensures { λ _. ⌜ ((part : List ℕ) → now (out .exit) ≡ sets (now (out .entry)) at (writtenBytes (record { observation = observes c tick (nodeOf part held registers); previous = previous }))) ⌝ }
+{
+    put_observation(registers, held, c, tick, out, at);
+    put32(out, at + layout::OBSERVATION_PREVIOUS, previous);
 }

@@ -15,7 +15,7 @@ use Rattle.model.specs.Reader.{readTable}
 use Rattle.model.specs.Schedule.{Passage, own}
 use Rattle.model.specs.Checks.{acceptedScheduleOf}
 use Rattle.model.specs.Network.{State, Label, tick, start, follow, passagesOn, worksOn, Observation, observationsOn}
-use Rattle.model.specs.Run.{settingTo, settingOf, run}
+use Rattle.model.specs.Run.{settingTo, settingOf, run, observationWidth}
 use Rattle.model.specs.Calls.{ran, runCall}
 use Rattle.model.specs.Demand3.{Begins, observationsOf}
 use Rattle.model.specs.Progress.{OnSchedule}
@@ -65,13 +65,13 @@ Exactly =
     → ((OnSchedule (t .table) S path last × (last .tick < t .horizon)) → (choices : List ℕ) × RealisesBy t (t .horizon) S path last choices)
     × (((choices : List ℕ) × RealisesBy t (t .horizon) S path last choices) → OnSchedule (t .table) S path last × (last .tick < t .horizon))
 
--- The call `run` refuses none of these choices, where the lent buffer holds 32 bytes for each passage (13): it answers with the run that realises
+-- The call `run` refuses none of these choices, where the lent buffer holds an observation for each passage (13): it answers with the run that realises
 -- the path.
 abbrev pub Answered : Type 0
 Answered =
     (bytes : List ℕ) (t : Read) (S : List Passage) → readTable bytes ≡ accepted t → acceptedScheduleOf t ≡ accepted S
     → (path : List Label) (last : State) (choices : List ℕ) → RealisesBy t (t .horizon) S path last choices
-    → (lent : List ℕ) → length S * 32 ≤ length lent → runCall bytes choices lent ≡ ran (run (settingOf t S) choices) lent
+    → (lent : List ℕ) → length S * observationWidth ≤ length lent → runCall bytes choices lent ≡ ran (run (settingOf t S) choices) lent
 
 -- ## Step by step
 

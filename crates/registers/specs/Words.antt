@@ -51,6 +51,10 @@ lastIn l c = wordIn l c 27
 abbrev pub wakeTickIn : List ℕ → ℕ → ℕ
 wakeTickIn l c = wordIn l c 28
 
+-- the tick at which the node's last work finished, by its own clock; 4,294,967,295 where none has
+abbrev pub finishTickIn : List ℕ → ℕ → ℕ
+finishTickIn l c = wordIn l c 29
+
 -- the word of a boolean: 1 for true
 abbrev pub flagOf : Bool → ℕ
 flagOf true = 1

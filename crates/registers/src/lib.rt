@@ -16,7 +16,8 @@ use node::Kept;
 use node::Node;
 use node::Trial;
 
-// The words of a node, each by its number. Words 0 to 20 are the registers, 21 to 24 and 28 never change, 25 to 27 serve the ticks.
+// The words of a node, each by its number. Words 0 to 20 are the registers, 21 to 24 and 28 never change, 25 to 27 serve the ticks, 29 is when
+// its last work finished.
 pub const PLACE: usize = 0;
 
 pub const READY_TICK: usize = 1;
@@ -68,6 +69,8 @@ pub const DUE: usize = 26;
 pub const LAST: usize = 27;
 
 pub const WAKE_TICK: usize = 28;
+
+pub const FINISH_TICK: usize = 29;
 
 pub fn small(number: u64) -> u8
     ensures { λ r. ⌜ r ≡ number % 256 ⌝ }

@@ -14,6 +14,7 @@ use Rattle.model.specs.Schedule.{own}
 use Rattle.model.specs.Checks.{passageAt}
 use Rattle.model.specs.Program.{Range, noPart, partFrom, partOf}
 use Rattle.model.specs.Machine.{startNode, partBytes}
+use Rattle.model.specs.Run.{noWork}
 use Rattle.model.proofs.Schedule.Own.{all-then}
 use Rattle.rows.specs.Rows.{num, rowsFrom, rowsOf}
 use Rattle.program.specs.declared.Span.{Span}
@@ -32,9 +33,9 @@ use Rattle.run.specs.Ends.{WordsPut, NodeStarted}
 
 -- ## The words beside its registers
 
-module _ (l : List ℕ) (c start long clocks variables row wake : ℕ) {l₁ l₂ l₃ l₄ l₅ l₆ : List ℕ} (h : 256 ≤ length l) (few : c < 8) (e₁ : l₁ ≡ set l (c * 32 + 21) start)
+module _ (l : List ℕ) (c start long clocks variables row wake : ℕ) {l₁ l₂ l₃ l₄ l₅ l₆ l₇ : List ℕ} (h : 256 ≤ length l) (few : c < 8) (e₁ : l₁ ≡ set l (c * 32 + 21) start)
     (e₂ : l₂ ≡ set l₁ (c * 32 + 22) long) (e₃ : l₃ ≡ set l₂ (c * 32 + 23) clocks) (e₄ : l₄ ≡ set l₃ (c * 32 + 24) variables)
-    (e₅ : l₅ ≡ set l₄ (c * 32 + 25) row) (e₆ : l₆ ≡ set l₅ (c * 32 + 28) wake) where
+    (e₅ : l₅ ≡ set l₄ (c * 32 + 25) row) (e₆ : l₆ ≡ set l₅ (c * 32 + 28) wake) (e₇ : l₇ ≡ set l₆ (c * 32 + 29) noWork) where
   h₁ : 256 ≤ length l₁
   h₁ = omega (arith, put-length l c 21 start e₁)
 
@@ -50,31 +51,37 @@ module _ (l : List ℕ) (c start long clocks variables row wake : ℕ) {l₁ l�
   h₅ : 256 ≤ length l₅
   h₅ = omega (arith, h₄, put-length l₄ c 25 row e₅)
 
-  -- what the words put later leave
-  last₀ : (k : ℕ) → k < 26 → wordIn l₆ c k ≡ wordIn l₅ c k
-  last₀ k d = put-beside l₅ c 28 wake e₆ k (λ p. omega arith)
+  h₆ : 256 ≤ length l₆
+  h₆ = omega (arith, h₅, put-length l₅ c 28 wake e₆)
 
-  last₁ : (k : ℕ) → k < 25 → wordIn l₆ c k ≡ wordIn l₄ c k
+  -- what the words put later leave
+  last : (k : ℕ) → k < 29 → wordIn l₇ c k ≡ wordIn l₆ c k
+  last k d = put-beside l₆ c 29 noWork e₇ k (λ p. omega arith)
+
+  last₀ : (k : ℕ) → k < 26 → wordIn l₇ c k ≡ wordIn l₅ c k
+  last₀ k d = last k (omega arith) ∙ put-beside l₅ c 28 wake e₆ k (λ p. omega arith)
+
+  last₁ : (k : ℕ) → k < 25 → wordIn l₇ c k ≡ wordIn l₄ c k
   last₁ k d = last₀ k (omega arith) ∙ put-beside l₄ c 25 row e₅ k (λ p. omega arith)
 
-  last₂ : (k : ℕ) → k < 24 → wordIn l₆ c k ≡ wordIn l₃ c k
+  last₂ : (k : ℕ) → k < 24 → wordIn l₇ c k ≡ wordIn l₃ c k
   last₂ k d = last₁ k (omega arith) ∙ put-beside l₃ c 24 variables e₄ k (λ p. omega arith)
 
-  last₃ : (k : ℕ) → k < 23 → wordIn l₆ c k ≡ wordIn l₂ c k
+  last₃ : (k : ℕ) → k < 23 → wordIn l₇ c k ≡ wordIn l₂ c k
   last₃ k d = last₂ k (omega arith) ∙ put-beside l₂ c 23 clocks e₃ k (λ p. omega arith)
 
-  last₄ : (k : ℕ) → k < 22 → wordIn l₆ c k ≡ wordIn l₁ c k
+  last₄ : (k : ℕ) → k < 22 → wordIn l₇ c k ≡ wordIn l₁ c k
   last₄ k d = last₃ k (omega arith) ∙ put-beside l₁ c 22 long e₂ k (λ p. omega arith)
 
   -- the other nodes
-  apart : (i : ℕ) → (i ≡ c → ⊥) → SameNode l [] l₆ [] i
+  apart : (i : ℕ) → (i ≡ c → ⊥) → SameNode l [] l₇ [] i
   apart i d =
       same-trans (put-others l c 21 start e₁ [] i d (omega arith))
       (same-trans (put-others l₁ c 22 long e₂ [] i d (omega arith))
       (same-trans (put-others l₂ c 23 clocks e₃ [] i d (omega arith))
-      (same-trans (put-others l₃ c 24 variables e₄ [] i d (omega arith)) (same-trans (put-others l₄ c 25 row e₅ [] i d (omega arith)) (put-others l₅ c 28 wake e₆ [] i d (omega arith))))))
+      (same-trans (put-others l₃ c 24 variables e₄ [] i d (omega arith)) (same-trans (put-others l₄ c 25 row e₅ [] i d (omega arith)) (same-trans (put-others l₅ c 28 wake e₆ [] i d (omega arith)) (put-others l₆ c 29 noWork e₇ [] i d (omega arith)))))))
 
-  pub words-put : WordsPut l c start long clocks variables row wake l₆
+  pub words-put : WordsPut l c start long clocks variables row wake l₇
   words-put =
       record {
         begins = last₄ 21 (omega arith) ∙ put-there l c 21 start e₁ h few (omega arith);
@@ -82,10 +89,11 @@ module _ (l : List ℕ) (c start long clocks variables row wake : ℕ) {l₁ l�
         ages = last₂ 23 (omega arith) ∙ put-there l₂ c 23 clocks e₃ h₂ few (omega arith);
         holds = last₁ 24 (omega arith) ∙ put-there l₃ c 24 variables e₄ h₃ few (omega arith);
         passes = last₀ 25 (omega arith) ∙ put-there l₄ c 25 row e₅ h₄ few (omega arith);
-        wakes = put-there l₅ c 28 wake e₆ h₅ few (omega arith);
+        wakes = last 28 (omega arith) ∙ put-there l₅ c 28 wake e₆ h₅ few (omega arith);
+        finish = put-there l₆ c 29 noWork e₇ h₆ few (omega arith);
         others = λ i k d b. apart i d .words k b;
         same =
-            put-length l₅ c 28 wake e₆ ∙ put-length l₄ c 25 row e₅ ∙ put-length l₃ c 24 variables e₄ ∙ put-length l₂ c 23 clocks e₃ ∙ put-length l₁ c 22 long e₂
+            put-length l₆ c 29 noWork e₇ ∙ put-length l₅ c 28 wake e₆ ∙ put-length l₄ c 25 row e₅ ∙ put-length l₃ c 24 variables e₄ ∙ put-length l₂ c 23 clocks e₃ ∙ put-length l₁ c 22 long e₂
             ∙ put-length l c 21 start e₁;
       }
 
@@ -221,6 +229,7 @@ module _ (program : List ℕ) (b : (i : ℕ) → Fits w8 (getD program i 0)) {c 
               ∙ begins;
           counts = ap (λ (k : Counts). record { clocks = k .clocks; variables = k .variables }) held-is;
           wakes = x .wakes ∙ w .wakes;
+          finish = x .finish ∙ w .finish;
           others = λ i d. same-trans (record { words = λ k h. w .others i k d h; values = λ k h. refl }) (x .others i d);
           eight = x .eight;
         }

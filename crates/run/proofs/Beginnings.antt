@@ -12,12 +12,12 @@ use Rattle.model.specs.Reader.{byte}
 use Rattle.model.specs.Places.{startOf, Valid, readOf, componentIn, ComponentAt}
 use Rattle.model.specs.Limits.{ComponentIn}
 use Rattle.model.specs.Machine.{Node, startNode, partBytes}
-use Rattle.model.specs.Run.{Counts, offsetIn, startNodes, standOf}
+use Rattle.model.specs.Run.{Counts, offsetIn, noWork, startNodes, standOf}
 use Rattle.model.proofs.Reader.Located.{valid-located, valid-in}
 use Rattle.model.proofs.Basics.Sums.{by-number}
 use Rattle.rows.specs.Rows.{rowsOf}
 use Rattle.translator.proofs.Standing.{valid-count, few-nodes}
-use Rattle.registers.specs.Words.{nodeIn, partIn, heldIn, Eight, SameNode, wakeTickIn}
+use Rattle.registers.specs.Words.{nodeIn, partIn, heldIn, Eight, SameNode, wakeTickIn, finishTickIn}
 use Rattle.registers.proofs.Frames.{same-node, same-part, same-held}
 use Rattle.node.specs.declared.Counts.{Counts as Held}
 use Rattle.node.specs.Views.{nodeOf}
@@ -83,6 +83,7 @@ pub record StartedTo (table program rows : List ℕ) (n : ℕ) (os l : List ℕ)
   pub view : (c : ℕ) → c < k → viewIn program l v c ≡ startNode (partBytes program c) (componentIn table c .clocks) (componentIn table c .variables)
   pub counts : (c : ℕ) → c < k → countsAt l c ≡ countsOf (componentIn table c)
   pub wakes : (c : ℕ) → c < k → wakeTickIn l c ≡ offsetIn os c
+  pub finish : (c : ℕ) → c < k → finishTickIn l c ≡ noWork
 
 pub none-started : {table program rows : List ℕ} {n : ℕ} {os l : List ℕ} {v : List ℤ} → Eight l v → StartedTo table program rows n os l v 0
 none-started g =
@@ -92,6 +93,7 @@ none-started g =
       view = λ c h. absurd (omega arith);
       counts = λ c h. absurd (omega arith);
       wakes = λ c h. absurd (omega arith);
+      finish = λ c h. absurd (omega arith);
     }
 
 module _ (table : List ℕ) (b : Bytes table) (valid : Valid table) where
@@ -128,6 +130,7 @@ module _ (table : List ℕ) (b : Bytes table) (valid : Valid table) where
             view = below-more (λ i. viewIn program l′ v′ i ≡ startNode (partBytes program i) (componentIn table i .clocks) (componentIn table i .variables)) c (λ i k. same-view (x .others i (λ p. omega arith)) program ∙ s .view i k) view-here;
             counts = below-more (λ i. countsAt l′ i ≡ countsOf (componentIn table i)) c (λ i k. same-counts (x .others i (λ p. omega arith)) program ∙ s .counts i k) counts-here;
             wakes = below-more (λ i. wakeTickIn l′ i ≡ offsetIn os i) c (λ i k. x .others i (λ p. omega arith) .words 28 (omega arith) ∙ s .wakes i k) (x .wakes ∙ w);
+            finish = below-more (λ i. finishTickIn l′ i ≡ noWork) c (λ i k. x .others i (λ p. omega arith) .words 29 (omega arith) ∙ s .finish i k) (x .finish);
           }
 
   -- all of them
@@ -156,5 +159,7 @@ module _ (table : List ℕ) (b : Bytes table) (valid : Valid table) where
                 eight = s .eight;
                 nodes = nodes-are;
                 each = λ i h. s .stands i (omega arith);
+                finish = λ i h. s .finish i (omega arith);
+                alike = refl;
               };
         }

@@ -7,9 +7,8 @@ use native.Mathlib.Numerals.{add-one}
 use lib.ListN.{length, getD, take, drop, length-append, length-drop, drop-of-length-le, take-append-drop}
 use lib.Seq.{take-suc, drop-cons, append-snoc, sets, sets-eq, take-at, drop-drop, drop-append-add}
 use Rattle.model.specs.Lists.{each}
-use Rattle.model.specs.Network.{Observation}
-use Rattle.model.specs.Run.{Setting, Run, startRun, Outcome, forbidden, on, over, choose1, Result, ends, continue, runFrom, run, observationBytes}
-use Rattle.model.proofs.Observations.Size.{observations-long}
+use Rattle.model.specs.Run.{Setting, Run, startRun, Outcome, forbidden, on, over, choose1, Result, ends, continue, runFrom, run, observationWidth, Written, writtenBytes, writtenIn}
+use Rattle.model.proofs.Observations.Size.{all-long}
 use Rattle.model.proofs.Basics.Sums.{each-join}
 use Rattle.run.specs.declared.Ended.{Ended}
 use Rattle.run.specs.Ends.{Roomy, EndsAs}
@@ -63,51 +62,51 @@ module _ (g : Setting) (cs : List ℕ) where
     ends-used h = whole ∙ ap (λ (xs : List ℕ). runFrom g xs s) (drop-of-length-le cs h)
 
     -- the observations so far have room
-    pub roomy-at : (room : ℕ) → Roomy g cs room → length (s .observations) * 32 ≤ room
+    pub roomy-at : (room : ℕ) → Roomy g cs room → length (s .observations) * observationWidth ≤ room
     unfolding runFrom run
     roomy-at room R =
         let e : run g (take used cs) ≡ ends s 1 255 = ap (λ (xs : List ℕ). runFrom g xs (startRun g)) (sym (append-nil (take used cs))) ∙ at [] in
-        subst (λ (r : Result). length (r .state .observations) * 32 ≤ room) e (R used)
+        subst (λ (r : Result). length (r .state .observations) * observationWidth ≤ room) e (R used)
 
 -- ## The bytes of the observations
 
 -- the observations' bytes over the front of what was lent
-abbrev pub Over : List Observation → List ℕ → List ℕ → Type 0
-Over os out₀ out = out ≡ each observationBytes os ++ drop (length os * 32) out₀
+abbrev pub Over : List Written → List ℕ → List ℕ → Type 0
+Over ws out₀ out = out ≡ each writtenBytes ws ++ drop (length ws * observationWidth) out₀
 
 pub over-none : (out : List ℕ) → Over [] out out
 unfolding each
 over-none out = refl
 
-pub over-length : (os : List Observation) (out₀ out : List ℕ) → Over os out₀ out → length os * 32 ≤ length out₀ → length out ≡ length out₀
+pub over-length : (os : List Written) (out₀ out : List ℕ) → Over os out₀ out → length os * observationWidth ≤ length out₀ → length out ≡ length out₀
 over-length os out₀ out e h =
-    ap length e ∙ omega (arith, length-append (each observationBytes os) (drop (length os * 32) out₀), observations-long os, length-drop (length os * 32) out₀)
+    ap length e ∙ omega (arith, length-append (each writtenBytes os) (drop (length os * observationWidth) out₀), all-long os, length-drop (length os * observationWidth) out₀)
 
 -- some more
-pub over-more : (os seen : List Observation) (out₀ out : List ℕ) → Over os out₀ out → length (os ++ seen) * 32 ≤ length out₀ → Over (os ++ seen) out₀ (sets out (length os * 32) (each observationBytes seen))
+pub over-more : (os seen : List Written) (out₀ out : List ℕ) → Over os out₀ out → length (os ++ seen) * observationWidth ≤ length out₀ → Over (os ++ seen) out₀ (sets out (length os * observationWidth) (each writtenBytes seen))
 over-more os seen out₀ out e h =
-    let n = length os * 32 in
-    let a = each observationBytes os in
-    let b = each observationBytes seen in
-    let la : length a ≡ n = observations-long os in
-    let lb : length b ≡ length seen * 32 = observations-long seen in
+    let n = length os * observationWidth in
+    let a = each writtenBytes os in
+    let b = each writtenBytes seen in
+    let la : length a ≡ n = all-long os in
+    let lb : length b ≡ length seen * observationWidth = all-long seen in
     let ls : length (os ++ seen) ≡ length os + length seen = length-append os seen in
     let lo : length out ≡ length out₀ = over-length os out₀ out e (omega arith) in
-    let back : drop (n + length b) out ≡ drop (length (os ++ seen) * 32) out₀ =
+    let back : drop (n + length b) out ≡ drop (length (os ++ seen) * observationWidth) out₀ =
     ap (drop (n + length b)) e
     ∙ ap (λ (k : ℕ). drop (k + length b) (a ++ drop n out₀)) (sym la)
     ∙ drop-append-add a (drop n out₀) (length b)
     ∙ drop-drop (length b) n out₀
-    ∙ (let q : n + length b ≡ length (os ++ seen) * 32 = omega arith in ap (λ (k : ℕ). drop k out₀) q) in
+    ∙ (let q : n + length b ≡ length (os ++ seen) * observationWidth = omega arith in ap (λ (k : ℕ). drop k out₀) q) in
     sets-eq b out n (omega arith)
     ∙ ap (λ (x : List ℕ). x ++ b ++ drop (n + length b) out) (ap (take n) e ∙ take-at a (drop n out₀) n la)
     ∙ ap (λ (x : List ℕ). a ++ b ++ x) back
-    ∙ ap (λ (x : List ℕ). x ++ drop (length (os ++ seen) * 32) out₀) (sym (each-join observationBytes os seen))
+    ∙ ap (λ (x : List ℕ). x ++ drop (length (os ++ seen) * observationWidth) out₀) (sym (each-join writtenBytes os seen))
 
 -- ## The end
 
 pub ends-as : (g : Setting) (cs out : List ℕ) (e : Ended) (out′ : List ℕ) (s : Run) (k c : ℕ) → run g cs ≡ ends s k c → e .end ≡ k → e .node ≡ c → e .tick ≡ s .tick → e .used ≡ s .used
-    → e .written ≡ length (s .observations) → Over (s .observations) out out′ → EndsAs g cs out e out′
+    → e .written ≡ length (s .observations) → Over (writtenIn s) out out′ → EndsAs g cs out e out′
 ends-as g cs out e out′ s k c r end node tick used written bytes =
     record {
       end = rw r end;

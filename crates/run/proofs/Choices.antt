@@ -13,6 +13,7 @@ use Rattle.model.specs.Window.{valueAt, inRange}
 use Rattle.model.specs.Network.{Observation, Work, one}
 use Rattle.model.specs.Machine.{Node}
 use Rattle.model.specs.Run.{awake as up}
+use Rattle.model.specs.Run.{previousFinish}
 use Rattle.model.specs.Run.{Setting, offsetOf, ownTick, Run, noNode, nodeOf, Stand, windowEnd, sleeping, sending, listening, finishing, adding, working, taking, elsewhere, nowhere, standOf}
 use Rattle.model.specs.Run.{Outcome, forbidden, on, over, observes, moved, ticked, finished, sent, listeners, finishes, someDue, lateNodes, afterTick, choose1}
 
@@ -41,7 +42,7 @@ module _ (g : Setting) (s : Run) where
 
   -- the state after it
   abbrev pub awake : ℕ → Run
-  awake b = moved s b (finished g s b) (observes b (ownTick g b (s .tick)) (nodeOf s b) ∷ []) []
+  awake b = moved s b (finished g s b) (observes b (ownTick g b (s .tick)) (nodeOf s b) ∷ []) (previousFinish g b (s .works) ∷ []) []
 
   pub sleep-ends : (b : ℕ) → (b ≡ 255 → ⊥) → b < length (s .nodes) → offsetOf g b ≤ s .tick → standOf (nodeOf s b) ≡ sleeping → ownTick g b (s .tick) ≡ nodeOf s b .t
       → choose1 g s b ≡ on (awake b)
@@ -86,7 +87,7 @@ module _ (g : Setting) (s : Run) where
 
   -- the state after a statement that writes no observation
   abbrev plain : ℕ → List Work → Run
-  plain c ws = moved s c (finished g s c) [] ws
+  plain c ws = moved s c (finished g s c) [] [] ws
 
   few-finishes : (c : ℕ) (x : Stand) → Few (finishes g s c x)
   few-finishes c sleeping = few-either (eqb (ownTick g c (s .tick)) (nodeOf s c .t)) (on (awake c)) forbidden (few-one (awake c) (observes c (ownTick g c (s .tick)) (nodeOf s c)) refl) few-forbidden

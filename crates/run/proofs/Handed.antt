@@ -15,7 +15,7 @@ use Rattle.model.specs.Places.{Valid, readOf}
 use Rattle.model.specs.Schedule.{Passage, own, light}
 use Rattle.model.specs.Checks.{acceptedScheduleAt}
 use Rattle.model.specs.Program.{programBytes}
-use Rattle.model.specs.Run.{Counts, Setting, readyOfNth, settingAt, offsetIn, run}
+use Rattle.model.specs.Run.{Counts, Setting, readyOfNth, settingAt, offsetIn, run, observationWidth}
 use Rattle.model.proofs.Checks.Independence.{only-map}
 use Rattle.model.proofs.Reader.Located.{valid-read, valid-located}
 use Rattle.model.proofs.Run.Few.{few-apart}
@@ -82,9 +82,9 @@ module _ (table : List ℕ) (b : Bytes table) (valid : Valid table) {program row
       ∙ ap (λ (vs : List Passage). settingAt (readOf table) (readOf table .horizon) vs os) (same-at (readOf table) (p .spread) G (p .plan .acceptedSchedule) e)
 
   -- the rows have an observation each
-  pub room-enough : (choices : List ℕ) (room : ℕ) → n * 32 ≤ room → Roomy (settingIn program H rows n l (byte table 3)) choices room
+  pub room-enough : (choices : List ℕ) (room : ℕ) → n * observationWidth ≤ room → Roomy (settingIn program H rows n l (byte table 3)) choices room
   room-enough choices room r k =
-      subst (λ (g : Setting). length (run g (take k choices) .state .observations) * 32 ≤ room) (sym planned-setting)
+      subst (λ (g : Setting). length (run g (take k choices) .state .observations) * observationWidth ≤ room) (sym planned-setting)
       (omega (arith, p .plan .count, few-apart (p .spread) table (readOf table) (p .plan .passages) (valid-read table valid) (p .plan .acceptedSchedule) os (p .permitted) (take k choices)))
 
   -- so the run ends as that of the table and its schedule

@@ -1,5 +1,5 @@
 -- A run that is being carried out in the slices, and the same after one more choice. Assumes nothing.
-use mathlib.Core.Path.{_≡_, refl, sym, ap, subst, _∙_}
+use mathlib.Core.Path.{_≡_, refl, sym, ap, ap₂, subst, _∙_}
 use mathlib.Core.Bool.{Bool, true, false, cond}
 use mathlib.Core.List.{List, [], _∷_, _++_}
 use Prim.Native.Nat.{ℕ, suc, _+_, _-_, _*_, _≤_, _<_}
@@ -11,9 +11,10 @@ use lib.ListN.{length, getD, length-append}
 use lib.Seq.{sets}
 use Rattle.model.specs.Lists.{any, each, below}
 use Rattle.model.specs.Network.{Observation}
-use Rattle.model.specs.Run.{Setting, offsetOf, ownTick, Run, startRun, forbidden, on, over, nodeOf, standOf, sleeping, observes, ticked, afterTick, lateNodes, choose1, noNode, ends, run, observationBytes}
+use Rattle.model.specs.Run.{Setting, offsetOf, ownTick, Run, startRun, forbidden, on, over, nodeOf, standOf, sleeping, observes, ticked, afterTick, lateNodes, choose1, noNode, ends, run, observationWidth, Written, writtenBytes, withTicks, writtenIn}
 use Rattle.model.proofs.Basics.Bools.{and-is}
 use Rattle.model.proofs.Schedule.Own.{all-then}
+use Rattle.model.proofs.Run.FinishTicks.{with-ticks-join, with-ticks-length}
 use Rattle.node.specs.declared.Node.{Node}
 use Rattle.node.specs.Views.{Within}
 use Rattle.registers.specs.Words.{wordIn, nodeIn, partIn, wakeTickIn}
@@ -74,7 +75,7 @@ module _ (program : List ℕ) (H : ℕ) (rows : List ℕ) (n count : ℕ) (l₀ 
     pub early : now ≤ k
     pub written : w ≡ length (state .observations)
     pub few : w ≤ k
-    pub bytes : Over (state .observations) out₀ out
+    pub bytes : Over (writtenIn state) out₀ out
 
   -- no choice yet
   pub first-stage : (v : List ℤ) → Running program rows n l₀ v count (startRun goesBy) → Stage l₀ v out₀ 0 0 0
@@ -182,6 +183,8 @@ module _ {program : List ℕ} {H : ℕ} {rows : List ℕ} {n count : ℕ} {l₀ 
                     eight = R .eight;
                     nodes = R .nodes;
                     each = λ c x. stands-more program rows n l v c (s .used * 131070) (suc (s .used) * 131070) (omega arith) (R .each c x);
+                    finish = R .finish;
+                    alike = R .alike;
                   };
               same = St .same;
               reaches =
@@ -198,7 +201,7 @@ module _ {program : List ℕ} {H : ℕ} {rows : List ℕ} {n count : ℕ} {l₀ 
     -- ## A node
 
     -- there is room for the observation that is written if it sleeps until now
-    pub room : Roomy g choices (length out₀) → (b ≡ 255 → ⊥) → b < count → wakeTickIn l b ≤ now → observesNow program l v b (now - wakeTickIn l b) ≡ true → w * 32 + 32 ≤ length out
+    pub room : Roomy g choices (length out₀) → (b ≡ 255 → ⊥) → b < count → wakeTickIn l b ≤ now → observesNow program l v b (now - wakeTickIn l b) ≡ true → w * 36 + 36 ≤ length out
     room R not h up o =
         let both = and-is (eqb (opOf program l v b) 0) (eqb (now - wakeTickIn l b) (wordIn l b 1)) .0 o in
         let offset : offsetOf g b ≡ wakeTickIn l b = ap (λ (q : Setting). offsetOf q b) (sym (St .same)) ∙ offset-at program H rows n l count b h in
@@ -210,7 +213,8 @@ module _ {program : List ℕ} {H : ℕ} {rows : List ℕ} {n count : ℕ} {l₀ 
         let due : ownTick g b (s .tick) ≡ nodeOf s b .t = clock ∙ eqb-true (now - wakeTickIn l b) (wordIn l b 1) (both .1) ∙ sym (ap (λ (r : Rattle.model.specs.Machine.Node). r .t) node) in
         let fits = roomy-at g choices (k + 1) (awake g s b) (reaches-next g choices k s (St .reaches) more (sleep-ends g s b not there wake sleeps due)) (length out₀) R in
         let longer = length-append (s .observations) (observes b (ownTick g b (s .tick)) (nodeOf s b) ∷ []) in
-        let long : length out ≡ length out₀ = over-length (s .observations) out₀ out (St .bytes) (roomy-at g choices k s (St .reaches) (length out₀) R) in
+        let same = with-ticks-length (s .observations) (s .previous) (St .running .alike) in
+        let long : length out ≡ length out₀ = over-length (writtenIn s) out₀ out (St .bytes) (omega (arith, same, roomy-at g choices k s (St .reaches) (length out₀) R)) in
         omega (arith, St .written)
 
     module _ {m : Moved} {l′ : List ℕ} {v′ : List ℤ} {out′ : List ℕ} (C : Chosen program rows n H count now b l v out w m l′ v′ out′) where
@@ -227,7 +231,12 @@ module _ {program : List ℕ} {H : ℕ} {rows : List ℕ} {n count : ℕ} {l₀ 
           let A = C .allows may s (St .running) (St .tick) in
           let goes : choose1 g s b ≡ on (A .next) = subst (λ (q : Setting). choose1 q s b ≡ on (A .next)) (St .same) (A .goes) in
           let at = reaches-next g choices k s (St .reaches) more goes in
-          let fits : length (s .observations ++ A .seen) * 32 ≤ length out₀ = subst (λ (os : List Observation). length os * 32 ≤ length out₀) (A .observed) (roomy-at g choices (k + 1) (A .next) at (length out₀) R) in
+          let whole : writtenIn (A .next) ≡ writtenIn s ++ withTicks (A .seen) (A .ticks) =
+          ap₂ (λ (os : List Observation) (fs : List ℕ). withTicks os fs) (A .observed) (A .noted) ∙ with-ticks-join (s .observations) (A .seen) (s .previous) (A .ticks) (St .running .alike) in
+          let count : length (writtenIn s) ≡ length (s .observations) = with-ticks-length (s .observations) (s .previous) (St .running .alike) in
+          let fits : length (writtenIn s ++ withTicks (A .seen) (A .ticks)) * observationWidth ≤ length out₀ =
+          subst (λ (ws : List Written). length ws * observationWidth ≤ length out₀) whole
+          (omega (arith, with-ticks-length (A .next .observations) (A .next .previous) (A .running .alike), roomy-at g choices (k + 1) (A .next) at (length out₀) R)) in
           let longer : length (A .next .observations) ≡ length (s .observations) + length (A .seen) = ap length (A .observed) ∙ length-append (s .observations) (A .seen) in
           let one = one-seen g s b goes in
           record {
@@ -242,6 +251,6 @@ module _ {program : List ℕ} {H : ℕ} {rows : List ℕ} {n count : ℕ} {l₀ 
             few = omega (arith, A .counted, St .written, St .few);
             bytes =
                 A .bytes
-                ∙ ap (λ (x : ℕ). sets out (x * 32) (each observationBytes (A .seen))) (St .written)
-                ∙ subst (λ (os : List Observation). Over os out₀ (sets out (length (s .observations) * 32) (each observationBytes (A .seen)))) (sym (A .observed)) (over-more (s .observations) (A .seen) out₀ out (St .bytes) fits);
+                ∙ ap (λ (x : ℕ). sets out (x * observationWidth) (each writtenBytes (withTicks (A .seen) (A .ticks)))) (St .written ∙ sym count)
+                ∙ subst (λ (ws : List Written). Over ws out₀ (sets out (length (writtenIn s) * observationWidth) (each writtenBytes (withTicks (A .seen) (A .ticks))))) (sym whole) (over-more (writtenIn s) (withTicks (A .seen) (A .ticks)) out₀ out (St .bytes) fits);
           }

@@ -11,16 +11,16 @@ use Rattle.model.specs.Places.{readOf}
 use Rattle.model.specs.Schedule.{Passage, light}
 use Rattle.model.specs.Checks.{acceptedScheduleAt}
 use Rattle.model.specs.Machine.{startNode, partBytes}
-use Rattle.model.specs.Run.{Counts, Setting, offsetIn, startRun, run, observationBytes}
+use Rattle.model.specs.Run.{Counts, Setting, offsetIn, noWork, startRun, run, observationWidth, writtenBytes, writtenIn}
 use Rattle.model.specs.Apart.{Permitted}
 use Rattle.rows.specs.Rows.{rowsOf}
-use Rattle.registers.specs.Words.{wordIn, Eight, SameNode, partStart, partLength, clockCount, variableCount, rowIn, dueIn, lastIn, wakeTickIn}
+use Rattle.registers.specs.Words.{wordIn, Eight, SameNode, partStart, partLength, clockCount, variableCount, rowIn, dueIn, lastIn, wakeTickIn, finishTickIn}
 use Rattle.machine.specs.Running.{RowsStand, countsAt, settingIn, viewIn, NodeStands, Running}
 use Rattle.run.specs.declared.Ended.{Ended}
 
 -- however far the list is carried out, its observations have room
 abbrev pub Roomy : Setting → List ℕ → ℕ → Type 0
-Roomy g choices room = (k : ℕ) → length (run g (take k choices) .state .observations) * 32 ≤ room
+Roomy g choices room = (k : ℕ) → length (run g (take k choices) .state .observations) * observationWidth ≤ room
 
 -- the numbers of the end, and the bytes of the observations over the front of what was lent
 pub record EndsAs (g : Setting) (choices out : List ℕ) (e : Ended) (out′ : List ℕ) : Type 0 where
@@ -29,7 +29,7 @@ pub record EndsAs (g : Setting) (choices out : List ℕ) (e : Ended) (out′ : L
   pub tick : e .tick ≡ run g choices .state .tick
   pub used : e .used ≡ run g choices .state .used
   pub written : e .written ≡ length (run g choices .state .observations)
-  pub bytes : out′ ≡ each observationBytes (run g choices .state .observations) ++ drop (length (run g choices .state .observations) * 32) out
+  pub bytes : out′ ≡ each writtenBytes (writtenIn (run g choices .state)) ++ drop (length (writtenIn (run g choices .state)) * observationWidth) out
 
 -- the first late node, the number of nodes where none is
 pub record FirstLate (l : List ℕ) (count tick r : ℕ) : Type 0 where
@@ -49,7 +49,7 @@ Ticks choices from end = (i : ℕ) → from ≤ i → i < end → getD choices i
 
 -- ## The start
 
--- words 21 to 25 and 28 of node c are these numbers; the words of any other node are as they were
+-- words 21 to 25 and 28 of node c are these numbers, and no work of it has finished; the words of any other node are as they were
 pub record WordsPut (l : List ℕ) (c start long clocks variables row wake : ℕ) (l′ : List ℕ) : Type 0 where
   pub begins : partStart l′ c ≡ start
   pub lasts : partLength l′ c ≡ long
@@ -57,6 +57,7 @@ pub record WordsPut (l : List ℕ) (c start long clocks variables row wake : ℕ
   pub holds : variableCount l′ c ≡ variables
   pub passes : rowIn l′ c ≡ row
   pub wakes : wakeTickIn l′ c ≡ wake
+  pub finish : finishTickIn l′ c ≡ noWork
   pub others : (i k : ℕ) → (i ≡ c → ⊥) → k < 32 → wordIn l′ i k ≡ wordIn l i k
   pub same : length l′ ≡ length l
 
@@ -66,6 +67,7 @@ pub record NodeStarted (program rows : List ℕ) (n clocks variables wake : ℕ)
   pub view : viewIn program l′ v′ c ≡ startNode (partBytes program c) clocks variables
   pub counts : countsAt l′ c ≡ record { clocks = clocks; variables = variables }
   pub wakes : wakeTickIn l′ c ≡ wake
+  pub finish : finishTickIn l′ c ≡ noWork
   pub others : (i : ℕ) → (i ≡ c → ⊥) → SameNode l v l′ v′ i
   pub eight : Eight l′ v′
 

@@ -10,11 +10,14 @@ ghost use Rattle.model.specs.Places.{Valid, readOf};
 ghost use Rattle.model.specs.Schedule.{Passage};
 ghost use Rattle.model.specs.Checks.{acceptedScheduleAt};
 ghost use Rattle.model.specs.Program.{programBytes};
-ghost use Rattle.model.specs.Run.{settingAt, offsetIn, startRun};
+ghost use Rattle.model.specs.Run.{settingAt, offsetIn, startRun, observationWidth};
 ghost use Rattle.table.specs.Directory.{startsOf};
 ghost use Rattle.registers.specs.Words.{Eight, dueIn};
 ghost use Rattle.machine.specs.Running.{RowsStand, settingIn, Running};
 ghost use Rattle.run.specs.Ends.{Roomy, EndsAs, FirstLate, Calm, Ticks, WordsPut, NodeStarted, Started, PlannedApart};
+
+// The tick that stands in a node's first observation.
+const NO_WORK: u64 = 4294967295;
 
 // How a run ended: document 01's number of the end, the node, the tick, the choices used, the observations written.
 pub struct Ended {
@@ -204,7 +207,7 @@ fn carry_out(
     end_of(1, 255, tick, used, written)
 }
 
-// Words 21 to 25 and 28 of node c: its part, its counts, its row, and the tick at which it wakes.
+// Words 21 to 25, 28 and 29 of node c: its part, its counts, its row, the tick at which it wakes, and that no work of it has finished.
 fn put_fixed(
     words: &mut [u64],
     c: usize,
@@ -224,6 +227,7 @@ fn put_fixed(
     registers::put_word(words, c, registers::VARIABLE_COUNT, variables as u64);
     registers::put_word(words, c, registers::ROW, row as u64);
     registers::put_word(words, c, registers::WAKE_TICK, wake as u64);
+    registers::put_word(words, c, registers::FINISH_TICK, NO_WORK);
 }
 
 // Node c at its program's start; its component stands at that place of the table, and it wakes at that tick.
@@ -309,7 +313,7 @@ fn run_program(
     choices: &[u8],
     out: &mut [u8],
 ) -> Ended
-    requires { ⌜ Valid (now table) × (starts ≡ startsOf (now table) (byte (now table) 3)) × (now program ≡ programBytes (readOf (now table))) × PlannedApart (now table) (now rows) passages (now offsets) × (passages * 32 ≤ length (now out)) × (length (now choices) ≤ 1000000) ⌝ }
+    requires { ⌜ Valid (now table) × (starts ≡ startsOf (now table) (byte (now table) 3)) × (now program ≡ programBytes (readOf (now table))) × PlannedApart (now table) (now rows) passages (now offsets) × (passages * observationWidth ≤ length (now out)) × (length (now choices) ≤ 1000000) ⌝ }
     ensures { λ e. ⌜ ((G : ℕ) (S : List Passage) → acceptedScheduleAt G (readOf (now (table .entry))) ≡ accepted S → EndsAs (settingAt (readOf (now (table .entry))) (readOf (now (table .entry)) .horizon) S (now (offsets .entry))) (now (choices .entry)) (now (out .entry)) e (now (out .exit))) ⌝ }
 {
     let mut words = [0u64; 256];
@@ -350,7 +354,7 @@ fn run_in(
     choices: &[u8],
     out: &mut [u8],
 ) -> Ended
-    requires { ⌜ Valid (now table) × (starts ≡ startsOf (now table) (byte (now table) 3)) × (length (programBytes (readOf (now table))) ≤ length (now program)) × PlannedApart (now table) (now rows) passages (now offsets) × (passages * 32 ≤ length (now out)) × (length (now choices) ≤ 1000000) ⌝ }
+    requires { ⌜ Valid (now table) × (starts ≡ startsOf (now table) (byte (now table) 3)) × (length (programBytes (readOf (now table))) ≤ length (now program)) × PlannedApart (now table) (now rows) passages (now offsets) × (passages * observationWidth ≤ length (now out)) × (length (now choices) ≤ 1000000) ⌝ }
     ensures { λ e. ⌜ ((G : ℕ) (S : List Passage) → acceptedScheduleAt G (readOf (now (table .entry))) ≡ accepted S → EndsAs (settingAt (readOf (now (table .entry))) (readOf (now (table .entry)) .horizon) S (now (offsets .entry))) (now (choices .entry)) (now (out .entry)) e (now (out .exit))) ⌝ }
 {
     let long = translator::write_program(table, starts, program);
@@ -376,7 +380,7 @@ pub fn run_table(
     choices: &[u8],
     out: &mut [u8],
 ) -> Ended
-    requires { ⌜ Valid (now table) × (starts ≡ startsOf (now table) (byte (now table) 3)) × PlannedApart (now table) (now rows) passages (now offsets) × (passages * 32 ≤ length (now out)) × (length (now choices) ≤ 1000000) ⌝ }
+    requires { ⌜ Valid (now table) × (starts ≡ startsOf (now table) (byte (now table) 3)) × PlannedApart (now table) (now rows) passages (now offsets) × (passages * observationWidth ≤ length (now out)) × (length (now choices) ≤ 1000000) ⌝ }
     ensures { λ e. ⌜ ((G : ℕ) (S : List Passage) → acceptedScheduleAt G (readOf (now (table .entry))) ≡ accepted S → EndsAs (settingAt (readOf (now (table .entry))) (readOf (now (table .entry)) .horizon) S (now (offsets .entry))) (now (choices .entry)) (now (out .entry)) e (now (out .exit))) ⌝ }
 {
     if translator::program_length(table, starts) <= 2048 {

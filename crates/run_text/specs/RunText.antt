@@ -2,7 +2,7 @@
 use mathlib.Core.Bool.{cond}
 use mathlib.Core.List.{List, [], _∷_, _++_, map}
 use Prim.Native.Nat.{ℕ, _+_, _*_}
-use lib.Dec.{ltb}
+use lib.Dec.{ltb, eqb}
 use lib.ListN.{length, getD}
 use Rattle.model.specs.declared.End.{End}
 use Rattle.model.specs.declared.End.the-variants.{Horizon, UsedUp, Late, NotAllowed}
@@ -10,13 +10,13 @@ use Rattle.model.specs.declared.Verdict.{Verdict}
 use Rattle.model.specs.declared.Verdict.the-variants.{Accepted, Refused}
 use Rattle.model.specs.Lists.{each, below}
 use Rattle.model.specs.Reader.{byte}
-use Rattle.model.specs.Run.{offsetIn}
+use Rattle.model.specs.Run.{offsetIn, noWork, observationWidth}
 use Rattle.model.specs.Calls.{RunCall, runCall, offsetsFine, runCallAt}
 use Rattle.text.specs.Words.{ascii, decimal, field, told}
 use Rattle.text.specs.Columns.{column, signedText}
 use Rattle.refusal_text.specs.RefusalText.{refusalText}
 
--- ## An observation of 32 bytes
+-- ## An observation of 36 bytes
 
 abbrev pub long : List ℕ → ℕ → ℕ
 long bytes at = ((getD bytes at 0 * 256 + getD bytes (at + 1) 0) * 256 + getD bytes (at + 2) 0) * 256 + getD bytes (at + 3) 0
@@ -39,17 +39,21 @@ valueColumns o =
     column 7 (signedText (word o 24)) ++ column 7 (signedText (word o 26)) ++ column 7 (signedText (word o 28))
     ++ column 7 (signedText (word o 30))
 
+-- when the node's previous work finished, - where it has none
+abbrev pub finishText : ℕ → List ℕ
+finishText tick = cond (eqb tick noWork) (column 9 (ascii "-")) (column 9 (decimal tick))
+
 unfoldable pub observationLine : List ℕ → List ℕ
 unfolding decimal
-observationLine o = placeColumns o ++ timeColumns o ++ valueColumns o ++ ascii "\n"
+observationLine o = placeColumns o ++ timeColumns o ++ valueColumns o ++ finishText (long o 32) ++ ascii "\n"
 
 -- so many observations from the front on
 unfoldable pub observationLines : List ℕ → ℕ → List ℕ
 unfolding observationLine told each
-observationLines bytes n = each observationLine (told 32 (λ o. o) bytes n)
+observationLines bytes n = each observationLine (told observationWidth (λ o. o) bytes n)
 
 abbrev pub firstLine : List ℕ
-firstLine = ascii "node edge location  tick    x0    x1    x2    x3     v0     v1     v2     v3\n"
+firstLine = ascii "node edge location  tick    x0    x1    x2    x3     v0     v1     v2     v3 finished\n"
 
 -- ## The run
 

@@ -6,14 +6,19 @@ ghost use mathlib.Core.Path.{_≡_};
 ghost use mathlib.Core.List.{List};
 ghost use Prim.Native.Nat.{ℕ, _+_, _*_, _≤_, _<_};
 ghost use lib.ListN.{length};
+ghost use Rattle.model.specs.Run.{observationWidth};
 ghost use Rattle.text.specs.Words.{Added};
-ghost use Rattle.run_text.specs.RunText.{long, word, placeColumns, tickColumns, timeColumns, valueColumns, observationLine, observationLines, notAllowed, endText, countsText};
+ghost use Rattle.run_text.specs.RunText.{long, word, placeColumns, tickColumns, timeColumns, valueColumns, finishText, observationLine, observationLines, notAllowed, endText, countsText};
 use model::End;
+use model::layout;
 use text::put;
 use text::put_column;
 use text::put_field;
 use text::put_signed_column;
 use text::wide;
+
+// The tick that stands in a node's first observation.
+const NO_WORK: u32 = 4294967295;
 
 fn word_at(bytes: &[u8], at: usize) -> u32
     requires { ⌜ at + 1 < length (now bytes) ⌝ }
@@ -70,25 +75,37 @@ fn put_value_columns(out: &mut [u8], at: usize, o: &[u8]) -> usize
     put_signed_column(out, fourth, word_at(o, 30), 7)
 }
 
+// When the previous work finished.
+fn put_finish(out: &mut [u8], at: usize, tick: u32) -> usize
+    requires { ⌜ at + 19 ≤ length (now out) ⌝ }
+    ensures { λ r. ⌜ Added (now (out .entry)) at (finishText tick) (now (out .exit)) r × (r ≤ at + 19) ⌝ }
+{
+    if tick == NO_WORK {
+        return put(out, at, b"        -");
+    }
+    put_column(out, at, tick, 9)
+}
+
 // The line of the observation at the front.
 fn put_observation(out: &mut [u8], at: usize, o: &[u8]) -> usize
-    requires { ⌜ (at + 201 ≤ length (now out)) × (32 ≤ length (now o)) ⌝ }
-    ensures { λ r. ⌜ Added (now (out .entry)) at (observationLine (now (o .entry))) (now (out .exit)) r × (r ≤ at + 201) ⌝ }
+    requires { ⌜ (at + 220 ≤ length (now out)) × (observationWidth ≤ length (now o)) ⌝ }
+    ensures { λ r. ⌜ Added (now (out .entry)) at (observationLine (now (o .entry))) (now (out .exit)) r × (r ≤ at + 220) ⌝ }
 {
     let tick = put_place_columns(out, at, o);
     let values = put_time_columns(out, tick, o);
-    let last = put_value_columns(out, values, o);
+    let finish = put_value_columns(out, values, o);
+    let last = put_finish(out, finish, long_at(o, layout::OBSERVATION_PREVIOUS));
     put(out, last, b"\n")
 }
 
 // So many observations from the front on, a line each.
 pub fn put_observations(out: &mut [u8], at: usize, bytes: &[u8], n: usize) -> usize
-    requires { ⌜ (at + n * 201 ≤ length (now out)) × (n * 32 ≤ length (now bytes)) ⌝ }
-    ensures { λ r. ⌜ Added (now (out .entry)) at (observationLines (now (bytes .entry)) n) (now (out .exit)) r × (r ≤ at + n * 201) ⌝ }
+    requires { ⌜ (at + n * 220 ≤ length (now out)) × (n * observationWidth ≤ length (now bytes)) ⌝ }
+    ensures { λ r. ⌜ Added (now (out .entry)) at (observationLines (now (bytes .entry)) n) (now (out .exit)) r × (r ≤ at + n * 220) ⌝ }
 {
     let mut end = at;
     for i in 0..n {
-        end = put_observation(out, end, &bytes[i * 32..]);
+        end = put_observation(out, end, &bytes[i * layout::OBSERVATION_WIDTH..]);
     }
     end
 }

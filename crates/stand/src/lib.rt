@@ -123,6 +123,9 @@ pub fn due_by(op: u8, ready: u64, window: u16) -> u64
     requires { ⌜ ready ≤ 4000000000000000000 ⌝ }
     ensures { λ e. ⌜ ((part : List ℕ) (held : Counts) (registers : Node) → op ≡ opIn (drop (registers .pc) part) → ready ≡ registers .t → window ≡ registers .d → e ≡ dueTick (nodeOf part held registers) (standOf (nodeOf part held registers))) ⌝ }
 {
+    if op::LISTEN < op {
+        return NEVER;
+    }
     if op == op::SLEEP {
         return ready;
     }
@@ -137,13 +140,13 @@ pub fn last_by(op: u8, ready: u64, window: u16, next: u64) -> u64
     requires { ⌜ ready ≤ 4000000000000000000 ⌝ }
     ensures { λ e. ⌜ ((part : List ℕ) (held : Counts) (registers : Node) → op ≡ opIn (drop (registers .pc) part) → ready ≡ registers .t → window ≡ registers .d → e ≡ lastTick (nodeOf part held registers) next (standOf (nodeOf part held registers))) ⌝ }
 {
+    if op::LISTEN < op {
+        return next;
+    }
     if op == op::SLEEP {
         return NEVER;
     }
-    if op < op::PAIR {
-        return ready + node::wide64(window);
-    }
-    next
+    ready + node::wide64(window)
 }
 
 // Whether the node may finish its statement at that tick without another node.

@@ -13,6 +13,7 @@ ghost use Rattle.model.specs.Calls.{checkCall, scheduleCall, translateCall, run
 ghost use Rattle.model.specs.declared.Verdict.the-variants.{Accepted};
 ghost use Rattle.model.specs.Acceptance.{Accepts};
 ghost use Rattle.model.specs.Observations.{ObservationsRead};
+ghost use Rattle.model.specs.Finishes.{FinishesOf};
 ghost use Rattle.model.specs.Meetings.{meetingsCall};
 ghost use Rattle.model.specs.Chart.{chartCall};
 ghost use Rattle.slot_plan.specs.Plan.{slotsOf, planCall};
@@ -313,14 +314,14 @@ fn run_numbers(ran: Ran) -> RunNumbers
     }
 }
 
-// Runs an accepted table's programs under a list of choices; 32 bytes an observation.
+// Runs an accepted table's programs under a list of choices; 36 bytes an observation.
 #[no_mangle]
 pub extern "C" fn timed_network_run(
     table: &[u8],
     choices: &[u8],
     observations: &mut [u8],
 ) -> RunNumbers
-    ensures { λ r. ⌜ NumbersOf (runCall (now (table .entry)) (now (choices .entry)) (now (observations .entry))) r (now (observations .exit)) × Demand3Of (now (table .entry)) (now (choices .entry)) × ObservationsRead (now (table .entry)) (now (choices .entry)) (now (observations .entry)) ⌝ }
+    ensures { λ r. ⌜ NumbersOf (runCall (now (table .entry)) (now (choices .entry)) (now (observations .entry))) r (now (observations .exit)) × Demand3Of (now (table .entry)) (now (choices .entry)) × ObservationsRead (now (table .entry)) (now (choices .entry)) (now (observations .entry)) × FinishesOf (now (table .entry)) (now (choices .entry)) ⌝ }
 {
     let r = calls::run(table, choices, observations);
     run_numbers(r)

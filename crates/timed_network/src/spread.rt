@@ -6,6 +6,7 @@ ghost use Rattle.model.specs.declared.Verdict.the-variants.{Accepted};
 ghost use Rattle.model.specs.Calls.{checkCallAt, checkCall, runCallAt, LargestSpread, numberOf, concernedOf, Demand3ApartOf};
 ghost use Rattle.model.specs.Acceptance.{AcceptsAt};
 ghost use Rattle.model.specs.Observations.{ObservationsReadAt};
+ghost use Rattle.model.specs.Finishes.{FinishesApartOf};
 ghost use Rattle.model.specs.Meetings.{meetingsCallAt};
 ghost use Rattle.timed_network.specs.Numbers.{NumbersOf};
 use crate::MeetingsNumbers;
@@ -68,7 +69,7 @@ pub extern "C" fn timed_network_meetings_spread(
     meetings_numbers(listed)
 }
 
-// Runs the programs of a table accepted at a spread under a list of choices, each node with an offset within the spread; 32 bytes an
+// Runs the programs of a table accepted at a spread under a list of choices, each node with an offset within the spread; 36 bytes an
 // observation, its tick by the node's own clock.
 #[no_mangle]
 pub extern "C" fn timed_network_run_apart(
@@ -78,7 +79,7 @@ pub extern "C" fn timed_network_run_apart(
     offsets: &[u32],
     observations: &mut [u8],
 ) -> RunNumbers
-    ensures { λ r. ⌜ NumbersOf (runCallAt spread (now (table .entry)) (now (offsets .entry)) (now (choices .entry)) (now (observations .entry))) r (now (observations .exit)) × Demand3ApartOf spread (now (table .entry)) (now (offsets .entry)) (now (choices .entry)) × ObservationsReadAt spread (now (table .entry)) (now (offsets .entry)) (now (choices .entry)) (now (observations .entry)) ⌝ }
+    ensures { λ r. ⌜ NumbersOf (runCallAt spread (now (table .entry)) (now (offsets .entry)) (now (choices .entry)) (now (observations .entry))) r (now (observations .exit)) × Demand3ApartOf spread (now (table .entry)) (now (offsets .entry)) (now (choices .entry)) × ObservationsReadAt spread (now (table .entry)) (now (offsets .entry)) (now (choices .entry)) (now (observations .entry)) × FinishesApartOf spread (now (table .entry)) (now (offsets .entry)) (now (choices .entry)) ⌝ }
 {
     let ran = calls::apart::run_apart(table, choices, spread, offsets, observations);
     run_numbers(ran)

@@ -12,6 +12,7 @@ ghost use Prim.Native.Nat.{_*_, _≤_};
 ghost use lib.ListN.{length, take};
 ghost use Rattle.io.specs.Counts.{Counts};
 ghost use Rattle.model.specs.Reader.{byte};
+ghost use Rattle.model.specs.Run.{observationWidth};
 ghost use Rattle.text.specs.Words.{Added};
 ghost use Rattle.run_text.specs.RunText.{endText, countsText, offsetsText, firstLine, observationLines, runText, runTextAt};
 use calls::Ran;
@@ -21,6 +22,9 @@ use model::Verdict;
 use model::layout;
 use offset_list::Listed;
 use text::Number;
+
+// Room for the observations of 1,024 passages.
+const ROOM: usize = 1024 * layout::OBSERVATION_WIDTH;
 
 // The file that an argument names, open for reading; below 0 if there is none, and standard error says why.
 fn open_argument(i: usize) -> i32 {
@@ -56,8 +60,8 @@ fn put_run(
     observations: &[u8],
     out: &mut [u8],
 ) -> usize
-    requires { ⌜ (206200 ≤ length (now out)) × (r .size ≤ 1024) × (r .size * 32 ≤ length (now observations)) × (nodes ≤ 8) ⌝ }
-    ensures { λ n. ⌜ Added (now (out .entry)) 0 (endText (r .end) (now (choices .entry)) (r .used) ++ countsText (r .tick) (r .used) (r .size) ++ offsetsText nodes (now (offsets .entry)) ++ firstLine ++ observationLines (now (observations .entry)) (r .size)) (now (out .exit)) n × (n ≤ 206200) ⌝ }
+    requires { ⌜ (225700 ≤ length (now out)) × (r .size ≤ 1024) × (r .size * observationWidth ≤ length (now observations)) × (nodes ≤ 8) ⌝ }
+    ensures { λ n. ⌜ Added (now (out .entry)) 0 (endText (r .end) (now (choices .entry)) (r .used) ++ countsText (r .tick) (r .used) (r .size) ++ offsetsText nodes (now (offsets .entry)) ++ firstLine ++ observationLines (now (observations .entry)) (r .size)) (now (out .exit)) n × (n ≤ 225700) ⌝ }
 {
     let end = r.end;
     let counts = run_text::put_end(out, 0, end, choices, r.used);
@@ -66,7 +70,7 @@ fn put_run(
     let lines = text::put(
         out,
         first,
-        b"node edge location  tick    x0    x1    x2    x3     v0     v1     v2     v3\n",
+        b"node edge location  tick    x0    x1    x2    x3     v0     v1     v2     v3 finished\n",
     );
     run_text::put_observations(out, lines, observations, r.size)
 }
@@ -81,7 +85,7 @@ fn put_printed(
     observations: &mut [u8],
     out: &mut [u8],
 ) -> usize
-    requires { ⌜ (206200 ≤ length (now out)) × (32768 ≤ length (now observations)) ⌝ }
+    requires { ⌜ (225700 ≤ length (now out)) × (1024 * observationWidth ≤ length (now observations)) ⌝ }
     ensures { λ r. ⌜ Counts r (now (out .exit)) ⌝ }
     ensures { λ r. ⌜ take r (now (out .exit)) ≡ runTextAt spread (now (table .entry)) (now (offsets .entry)) (now (choices .entry)) (now (observations .entry)) ⌝ }
     ensures { λ r. ⌜ (spread ≡ 0 → now (offsets .entry) ≡ [] → take r (now (out .exit)) ≡ runText (now (table .entry)) (now (choices .entry)) (now (observations .entry))) ⌝ }
@@ -108,7 +112,7 @@ fn print(
     observations: &mut [u8],
     out: &mut [u8],
 )
-    requires { ⌜ (206200 ≤ length (now out)) × (32768 ≤ length (now observations)) ⌝ }
+    requires { ⌜ (225700 ≤ length (now out)) × (1024 * observationWidth ≤ length (now observations)) ⌝ }
 {
     let n = put_printed(table, choices, spread, offsets, observations, out);
     if !io::write_all(STDOUT_FILENO, &out[..n]) {
@@ -122,8 +126,8 @@ fn print_in_arrays(
     choices: &[u8],
     spread: u32,
     offsets: &[u32],
-    observations: &mut [u8; 32768],
-    out: &mut [u8; 206200],
+    observations: &mut [u8; ROOM],
+    out: &mut [u8; 225700],
 ) {
     print(table, choices, spread, offsets, observations, out);
 }
@@ -134,10 +138,9 @@ fn run_files(table_file: i32, choice_file: i32, spread: u32, offsets: &[u32], ch
     let mut table = [0u8; 8193];
     let n = io::read_full(table_file, &mut table);
     let m = io::read_full(choice_file, choices);
-    // 32 bytes for each of 1,024 passages.
-    let mut observations = [0u8; 32768];
-    // At most 375 bytes, and 201 for each observation.
-    let mut out = [0u8; 206200];
+    let mut observations = [0u8; ROOM];
+    // At most 384 bytes, and 220 for each observation.
+    let mut out = [0u8; 225700];
     print_in_arrays(
         &table[..n],
         &choices[..m],

@@ -8,7 +8,8 @@
 //! spreads both are asked for verdicts and for the windows that met, and run nodes
 //! that wake apart. Of accepted tables random paths of the network within the
 //! schedule are drawn, and found again in runs. The first difference ends the
-//! comparison. Each run is also held to demand 3.
+//! comparison. Each run is also held to demand 3, with the finish ticks in its
+//! observations.
 //! [`tables`] makes well-formed tables, [`layout`] and [`bytes`] serve to
 //! damage them, [`runs`] draws choices, [`classes`] lists what is tried,
 //! [`trial`] tries it.
@@ -40,6 +41,7 @@ use classes::{Class, Extent, CLASSES};
 use difference::Stop;
 use random::Random;
 use readers::{Readers, NUMBERS, UNHEARD};
+use runs::noted;
 use tally::Tally;
 use trial::Trial;
 
@@ -108,6 +110,8 @@ pub struct Least {
     pub of_each_place: u64,
     /// Paths of each kind.
     pub of_each_path: u64,
+    /// Finish ticks of each kind, in runs and in runs of nodes that wake apart.
+    pub of_each_finish: u64,
 }
 
 /// What the comparison should have tried and did not: a class without cases,
@@ -115,8 +119,8 @@ pub struct Least {
 /// too rarely, lists or bytes that never came back in one of the ways, a kind of
 /// edge choice or a reason of an edge that never came, parts never found or never missed, a kind of run
 /// that is too rare, an answer at a spread or a kind of run of nodes that wake
-/// apart that is, a way in which checks 4 to 9 stop that is, a kind of path that is,
-/// fewer cases or runs in all than demanded.
+/// apart that is, a way in which checks 4 to 9 stop that is, a kind of path or of finish
+/// tick that is, fewer cases or runs in all than demanded.
 pub fn gaps(tallies: &[Tally], least: &Least) -> Vec<String> {
     let empty = tallies.iter().filter(|tally| tally.is_empty());
     let mut gaps: Vec<String> = empty
@@ -141,6 +145,9 @@ pub fn gaps(tallies: &[Tally], least: &Least) -> Vec<String> {
     gaps.extend(sum.apart.gaps(least.of_each_apart));
     gaps.extend(sum.places.gaps(least.of_each_place));
     gaps.extend(sum.paths.gaps(least.of_each_path));
+    for (runs, tally) in [("runs", &sum.runs), ("runs apart", &sum.apart.runs)] {
+        gaps.extend(noted::gaps(runs, &tally.noted, least.of_each_finish));
+    }
     let (cases, runs) = (sum.cases(), sum.runs.ran());
     for (count, least, what) in [(cases, least.cases, "cases"), (runs, least.runs, "runs")] {
         if count < least {

@@ -26,6 +26,7 @@ const LEAST: Least = Least {
     of_each_apart: 400,
     of_each_place: 400,
     of_each_path: 400,
+    of_each_finish: 2_000,
 };
 /// The comparison with the yardstick has to try at least so much.
 const LEAST_SHARE: Least = Least {
@@ -36,6 +37,7 @@ const LEAST_SHARE: Least = Least {
     of_each_apart: 50,
     of_each_place: 60,
     of_each_path: 60,
+    of_each_finish: 300,
 };
 
 fn main() -> ExitCode {

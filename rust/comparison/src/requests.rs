@@ -65,8 +65,8 @@ pub enum Request {
         choices: Vec<u8>,
         /// End, node, tick and choices used.
         numbers: [u32; 4],
-        /// The observations, one after the other.
-        observations: Vec<u8>,
+        /// The observations, each as far as it is stored.
+        observations: Vec<Vec<u8>>,
     },
     /// The verdict on a table at a spread.
     Spread {
@@ -234,7 +234,7 @@ fn run(table: Vec<u8>, choices: Vec<u8>, answer: &str) -> Option<Request> {
         table,
         choices,
         numbers: numbers?.try_into().ok()?,
-        observations: observations?.concat(),
+        observations: observations?,
     })
 }
 
@@ -265,7 +265,7 @@ mod tests {
             table: table.clone(),
             choices: choices.clone(),
             numbers: [1, 255, 1, 2],
-            observations: vec![5, 6],
+            observations: vec![vec![5], vec![6]],
         };
         assert_eq!(read, Some(Some(expected)));
         let read = request("a\trun 0102 00ff\trefused 2 255");

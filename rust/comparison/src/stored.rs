@@ -6,7 +6,8 @@ use crate::requests::located;
 use std::fs;
 use std::path::{Path, PathBuf};
 use table_text::corpus::{
-    names_with_spreads, read_answers, read_questions, read_schedule, read_spreads, Answer,
+    names_with_runs, names_with_spreads, read_answers, read_questions, read_runs, read_schedule,
+    read_spreads, Answer, StoredRun,
 };
 use table_text::schedule::{self, Passage};
 use timed_network::Verdict;
@@ -116,6 +117,19 @@ pub fn corpus_spreads() -> Result<Vec<(Vec<u8>, u32, Verdict)>, String> {
         for (spread, answer) in read_spreads(&folder, &name)? {
             all.push((bytes.clone(), spread, verdict(answer)));
         }
+    }
+    Ok(all)
+}
+
+/// The tables of the corpus that have runs, with each of them.
+pub fn corpus_runs() -> Result<Vec<(Vec<u8>, StoredRun)>, String> {
+    let folder = folder("corpus");
+    let mut all = Vec::new();
+    for name in names_with_runs(&folder)? {
+        let file = folder.join(format!("{name}.bin"));
+        let bytes = fs::read(&file).map_err(|error| at(&file, &error.to_string()))?;
+        let runs = read_runs(&folder, &name)?.into_iter();
+        all.extend(runs.map(|run| (bytes.clone(), run)));
     }
     Ok(all)
 }

@@ -25,7 +25,9 @@ macro_rules! wrong {
 
 /// The classes of runs without stored answers.
 fn of_runs(name: &str) -> bool {
-    name.starts_with("runs ") || name == "budgets: runs"
+    name.starts_with("runs ")
+        || name == "budgets: runs"
+        || name == "finish ticks: works of several statements"
 }
 
 #[test]
@@ -51,7 +53,9 @@ fn each_fault_is_found() {
         LateOnceWorkIsDone HighestLateNode LateBeforeNotAllowed HorizonBeforeLate
         LateTickNotCounted UsedUpBeforeHorizon GoesOnBehindHorizon HorizonOneTickLater
         ForbiddenIsCounted NodeOfForbidden ClocksAtEntry ClocksAtEnd AbsentClocksGrow
-        DestinationShown WrittenAfterWork VariablesLittleEndian
+        DestinationShown WrittenAfterWork VariablesLittleEndian FirstFinish0
+        FinishOfTheFirstUpdate FinishAtReady FinishAtEnd FinishNotNotedForTimeout
+        FinishNotNotedForMessage FinishOfTheWorkBefore FinishLittleEndian
     ];
     let mut missed = Vec::new();
     for (fault, reader) in faults {
@@ -63,4 +67,12 @@ fn each_fault_is_found() {
         }
     }
     assert_eq!(missed, []);
+}
+
+/// One side alone refuses a run with too few bytes. The demand knows nothing of what was
+/// lent, so that it finds nothing where both sides take place.
+#[test]
+fn room_for_32_bytes_is_found() {
+    let [(_, reader)] = wrong![RoomFor32Bytes];
+    assert!(finder(of_runs, reader, Reader::second()).is_some());
 }

@@ -17,6 +17,7 @@ const LEAST: Least = Least {
     of_each_apart: 1,
     of_each_place: 1,
     of_each_path: 1,
+    of_each_finish: 1,
 };
 
 fn short(readers: &Readers, seed: u64) -> Result<Vec<Tally>, Stop> {

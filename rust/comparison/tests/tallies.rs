@@ -8,6 +8,7 @@ use comparison::runs::Runs;
 use comparison::spreads::Spreads;
 use comparison::tally::{EdgeChoices, Lists, Tally};
 use comparison::{cases, gaps, Least};
+use demand::finishes::Noted;
 
 /// A class with these answers, and lists, programs, charts, plans, edge choices,
 /// questions, parts and runs of all kinds, also of nodes that wake apart, and refusals at all
@@ -114,6 +115,19 @@ fn all_kinds() -> Runs {
         observations: 30,
         messages: 20,
         timeouts: 10,
+        noted: all_finishes(),
+    }
+}
+
+/// A finish tick of each kind.
+fn all_finishes() -> Noted {
+    Noted {
+        firsts: 10,
+        done: [4, 3, 2],
+        sent: [3, 2, 1],
+        taken: 6,
+        timed_out: 5,
+        spread: 1,
     }
 }
 
@@ -129,6 +143,7 @@ fn least(cases: u64, runs: u64) -> Least {
         of_each_apart: 1,
         of_each_place: 1,
         of_each_path: 1,
+        of_each_finish: 1,
     }
 }
 
@@ -195,13 +210,13 @@ fn what_was_not_tried_is_told() {
         runs: Runs::default(),
         ..full.clone()
     };
-    assert_eq!(gaps(&[no_runs], &least(0, 0)).len(), 17);
+    assert_eq!(gaps(&[no_runs], &least(0, 0)).len(), 17 + 10);
     let not_apart = Tally {
         spreads: Spreads::default(),
         apart: RunsApart::default(),
         ..full.clone()
     };
-    assert_eq!(gaps(&[not_apart], &least(0, 0)).len(), 16 + 16);
+    assert_eq!(gaps(&[not_apart], &least(0, 0)).len(), 16 + 16 + 10);
     let nowhere = Tally {
         places: Places::default(),
         ..full.clone()
@@ -232,6 +247,9 @@ fn a_line_tells_all_answers_that_were_given() {
                 (1 no such node, 1 nothing kept, 1 early sleep, 2 early listen, \
                 2 tick while due), 6 too few bytes, 1 too many choices, 3 table refused; \
                 100 choices, 30 observations, 20 messages, 10 timeouts; \
+                finish ticks: 10 none yet, 4 done at ready, 3 done between, 2 done at the end, \
+                3 sent at ready, 2 sent between, 1 sent at the end, 6 taken, 5 timed out, \
+                1 of work spread over ticks; \
                 17 verdicts at a spread: accepted 1, refused 1: 1, refused 2: 1, refused 3: 1, \
                 refused 4: 1, refused 5: 1, refused 6: 1, refused 7: 1, refused 8: 1, \
                 refused 9: 1, refused 10: 1, refused 11: 1, refused 12: 1, refused 15: 1, \
@@ -242,6 +260,9 @@ fn a_line_tells_all_answers_that_were_given() {
                 (5 at work, 4 for a sleep, 2 several nodes), 7 not allowed \
                 (1 no such node, 6 yet to wake), 6 too few bytes, 1 too many choices, \
                 3 table refused; 100 choices, 30 observations, 20 messages, 10 timeouts; \
+                finish ticks: 10 none yet, 4 done at ready, 3 done between, 2 done at the end, \
+                3 sent at ready, 2 sent between, 1 sent at the end, 6 taken, 5 timed out, \
+                1 of work spread over ticks; \
                 2 with an offset above the spread, 1 together, 3 with something filled in, \
                 8 messages of a sender ahead, 9 behind; \
                 114 places: 4: 39, 5: 72, 6: 3; 12 refused openings: 7: 1, 8: 4 at the start, \

@@ -5,7 +5,7 @@
 mod apart_cases;
 mod finding;
 
-use apart_cases::{Answer, Case};
+use apart_cases::{changed, Answer, Case};
 use comparison::difference::Difference;
 use comparison::readers::{second_run_apart, Reader, RunApart};
 use comparison::runs::Subject;
@@ -32,43 +32,6 @@ fn found_out(run: RunApart) -> bool {
 #[test]
 fn the_second_agrees_with_itself() {
     assert_eq!(difference(Reader::second(), Reader::second()), None);
-}
-
-/// A refused run as it is, another one as this says.
-fn changed(
-    (table, choices, spread, offsets): (&[u8], &[u8], u32, &[u32]),
-    bytes: &mut [u8],
-    change: impl FnOnce(&Case) -> Answer,
-) -> RunNumbers {
-    let mut own = bytes.to_vec();
-    let right = second_run_apart(table, choices, spread, offsets, &mut own);
-    let Some(subject) = Subject::within(table, spread).filter(|_| right.number == 0) else {
-        return right;
-    };
-    let written = right.size as usize * OBSERVATION;
-    let answer = change(&Case {
-        subject: &subject,
-        spread,
-        offsets: offsets.to_vec(),
-        choices: choices.to_vec(),
-        answer: Answer {
-            end: right.end,
-            node: right.node,
-            tick: right.tick,
-            used: right.used,
-            observations: own[..written].to_vec(),
-        },
-    });
-    bytes[..answer.observations.len()].copy_from_slice(&answer.observations);
-    RunNumbers {
-        number: 0,
-        component: 255,
-        end: answer.end,
-        node: answer.node,
-        tick: answer.tick,
-        used: answer.used,
-        size: (answer.observations.len() / OBSERVATION) as u32,
-    }
 }
 
 /// A machine that asks before each choice whether it is allowed.

@@ -15,6 +15,7 @@ const LEAST: Least = Least {
     of_each_apart: 1,
     of_each_place: 1,
     of_each_path: 1,
+    of_each_finish: 1,
 };
 
 /// The classes that hold both sides to stored answers.

@@ -70,12 +70,7 @@ impl Demand<'_> {
         offsets: &[u32],
         claim: &Claim,
     ) -> Result<Apart, String> {
-        let mut held = Held {
-            walk: self.walk_apart(offsets),
-            follower: Log::default(),
-            sleeps: Vec::new(),
-            facts: Facts::default(),
-        };
+        let mut held = Held::new(self.walk_apart(offsets), Log::default());
         held.listeners(0)?;
         let (end, used) = held.carry_out(choices)?;
         held.end(end, used, choices, claim)?;
@@ -96,6 +91,7 @@ impl Demand<'_> {
             observed::compare(&written, &path, component, owed)?;
         }
         observed::in_order(&written, &held.sleeps)?;
+        held.facts.noted = held.finishes.hold(&written, &self.own)?;
         Ok(Apart {
             facts: held.facts,
             works: held.follower.works,

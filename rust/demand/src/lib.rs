@@ -23,16 +23,19 @@
 //! `order` where observations do not stand in finishing order.
 //!
 //! [`apart`] does the same for nodes that wake apart, document 02's wish 6.
+//! [`finishes`] holds the finish tick in each observation, its wish 9.
 #![forbid(unsafe_code)]
 #![warn(missing_docs)]
 
 pub mod apart;
+pub mod finishes;
 mod lengths;
 mod log;
 pub mod observed;
 pub mod path;
 pub mod walk;
 
+use finishes::{Finishes, Kind, Noted};
 use observed::Owed;
 use path::Path;
 use reference::schedule::Passage;
@@ -40,7 +43,7 @@ use reference::table::Table;
 use walk::{Finished, Refusal, Ticked, Walk};
 
 /// The bytes of an observation.
-pub const OBSERVATION: usize = 32;
+pub const OBSERVATION: usize = 36;
 /// The choice that lets a tick pass.
 pub const TICK: u8 = 255;
 /// The node of a run that no node was late in.
@@ -86,6 +89,8 @@ pub struct Facts {
     pub timeouts: u32,
     /// The tick that the path reaches.
     pub reached: u32,
+    /// The finish ticks in its observations.
+    pub noted: Noted,
 }
 
 /// An accepted table with what its runs are held to.
@@ -119,12 +124,8 @@ impl<'a> Demand<'a> {
     /// Holds a run under these choices to the demand: what it was found to
     /// have done, or what is wrong.
     pub fn hold(&self, choices: &[u8], claim: &Claim) -> Result<Facts, String> {
-        let mut held = Held {
-            walk: self.walk(),
-            follower: Path::new(self.table, &self.own)?,
-            sleeps: Vec::new(),
-            facts: Facts::default(),
-        };
+        let follower = Path::new(self.table, &self.own)?;
+        let mut held = Held::new(self.walk(), follower);
         held.listeners(0)?;
         let (end, used) = held.carry_out(choices)?;
         held.end(end, used, choices, claim)?;
@@ -147,6 +148,8 @@ impl<'a> Demand<'a> {
             observed::compare(&written, &held.follower, component, owed)?;
         }
         observed::in_order(&written, &held.sleeps)?;
+        held.facts.noted = held.finishes.hold(&written, &self.own)?;
+        finishes::on_path(&written, &held.follower)?;
         Ok(held.facts)
     }
 }
@@ -181,10 +184,22 @@ struct Held<'a, F> {
     follower: F,
     /// The nodes that finished a sleep, in that order.
     sleeps: Vec<u8>,
+    finishes: Finishes,
     facts: Facts,
 }
 
-impl<F: Follower> Held<'_, F> {
+impl<'a, F: Follower> Held<'a, F> {
+    /// The nodes at their start.
+    fn new(walk: Walk<'a>, follower: F) -> Held<'a, F> {
+        Held {
+            finishes: Finishes::new(walk.nodes()),
+            walk,
+            follower,
+            sleeps: Vec::new(),
+            facts: Facts::default(),
+        }
+    }
+
     /// Carries out choices until the run ends: how, and after how many.
     fn carry_out(&mut self, choices: &[u8]) -> Result<(u8, usize), String> {
         for (index, &choice) in choices.iter().enumerate() {
@@ -223,6 +238,7 @@ impl<F: Follower> Held<'_, F> {
 
     /// A node finishes its statement: finished work is a step in.
     fn finish(&mut self, node: u8) -> Result<Option<u8>, String> {
+        let at_work = self.walk.is_working(node);
         match self.walk.finish(node) {
             Err(Refusal::NoListener) => {
                 return Err(format!("listener: node {node} has none"));
@@ -231,19 +247,36 @@ impl<F: Follower> Held<'_, F> {
                 self.facts.refusal = Some(refusal);
                 return Ok(Some(NOT_ALLOWED));
             }
+            Ok(Finished::Own) if at_work => self.finishes.go_on(node, self.own_clock(node)),
             Ok(Finished::Own) => {}
             Ok(Finished::Sleep) => self.sleeps.push(node),
-            Ok(Finished::Done) => self.follower.alone(node)?,
+            Ok(Finished::Done) => {
+                self.note(node, Kind::Done);
+                self.follower.alone(node)?;
+            }
             Ok(Finished::Timeout) => {
+                self.note(node, Kind::TimedOut);
                 self.facts.timeouts += 1;
                 self.follower.alone(node)?;
             }
             Ok(Finished::Message { receiver, channel }) => {
+                self.note(node, Kind::Sent);
+                self.note(receiver, Kind::Taken);
                 self.facts.messages += 1;
                 self.follower.joint(node, receiver, channel)?;
             }
         }
         Ok(None)
+    }
+
+    fn own_clock(&self, node: u8) -> u32 {
+        self.walk.clock(node.into())
+    }
+
+    /// A node's work is finished now.
+    fn note(&mut self, node: u8, kind: Kind) {
+        let tick = self.own_clock(node);
+        self.finishes.finish(node, tick, kind);
     }
 
     /// "A node past its sleep and yet to send in its window has exactly one

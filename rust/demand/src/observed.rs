@@ -4,30 +4,47 @@
 use crate::path::{Observation, Path};
 use crate::OBSERVATION;
 
+/// Where the finish tick stands in the bytes of an observation.
+const FINISH_TICK: usize = 32;
+
+/// What stands in the bytes of an observation.
+#[derive(Clone, Copy, Debug, PartialEq, Eq)]
+pub struct Written {
+    /// "the old 32 bytes", which "are held against the network path as before".
+    pub observation: Observation,
+    /// "the tick at which the node's previous work finished".
+    pub previous: u32,
+}
+
 /// "32 bytes: component, edge, location, 0, tick (4 bytes), four clocks grown
-/// by n (4 each), four variables (2 each); absent ones 0."
-pub fn read(bytes: &[u8]) -> Result<Vec<Observation>, String> {
+/// by n (4 each), four variables (2 each); absent ones 0." Then the finish tick.
+pub fn read(bytes: &[u8]) -> Result<Vec<Written>, String> {
     let places = bytes.chunks_exact(OBSERVATION);
     if !places.remainder().is_empty() {
         return Err(format!(
-            "observed: {} bytes are not whole observations",
+            "Finishes.each: {} bytes are not whole observations, with a finish tick each",
             bytes.len()
         ));
     }
     places.map(one).collect()
 }
 
-fn one(bytes: &[u8]) -> Result<Observation, String> {
+fn one(bytes: &[u8]) -> Result<Written, String> {
     if bytes[3] != 0 {
         return Err(format!("observed: the fourth byte is {}", bytes[3]));
     }
-    Ok(Observation {
+    let observation = Observation {
         component: bytes[0],
         edge: bytes[1],
         location: bytes[2],
         tick: number(&bytes[4..8]),
         clocks: [8, 12, 16, 20].map(|at| number(&bytes[at..at + 4])),
         variables: [24, 26, 28, 30].map(|at| number(&bytes[at..at + 2]) as u16 as i16),
+    };
+    let previous = number(&bytes[FINISH_TICK..]);
+    Ok(Written {
+        observation,
+        previous,
     })
 }
 
@@ -39,8 +56,8 @@ fn number(bytes: &[u8]) -> u32 {
 }
 
 /// "Finished sleep writes an observation"; "They stand in finishing order."
-pub fn in_order(written: &[Observation], sleeps: &[u8]) -> Result<(), String> {
-    let nodes: Vec<u8> = written.iter().map(|o| o.component).collect();
+pub fn in_order(written: &[Written], sleeps: &[u8]) -> Result<(), String> {
+    let nodes: Vec<u8> = written.iter().map(|o| o.observation.component).collect();
     if nodes == sleeps {
         return Ok(());
     }
@@ -63,17 +80,15 @@ pub struct Owed {
 /// The observations of one node are the first ones on the path. Of those that
 /// are due the last may be missing if the node is late, and none otherwise.
 pub fn compare(
-    written: &[Observation],
+    written: &[Written],
     path: &Path,
     component: usize,
     owed: Owed,
 ) -> Result<(), String> {
     let mut on_path = path.observations(component, owed.until);
     let mut count = 0;
-    for own in written
-        .iter()
-        .filter(|o| usize::from(o.component) == component)
-    {
+    let all = written.iter().map(|one| &one.observation);
+    for own in all.filter(|o| usize::from(o.component) == component) {
         count += 1;
         let expected = on_path.next();
         if expected.as_ref() != Some(own) {

@@ -18,6 +18,8 @@ pub struct Stay {
     pub variables: Variables,
     /// The edge and the message, once stepped in.
     pub step_in: Option<(u8, Option<u8>)>,
+    /// When that was.
+    pub stepped_in: Option<u32>,
 }
 
 /// "An observation on it is edge, location, values and tick at the ready of
@@ -66,6 +68,17 @@ impl<'a> Path<'a> {
         self.state.tick
     }
 
+    /// How many components there are.
+    pub fn components(&self) -> usize {
+        self.own.len()
+    }
+
+    /// The ticks at which a component has stepped in, in their order.
+    pub fn steps_in(&self, component: usize) -> impl Iterator<Item = u32> + '_ {
+        let stays = self.stays[component].iter();
+        stays.filter_map(|stay| stay.stepped_in)
+    }
+
     /// A component's passages in the schedule.
     pub fn own(&self, component: usize) -> &[&'a Passage] {
         &self.own[component]
@@ -82,6 +95,7 @@ impl<'a> Path<'a> {
             clocks: place.clocks,
             variables: place.variables,
             step_in: None,
+            stepped_in: None,
         };
         let stays = &mut self.stays[component];
         let agrees = self.own[component].get(stays.len()).is_some_and(|passage| {
@@ -132,6 +146,7 @@ impl<'a> Path<'a> {
         let stays = &mut self.stays[component];
         let last = stays.len() - 1;
         stays[last].step_in = waiting.map(|w| (w.edge, w.message));
+        stays[last].stepped_in = Some(self.state.tick);
         let passage = self.own[component][last];
         if stays[last].step_in == Some((passage.edge, passage.message)) {
             return Ok(());

@@ -140,7 +140,7 @@ impl<'a> Walk<'a> {
     }
 
     /// A node's own clock now.
-    fn clock(&self, node: usize) -> u32 {
+    pub fn clock(&self, node: usize) -> u32 {
         self.own_clock(node, self.tick)
     }
 

@@ -7,7 +7,7 @@ mod common;
 
 use common::*;
 use demand::path::Path;
-use demand::{Claim, Demand};
+use demand::{Claim, Demand, OBSERVATION};
 use reference::checks::verdict;
 use reference::schedule::{schedule, Passage};
 use reference::table::*;
@@ -27,12 +27,13 @@ fn with(more: &[u8]) -> Vec<u8> {
     [&TO_THE_SEND[..], more].concat()
 }
 
-/// An observation's bytes, for one clock and one variable.
+/// A node's first observation, for one clock and one variable.
 fn observed(fields: [u8; 6]) -> Vec<u8> {
     let [component, edge, location, tick, clock, value] = fields;
-    let mut bytes = vec![0; 32];
+    let mut bytes = vec![0; OBSERVATION];
     bytes[..3].copy_from_slice(&[component, edge, location]);
     (bytes[7], bytes[11], bytes[25]) = (tick, clock, value);
+    bytes[OBSERVATION - 4..].fill(255);
     bytes
 }
 

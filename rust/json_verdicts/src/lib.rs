@@ -3,5 +3,6 @@
 #![forbid(unsafe_code)]
 
 pub mod json;
+pub mod run;
 pub mod stop;
 pub mod why;

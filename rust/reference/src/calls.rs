@@ -205,7 +205,8 @@ pub fn run_apart(
 }
 
 /// "13. Does the lent buffer hold the result (the program length, the list's
-/// passages, or a run's 32 bytes for each passage)? Else 13."
+/// passages, or a run's 32 bytes for each passage)? Else 13." Of a run, by document
+/// 02's wish 9, "Check 13 counts 36 bytes per passage".
 fn demand_room(room: usize, needed: usize) -> Result<(), Refusal> {
     if needed <= room {
         Ok(())

@@ -9,7 +9,7 @@ use reference::checks::{
     check_messages_within, largest_spread, met_within, verdict, verdict_within, MAX_SPREAD,
 };
 use reference::plan::{plan, Slots};
-use reference::run::{End, OBSERVATION, TICK};
+use reference::run::{End, TICK};
 use reference::schedule::Passage;
 use reference::table::*;
 
@@ -17,18 +17,14 @@ fn number(word: &str) -> u32 {
     word.parse().unwrap()
 }
 
-/// Numbers with commas between them.
-fn numbers(word: &str) -> Vec<u32> {
-    word.split(',').map(number).collect()
-}
-
 /// The answer to a request. `lent` says how many bytes are lent to a run, else
 /// there are as many as any run takes.
 fn answer(request: &[&str]) -> Result<String, Refusal> {
-    const AMPLE: usize = 1024 * OBSERVATION;
     match request {
-        ["lent", bytes, "run", words @ ..] => run_answer(words, bytes.parse().unwrap()),
-        ["run", words @ ..] => run_answer(words, AMPLE),
+        ["lent", bytes, "run", words @ ..] => {
+            run_answer(words, bytes.parse().unwrap()).map(without_finishes)
+        }
+        ["run", words @ ..] => run_answer(words, AMPLE).map(without_finishes),
         ["check", table, spread] => {
             calls::check_spread(&unhex(table), number(spread)).map(|()| "accepted".to_string())
         }
@@ -46,37 +42,13 @@ fn answer(request: &[&str]) -> Result<String, Refusal> {
     }
 }
 
-/// The table, the choices, the spread and, unless they are missing, the offsets.
-fn run_answer(words: &[&str], lent: usize) -> Result<String, Refusal> {
-    let offsets = words.get(3).map_or(Vec::new(), |word| numbers(word));
-    let mut bytes = vec![77; lent];
-    let answer = calls::run_apart(
-        &unhex(words[0]),
-        &unhex(words[1]),
-        number(words[2]),
-        &offsets,
-        &mut bytes,
-    );
-    let written = answer.map_or(0, |(_, count)| count * OBSERVATION);
-    assert!(bytes[written..].iter().all(|byte| *byte == 77));
-    let (outcome, count) = answer?;
-    let first = format!(
-        "{} {} {} {}",
-        outcome.end as u8, outcome.node, outcome.tick, outcome.used
-    );
-    let observations = bytes.chunks(OBSERVATION).take(count).map(hex);
-    let parts: Vec<String> = std::iter::once(first).chain(observations).collect();
-    Ok(parts.join("|"))
-}
-
 #[test]
 fn all_vectors() {
     let all = vectors_apart();
     assert_eq!(all.len(), 150);
     for vector in all {
         let words: Vec<&str> = vector.request.iter().map(String::as_str).collect();
-        let given = answer(&words)
-            .unwrap_or_else(|refusal| format!("refused {} {}", refusal.number, refusal.component));
+        let given = told(answer(&words));
         assert_eq!(given, vector.answer, "{}", vector.name);
     }
 }
@@ -95,9 +67,7 @@ fn without_a_spread_all_is_as_before() {
             }
             _ => continue,
         };
-        let given = given
-            .unwrap_or_else(|refusal| format!("refused {} {}", refusal.number, refusal.component));
-        assert_eq!(given, vector.answer, "{}", vector.name);
+        assert_eq!(told(given), vector.answer, "{}", vector.name);
     }
     assert!(runs > 100, "{runs} runs");
 }
@@ -282,7 +252,7 @@ fn twenty_after_14() {
         period: 20,
     };
     let table = write_table(&plan(&slots).unwrap());
-    let mut bytes = [77; 64 * OBSERVATION];
+    let mut bytes = [77; AMPLE];
     let mut run = |choices: &[u8], offsets: &[u32]| {
         calls::run_apart(&table, choices, 2, offsets, &mut bytes).map(|(outcome, _)| outcome.end)
     };

@@ -5,7 +5,7 @@ mod common;
 use common::*;
 use reference::calls::*;
 use reference::program::program;
-use reference::run::{End, OBSERVATION, TICK};
+use reference::run::{End, FINISH_TICK, OBSERVATION, TICK};
 use reference::table::*;
 
 /// Passages and program length of the worked example.
@@ -60,7 +60,12 @@ fn check_13_a_buffer_too_small() {
     for length in [0, 6, PROGRAM - 1] {
         assert_eq!(translate(&table, &mut bytes[..length]), Err(thirteen));
     }
-    for length in [0, 32, PASSAGES * OBSERVATION - 1] {
+    for length in [
+        0,
+        OBSERVATION,
+        PASSAGES * FINISH_TICK,
+        PASSAGES * OBSERVATION - 1,
+    ] {
         assert_eq!(run(&table, &[], &mut bytes[..length]), Err(thirteen));
     }
     assert_eq!(bytes, [77; PASSAGES * OBSERVATION]);
@@ -83,7 +88,11 @@ fn check_14_too_many_choices() {
 fn the_order_of_the_checks() {
     let many = vec![TICK; MAX_CHOICES + 1];
     assert_eq!(
-        run(&probe_and_hub(), &many, &mut [0; 255]),
+        run(
+            &probe_and_hub(),
+            &many,
+            &mut [0; PASSAGES * OBSERVATION - 1]
+        ),
         Err(refused(13, 255))
     );
     let mut table = probe_and_hub_table();
@@ -105,7 +114,7 @@ fn refusals_leave_lent_bytes() {
             continue;
         };
         let table = unhex(&vector.request[1]);
-        let (mut list, mut bytes) = (vec![77; 7 * 1024], vec![77; 32 * 1024]);
+        let (mut list, mut bytes) = (vec![77; 7 * 1024], vec![77; AMPLE]);
         assert_eq!(check(&table), Err(refusal));
         assert_eq!(schedule(&table, &mut list), Err(refusal));
         assert_eq!(translate(&table, &mut bytes), Err(refusal));

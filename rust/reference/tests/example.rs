@@ -6,7 +6,7 @@ use common::*;
 use reference::calls;
 use reference::checks::verdict;
 use reference::program::{decode, part_bytes, program};
-use reference::run::{End, Outcome};
+use reference::run::{End, Outcome, OBSERVATION};
 use reference::schedule::print;
 use reference::table::*;
 
@@ -110,7 +110,7 @@ fn changes_that_are_refused() {
 
 #[test]
 fn no_choices() {
-    let mut bytes = [0; 8 * 32];
+    let mut bytes = [0; 8 * OBSERVATION];
     let used_up = Outcome {
         end: End::UsedUp,
         node: 255,
@@ -119,7 +119,7 @@ fn no_choices() {
     };
     let answer = calls::run(&probe_and_hub(), &[], &mut bytes);
     assert_eq!(answer, Ok((used_up, 0)));
-    assert_eq!(bytes, [0; 8 * 32]);
+    assert_eq!(bytes, [0; 8 * OBSERVATION]);
 }
 
 #[test]

@@ -1,5 +1,6 @@
 //! Every run of an accepted table takes a path of the network that passes as
-//! the schedule says, and its observations are those on the path.
+//! the schedule says, and its observations are those on the path, with the finish
+//! ticks of the steps in.
 
 mod common;
 
@@ -28,8 +29,39 @@ fn compare(table: &Table, passages: &[Passage], run: &Run) -> Result<(), String>
         if !on_path.starts_with(&written) || written.len() < due {
             return Err(format!("node {component}: {written:?}, {on_path:?}"));
         }
+        let (found, steps_in) = (finishes_of(run, component), steps_in(&steps, component));
+        if !steps_in.starts_with(&found) {
+            return Err(format!("node {component}: {found:?}, {steps_in:?}"));
+        }
     }
     Ok(())
+}
+
+/// The finish ticks in the observations of one node.
+fn finishes_of(run: &Run, node: u8) -> Vec<u32> {
+    let own = run.observations.iter().filter(|o| o[0] == node);
+    let tick = |o: &[u8; OBSERVATION]| u32::from_be_bytes(*o.last_chunk().unwrap());
+    own.map(tick).collect()
+}
+
+/// The number for no work, then the ticks at which a component steps in.
+fn steps_in(steps: &[Step], own: u8) -> Vec<u32> {
+    let (mut ticks, mut tick) = (vec![NO_WORK], 0);
+    for step in steps {
+        let steps_in = match *step {
+            Step::Tick => {
+                tick += 1;
+                false
+            }
+            Step::Alone { component, .. } => component == own,
+            Step::Joint {
+                sender, receiver, ..
+            } => sender == own || receiver == own,
+            Step::Out { .. } => false,
+        };
+        ticks.extend(steps_in.then_some(tick));
+    }
+    ticks
 }
 
 /// The observations of one node in a run.

@@ -75,8 +75,8 @@ fn observations_and_log() {
     assert_eq!(
         written,
         [
-            format!("010000000000000200000002{zeros}"),
-            format!("000000000000000300000003{zeros}"),
+            format!("010000000000000200000002{zeros}ffffffff"),
+            format!("000000000000000300000003{zeros}ffffffff"),
         ]
     );
     let message = Event::Message {
@@ -251,8 +251,8 @@ fn absent_clocks_and_variables_are_0() {
     let text = "0x5 tx3 0 0x7 0x5 tx5 0";
     let run = run_of(&table, text);
     assert_eq!(run.outcome.end, End::UsedUp);
-    let first = "0000000000000003000000030000000300000003000000000000000000000000";
-    let second = "000101000000000800000008000000080000000800000000fffe000000000000";
+    let first = "0000000000000003000000030000000300000003000000000000000000000000ffffffff";
+    let second = "000101000000000800000008000000080000000800000000fffe00000000000000000003";
     let written: Vec<String> = run.observations.iter().map(|o| hex(o)).collect();
     assert_eq!(written, [first, second]);
     let done = Event::Done { node: 0, tick: 3 };

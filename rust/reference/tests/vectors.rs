@@ -9,7 +9,6 @@ use reference::checks::verdict;
 use reference::edge_choice::Entry;
 use reference::plan::Slots;
 use reference::reasons::reasons;
-use reference::run::OBSERVATION;
 use reference::schedule;
 use reference::table::Refusal;
 
@@ -23,7 +22,7 @@ fn answer(request: &[String]) -> Result<String, Refusal> {
         ("schedule", []) => schedule_answer(&bytes),
         ("program", []) => program_answer(&bytes),
         ("part", [node]) => Ok(hex(calls::part(&bytes, node.parse().unwrap()))),
-        ("run", [choices]) => run_answer(&bytes, &unhex(choices)),
+        ("run", [choices]) => run_answer(&[&request[1], choices], AMPLE).map(without_finishes),
         ("looked", []) => looked_answer(&bytes),
         ("why", [component, tick]) => {
             why_answer(&bytes, component.parse().unwrap(), tick.parse().unwrap())
@@ -57,18 +56,6 @@ fn program_answer(bytes: &[u8]) -> Result<String, Refusal> {
     let mut program = vec![0; 65_536];
     let length = calls::translate(bytes, &mut program)?;
     Ok(hex(&program[..length]))
-}
-
-fn run_answer(bytes: &[u8], choices: &[u8]) -> Result<String, Refusal> {
-    let mut observations = vec![0; 1024 * OBSERVATION];
-    let (outcome, count) = calls::run(bytes, choices, &mut observations)?;
-    let first = format!(
-        "{} {} {} {}",
-        outcome.end as u8, outcome.node, outcome.tick, outcome.used
-    );
-    let written = observations.chunks(OBSERVATION).take(count).map(hex);
-    let parts: Vec<String> = std::iter::once(first).chain(written).collect();
-    Ok(parts.join("|"))
 }
 
 /// How many edges are looked at for each passage; the edge has to be its own.
@@ -149,10 +136,7 @@ fn all_vectors() {
     let mut counts = std::collections::BTreeMap::new();
     let mut wrong = Vec::new();
     for vector in vectors().into_iter().chain(vectors_of_places()) {
-        let given = match answer(&vector.request) {
-            Ok(text) => text,
-            Err(refusal) => format!("refused {} {}", refusal.number, refusal.component),
-        };
+        let given = told(answer(&vector.request));
         if given != vector.answer {
             wrong.push(format!(
                 "{}: {}\n  expected {}\n  given    {given}",

@@ -326,3 +326,43 @@ fn verify_reads_the_verdicts_at_spreads() {
     assert_eq!(call("verify", &folder), (Some(1), other));
     fs::remove_dir_all(folder).unwrap();
 }
+
+#[test]
+fn verify_reads_the_runs() {
+    let folder = folder_with_one("runs");
+    let file = |name: &str, text: &str| fs::write(folder.join(name), text).unwrap();
+    file("two.txt", GOOD);
+    file("two.schedule", SCHEDULE);
+    file("two.why", QUESTIONS);
+    file("answers.tsv", "one\trefused 3 255\ntwo\taccepted\n");
+    assert_eq!(call("build", &folder).0, Some(0));
+    let runs = "0 - - 1 255 0 0\n3 1,0 00ff 1 255 1 2|0 4 -|1 9 5\n";
+    file("two.runs", runs);
+    let verified = "2 tables verified\n".to_string();
+    assert_eq!(call("verify", &folder), (Some(0), verified));
+
+    let form = "write: G OFFSETS CHOICES END NODE TICK USED|NODE TICK FINISH..";
+    for bad in [
+        "0 - 00",
+        "x - 00 1 255 0 0",
+        "0 1, 00 1 255 0 0",
+        "0 - 0 1 255 0 0",
+        "0 - 0g 1 255 0 0",
+        "0 - 00 1 255 0",
+        "0 - 00 1 255 0 0|0 4",
+        "0 - 00 1 255 0 0|0 4 x",
+        "0 - 00 1 255 0 0|",
+    ] {
+        file("two.runs", bad);
+        let told = format!("two.runs: line 1: {form}\n");
+        assert_eq!(call("verify", &folder), (Some(1), told), "{bad}");
+    }
+    file("two.runs", "");
+    let none = "two.runs: is empty\n".to_string();
+    assert_eq!(call("verify", &folder), (Some(1), none));
+    file("two.runs", runs);
+    file("one.runs", runs);
+    let other = "one: has runs and is not accepted\n".to_string();
+    assert_eq!(call("verify", &folder), (Some(1), other));
+    fs::remove_dir_all(folder).unwrap();
+}

@@ -6,12 +6,13 @@ use common::corpus_folder;
 use reference::calls;
 use reference::checks::verdict;
 use reference::reasons::{reasons, Reasons};
+use reference::run::{FINISH_TICK, NO_WORK, OBSERVATION};
 use reference::schedule::print;
 use reference::table::read_table;
 use std::fs;
 use table_text::corpus::{
-    names_with_spreads, read_answers, read_chart, read_questions, read_schedule, read_spreads,
-    verify, Answer,
+    names_with_runs, names_with_spreads, read_answers, read_chart, read_questions, read_runs,
+    read_schedule, read_spreads, verify, Answer, StoredRun,
 };
 
 fn stored() -> Vec<(String, Answer, Vec<u8>)> {
@@ -189,6 +190,58 @@ fn the_tables_of_the_reasons() {
     let higher = first("accepted_higher_number_32_edges");
     assert_eq!(higher.answer.matches("higher").count(), 31);
     assert!(higher.answer.starts_with("0|0 taken|1 higher|"));
+}
+
+/// The second implementation's answer to a stored run.
+fn ran(table: &[u8], run: &StoredRun) -> String {
+    let mut bytes = vec![0; 1024 * OBSERVATION];
+    let answer = calls::run_apart(table, &run.choices, run.spread, &run.offsets, &mut bytes);
+    let (outcome, count) = answer.unwrap();
+    let (end, node) = (outcome.end as u8, outcome.node);
+    let mut told = format!("{end} {node} {} {}", outcome.tick, outcome.used);
+    for observation in bytes.chunks(OBSERVATION).take(count) {
+        let four = |at: usize| u32::from_be_bytes(*observation[at..].first_chunk().unwrap());
+        told += &format!("|{} {} ", observation[0], four(4));
+        told += &match four(FINISH_TICK) {
+            NO_WORK => "-".to_string(),
+            tick => tick.to_string(),
+        };
+    }
+    told
+}
+
+#[test]
+fn runs_show_the_finish_ticks_of_document_02() {
+    let folder = corpus_folder();
+    let names = names_with_runs(&folder).unwrap();
+    assert_eq!(names.len(), 4);
+    let (mut runs, mut apart) = (0, 0);
+    for name in names {
+        let table = fs::read(folder.join(format!("{name}.bin"))).unwrap();
+        for run in read_runs(&folder, &name).unwrap() {
+            assert_eq!(ran(&table, &run), run.answer, "{name}");
+            runs += 1;
+            apart += usize::from(!run.offsets.is_empty());
+        }
+    }
+    assert_eq!((runs, apart), (13, 6));
+}
+
+/// Of one message the probe notes 10, and the hub what its own clock shows.
+#[test]
+fn the_finish_ticks_of_one_message() {
+    let runs = read_runs(&corpus_folder(), "accepted_finish_of_message").unwrap();
+    for (offsets, ticks) in [
+        (vec![], [10, 10]),
+        (vec![3, 0], [10, 13]),
+        (vec![0, 3], [10, 7]),
+    ] {
+        let run = runs.iter().find(|run| run.offsets == offsets).unwrap();
+        for (node, tick) in ticks.iter().enumerate() {
+            let second = format!("|{node} 28 {tick}");
+            assert!(run.answer.contains(&second), "{offsets:?} {second}");
+        }
+    }
 }
 
 #[test]

@@ -10,7 +10,8 @@
 //! entry, [`reasons`] why it takes the one that it takes at a tick. [`plan`] writes the table of a cellar in which
 //! each probe has a slot of its own. [`translate`] writes the
 //! program of an accepted table, [`program`] gives it as bytes of its own,
-//! [`part`] finds one node's part in it, [`run`] carries out choices. For nodes
+//! [`part`] finds one node's part in it, [`run`] carries out choices and writes
+//! observations, which an [`Observation`] reads. For nodes
 //! that wake apart there are [`check_spread`], [`largest_spread`],
 //! [`meetings_spread`] and [`run_apart`]. [`node`] has one node whose registers
 //! the caller lends. The declarations of the library stand in five private
@@ -26,6 +27,7 @@
 
 mod exported;
 pub mod node;
+mod observation;
 mod places;
 mod reasons;
 mod refusal;
@@ -33,12 +35,12 @@ mod running;
 mod spread;
 
 pub use exported::{Entry, Passage, RunNumbers};
+pub use observation::{Observation, NO_WORK, OBSERVATION};
 pub use places::{refusal_place, refused_opening, Part, Place, RefusedOpening};
 pub use reasons::{reasons, reasons_into, Reason, Reasons, Told, REASON, REASONS_ENOUGH};
 pub use refusal::{Refusal, Refused, UnknownNumber, Verdict, NO_COMPONENT};
 pub use running::{
-    part, program, run, run_numbers, translate, End, Run, MAX_CHOICES, MAX_PROGRAM, NO_NODE,
-    OBSERVATION, TICK,
+    part, program, run, run_numbers, translate, End, Run, MAX_CHOICES, MAX_PROGRAM, NO_NODE, TICK,
 };
 pub use spread::{
     check_spread, largest_spread, meetings_spread, run_apart, run_apart_numbers, MAX_SPREAD,

@@ -6,8 +6,6 @@ use std::fmt;
 
 /// The bytes that every program fits in.
 pub const MAX_PROGRAM: usize = 24_576;
-/// The bytes of an observation.
-pub const OBSERVATION: usize = 32;
 /// The choice that lets a tick pass.
 pub const TICK: u8 = 255;
 /// The most choices that a run takes.
@@ -132,9 +130,10 @@ pub fn part(program: &[u8], node: u8) -> &[u8] {
 }
 
 /// Runs the programs of a table's nodes together under choices and writes the
-/// observations to the front of what is lent, [`OBSERVATION`] bytes each.
-/// What stands past them stays; after a refusal all bytes do. As many bytes
-/// are asked for as the schedule has passages, times [`OBSERVATION`].
+/// observations to the front of what is lent, [`OBSERVATION`](crate::OBSERVATION)
+/// bytes each; [`Run::observations`] reads them. What stands past them stays; after
+/// a refusal all bytes do. As many bytes are asked for as the schedule has passages,
+/// times [`OBSERVATION`](crate::OBSERVATION).
 ///
 /// ```
 /// use timed_network::{run, Refusal};

@@ -4,7 +4,8 @@
 mod common;
 
 use common::*;
-use timed_network::{run, run_numbers, End, Run, MAX_CHOICES, NO_NODE, OBSERVATION, TICK};
+use timed_network::{run, run_numbers, End, Observation, Run};
+use timed_network::{MAX_CHOICES, NO_NODE, NO_WORK, OBSERVATION, TICK};
 
 /// The bytes that a run of the worked example asks for: 8 passages.
 const NEEDED: usize = 8 * OBSERVATION;
@@ -14,10 +15,11 @@ const NEEDED: usize = 8 * OBSERVATION;
 const HUB_AT_2: [u8; OBSERVATION] = observation(1, 2);
 const PROBE_AT_3: [u8; OBSERVATION] = observation(0, 3);
 
-/// Edge 0 at location 0, the only clock as old as the run.
+/// Edge 0 at location 0, the only clock as old as the run, no work before it.
 const fn observation(node: u8, tick: u8) -> [u8; OBSERVATION] {
     let mut bytes = [0; OBSERVATION];
     (bytes[0], bytes[7], bytes[11]) = (node, tick, tick);
+    [bytes[32], bytes[33], bytes[34], bytes[35]] = [255; 4];
     bytes
 }
 
@@ -60,6 +62,57 @@ fn a_message_finishes_both_statements() {
         example(&choices),
         (expected, [HUB_AT_2, PROBE_AT_3].concat())
     );
+}
+
+/// The probe sends at 4 and works again from 8 on; the hub takes the message at 4 and
+/// works again from 9 on.
+#[test]
+fn observations_are_read_from_their_bytes() {
+    let mut choices = AWAKE.to_vec();
+    choices.extend([TICK, 0]);
+    choices.extend([0, 0, 0, 0, 0, 0, 0, 0, 1, 1, 1, 1, 1, 1, 1, 1]);
+    choices.extend([TICK, TICK, TICK, TICK, 0, TICK, 1]);
+    let (run, bytes) = example(&choices);
+    assert_eq!(run, ran(End::UsedUp, 9, choices.len() as u32, 4));
+    let shown: Vec<Observation> = run.observations(&bytes).collect();
+    let one = |component, edge, tick, previous_finish| Observation {
+        component,
+        edge,
+        location: edge,
+        tick,
+        clocks: [tick, 0, 0, 0],
+        values: [0; 4],
+        previous_finish,
+    };
+    let expected = [
+        one(1, 0, 2, None),
+        one(0, 0, 3, None),
+        one(0, 1, 8, Some(4)),
+        one(1, 1, 9, Some(4)),
+    ];
+    assert_eq!(shown, expected);
+    assert_eq!(run.observations(&bytes[..OBSERVATION]).count(), 1);
+}
+
+#[test]
+fn an_observation_has_each_of_its_numbers() {
+    let mut bytes = [0; OBSERVATION];
+    for (place, byte) in bytes.iter_mut().enumerate() {
+        *byte = place as u8 + 1;
+    }
+    bytes[24] = 0x80;
+    let expected = Observation {
+        component: 1,
+        edge: 2,
+        location: 3,
+        tick: 0x0506_0708,
+        clocks: [0x090a_0b0c, 0x0d0e_0f10, 0x1112_1314, 0x1516_1718],
+        values: [-0x7fe6, 0x1b1c, 0x1d1e, 0x1f20],
+        previous_finish: Some(0x2122_2324),
+    };
+    assert_eq!(Observation::from(&bytes), expected);
+    bytes[32..].copy_from_slice(&NO_WORK.to_be_bytes());
+    assert_eq!(Observation::from(&bytes).previous_finish, None);
 }
 
 #[test]

@@ -1,5 +1,5 @@
-//! The safe call `run_apart`: the vectors of nodes that wake apart, the runs of
-//! the others as those without a spread, refusals.
+//! The safe call `run_apart`: the vectors of nodes that wake apart and of finish ticks,
+//! the runs of the others as those without a spread, refusals.
 
 mod common;
 
@@ -39,6 +39,14 @@ fn told(run: Result<Run, Refused>, bytes: &[u8]) -> String {
     parts.join("|")
 }
 
+/// The same as the vectors older than wish 9 have it: of each observation the first 32
+/// bytes.
+fn without_finishes(answer: String) -> String {
+    let old = |part: &str| part[..part.len().min(2 * 32)].to_string();
+    let parts: Vec<String> = answer.split('|').map(old).collect();
+    parts.join("|")
+}
+
 /// Table, choices, spread and, unless they are missing, the offsets.
 fn ran(words: &[&str], lent: usize) -> String {
     let number = |word: &str| word.parse().unwrap();
@@ -62,14 +70,76 @@ fn all_vectors() {
                 checks += 1;
                 check_spread(&unhex(table), spread.parse().unwrap()).to_string()
             }
-            ["run", ref words @ ..] => ran(words, AMPLE),
-            ["lent", lent, "run", ref words @ ..] => ran(words, lent.parse().unwrap()),
+            ["run", ref words @ ..] => without_finishes(ran(words, AMPLE)),
+            ["lent", lent, "run", ref words @ ..] => {
+                without_finishes(ran(words, lent.parse().unwrap()))
+            }
             _ => continue,
         };
         assert_eq!(given, answer, "{name}");
         runs += 1;
     }
     assert_eq!((runs, checks), (148, 77));
+}
+
+/// Those that say no spread are asked of `run` too.
+#[test]
+fn the_vectors_of_finish_ticks() {
+    let (mut count, mut together) = (0, 0);
+    for [name, request, answer] in vectors("finishes.tsv") {
+        let words: Vec<&str> = request.split(' ').collect();
+        let (lent, words) = match words[..] {
+            ["run", ref words @ ..] => (AMPLE, words),
+            ["lent", lent, "run", ref words @ ..] => (lent.parse().unwrap(), words),
+            _ => panic!("no such request: {request}"),
+        };
+        if let [table, choices] = words {
+            let mut bytes = vec![77; lent];
+            let found = run(&unhex(table), &unhex(choices), &mut bytes);
+            assert_eq!(told(found, &bytes), answer, "{name}");
+            assert_eq!(ran(&[table, choices, "0"], lent), answer, "{name}");
+            together += 1;
+        } else {
+            assert_eq!(ran(words, lent), answer, "{name}");
+        }
+        count += 1;
+    }
+    assert_eq!((count, together), (84, 31));
+}
+
+/// An observation of a stored run: node, tick and finish tick, `-` for none.
+fn shown(observation: Observation) -> String {
+    let finish = observation.previous_finish.map(|tick| tick.to_string());
+    let finish = finish.unwrap_or("-".to_string());
+    format!("|{} {} {finish}", observation.component, observation.tick)
+}
+
+/// The runs that stand beside tables of the corpus.
+#[test]
+fn the_runs_of_the_corpus() {
+    let mut count = 0;
+    for name in [
+        "accepted_finish_in_window",
+        "accepted_finish_of_message",
+        "accepted_timeout",
+        "probe_and_hub",
+    ] {
+        let table = file(&format!("corpus/{name}.bin"));
+        for line in text(&format!("corpus/{name}.runs")).lines() {
+            let words: Vec<&str> = line.splitn(4, ' ').collect();
+            let numbers = words[1].split(',').filter(|word| *word != "-");
+            let offsets: Vec<u32> = numbers.map(|word| word.parse().unwrap()).collect();
+            let (spread, choices) = (words[0].parse().unwrap(), unhex(words[2]));
+            let mut bytes = vec![77; AMPLE];
+            let run = run_apart(&table, &choices, spread, &offsets, &mut bytes).unwrap();
+            let end = run.end.number();
+            let first = format!("{end} {} {} {}", run.node, run.tick, run.used);
+            let shown: String = run.observations(&bytes).map(shown).collect();
+            assert_eq!(first + &shown, words[3], "{name}");
+            count += 1;
+        }
+    }
+    assert_eq!(count, 13);
 }
 
 /// "G = 0 is the old check", and without offsets the old run.
@@ -80,10 +150,10 @@ fn without_a_spread_and_offsets_it_is_the_run() {
         for [name, request, answer] in vectors(file) {
             let words: Vec<&str> = request.split(' ').collect();
             if let ["run", table, choices] = words[..] {
-                assert_eq!(ran(&[table, choices, "0"], AMPLE), answer, "{name}");
+                let given = ran(&[table, choices, "0"], AMPLE);
                 let zeros = "0,0,0,0,0,0,0,0";
-                let given = ran(&[table, choices, "0", zeros], AMPLE);
-                assert_eq!(given, answer, "{name}");
+                assert_eq!(ran(&[table, choices, "0", zeros], AMPLE), given, "{name}");
+                assert_eq!(without_finishes(given), answer, "{name}");
                 count += 1;
             }
         }

@@ -50,7 +50,9 @@ pub const NO_MESSAGE: u8 = 255;
 /// which none was late.
 pub const NONE: u8 = 255;
 /// The bytes of an observation.
-pub const OBSERVATION: usize = 32;
+pub const OBSERVATION: usize = 36;
+/// The finish tick in the first observation of a node.
+pub const NO_WORK: u32 = u32::MAX;
 /// "Are there at most 1,000,000 choices?"
 pub const MAX_CHOICES: usize = 1_000_000;
 /// "A G above 1,000 is refused with 19 after 3".

@@ -77,6 +77,7 @@ fn runs_of_all_lengths() {
         assert_eq!((run.end, run.tick, run.used), (End::UsedUp, 2, 13));
         assert_eq!((run.node, run.size), (NONE, 1));
         assert_eq!(observations[..8], [1, 0, 0, 0, 0, 0, 0, 2]);
+        assert_eq!(observations[OBSERVATION - 4..OBSERVATION], [0xff; 4]);
         let behind = &observations[OBSERVATION..];
         assert!(behind.iter().all(|byte| *byte == 0xee));
     }

@@ -5,7 +5,10 @@
 mod common;
 
 use common::*;
-use yardstick::{part, plan, Refusal, Yardstick, NONE, OBSERVATION, REASON};
+use yardstick::{part, plan, Refusal, Yardstick, NONE, NO_WORK, OBSERVATION, REASON};
+
+/// As many bytes as any run takes.
+const AMPLE: usize = 1024 * OBSERVATION;
 
 fn program(yardstick: &mut Yardstick, table: &[u8]) -> Result<String, Refusal> {
     let mut program = vec![0; 65_535];
@@ -45,7 +48,7 @@ fn answer(yardstick: &mut Yardstick, request: &[&str]) -> String {
         ("schedule", []) => told(schedule(yardstick, &bytes).map(|lines| lines.join("|"))),
         ("program", []) => told(program(yardstick, &bytes)),
         ("part", [node]) => hex(&bytes[part(&bytes, node.parse().unwrap())]),
-        ("run", [choices]) => told(run(yardstick, &bytes, &unhex(choices))),
+        ("run", [_]) => told(old_run(yardstick, AMPLE, &request[1..])),
         ("why", &[component, tick]) => told(why(yardstick, 96, &bytes, [component, tick])),
         ("chart", []) => told(chart(yardstick, &bytes, 552)),
         ("chart", [lent]) => told(chart(yardstick, &bytes, lent.parse().unwrap())),
@@ -147,24 +150,6 @@ fn the_vectors_and_the_corpus_of_places() {
     assert_eq!(counts, [83, 42, 152]);
 }
 
-/// The bytes lent, the table, the choices, the spread and, unless they are
-/// missing, the offsets.
-fn run_apart(yardstick: &mut Yardstick, lent: usize, words: &[&str]) -> Result<String, Refusal> {
-    let numbers = |word: &&str| word.split(',').map(|n| n.parse().unwrap()).collect();
-    let offsets: Vec<u32> = words.get(3).map_or(Vec::new(), numbers);
-    let mut bytes = vec![77; lent];
-    let (table, choices) = (unhex(words[0]), unhex(words[1]));
-    let spread = words[2].parse().unwrap();
-    let run = yardstick.run_apart(&table, &choices, spread, &offsets, &mut bytes);
-    let written = run.map_or(0, |run| run.size * OBSERVATION);
-    assert!(bytes[written..].iter().all(|byte| *byte == 77));
-    let run = run?;
-    let first = format!("{} {} {} {}", run.end as u8, run.node, run.tick, run.used);
-    let observations = bytes.chunks(OBSERVATION).take(run.size).map(hex);
-    let parts: Vec<String> = std::iter::once(first).chain(observations).collect();
-    Ok(parts.join("|"))
-}
-
 #[test]
 fn the_vectors_of_nodes_that_wake_apart() {
     let mut yardstick = Yardstick::new();
@@ -178,15 +163,35 @@ fn the_vectors_of_nodes_that_wake_apart() {
                 told(answer.map(|()| "accepted".to_string()))
             }
             ["lent", lent, "run", ref words @ ..] => {
-                told(run_apart(&mut yardstick, lent.parse().unwrap(), words))
+                told(old_run(&mut yardstick, lent.parse().unwrap(), words))
             }
-            ["run", ref words @ ..] => told(run_apart(&mut yardstick, 1024 * OBSERVATION, words)),
+            ["run", ref words @ ..] => told(old_run(&mut yardstick, AMPLE, words)),
             _ => answer(&mut yardstick, &request),
         };
         assert_eq!(given, fields[2], "{}: {}", fields[0], fields[1]);
         count += 1;
     }
     assert_eq!(count, 150);
+}
+
+#[test]
+fn the_vectors_of_finish_ticks() {
+    let mut yardstick = Yardstick::new();
+    let mut count = 0;
+    for line in text("vectors/finishes.tsv").lines() {
+        let fields: Vec<&str> = line.split('\t').collect();
+        let request: Vec<&str> = fields[1].split(' ').collect();
+        let given = match request[..] {
+            ["lent", lent, "run", ref words @ ..] => {
+                told(run(&mut yardstick, lent.parse().unwrap(), words))
+            }
+            ["run", ref words @ ..] => told(run(&mut yardstick, AMPLE, words)),
+            _ => panic!("no such request: {request:?}"),
+        };
+        assert_eq!(given, fields[2], "{}: {}", fields[0], fields[1]);
+        count += 1;
+    }
+    assert_eq!(count, 84);
 }
 
 /// The words of the reasons, by their numbers.
@@ -260,6 +265,41 @@ fn whole_corpus() {
         }
     }
     assert!(accepted > 10, "{accepted} accepted");
+}
+
+/// An observation of a stored run: node, tick and finish tick, `-` for none.
+fn shown(observation: &[u8]) -> String {
+    let four = |at: usize| u32::from_be_bytes(*observation[at..].first_chunk().unwrap());
+    let finish = match four(OBSERVATION - 4) {
+        NO_WORK => "-".to_string(),
+        tick => tick.to_string(),
+    };
+    format!("|{} {} {finish}", observation[0], four(4))
+}
+
+#[test]
+fn the_runs_of_the_corpus() {
+    let mut yardstick = Yardstick::new();
+    let mut count = 0;
+    for name in [
+        "accepted_finish_in_window",
+        "accepted_finish_of_message",
+        "accepted_timeout",
+        "probe_and_hub",
+    ] {
+        let table = hex(&bytes(&format!("corpus/{name}.bin")));
+        for line in text(&format!("corpus/{name}.runs")).lines() {
+            let words: Vec<&str> = line.splitn(4, ' ').collect();
+            let mut asked = vec![table.as_str(), words[2], words[0]];
+            asked.extend(Some(words[1]).filter(|offsets| *offsets != "-"));
+            let answer = run(&mut yardstick, AMPLE, &asked).unwrap();
+            let (numbers, observations) = answer.split_once('|').unwrap();
+            let shown: String = observations.split('|').map(|o| shown(&unhex(o))).collect();
+            assert_eq!(format!("{numbers}{shown}"), words[3], "{name}");
+            count += 1;
+        }
+    }
+    assert_eq!(count, 13);
 }
 
 #[test]

@@ -2,6 +2,7 @@
 use borrow.Author.Needs.{needs}
 use Rattle.model.proofs.Observations.All.{observations-read}
 use Rattle.model.proofs.Run.CallsApart.{run-together}
+use Rattle.model.proofs.Run.Finished.{finishes-together}
 use Rattle.model.proofs.Run.Promise.{promised}
 use Rattle.calls.proofs.run.Statement.{statement}
 use Rattle.calls.proofs.run.Tie as tie
@@ -27,6 +28,7 @@ returns c =
       rw (← run-together (a .table .now) (a .choices .now) (a .observations .now)) (c .before .before .run-apart .ensures .0),
       λ t S e q. promised (a .table .now) t S e q (a .choices .now),
       observations-read (a .table .now) (a .choices .now) (a .observations .now),
+      finishes-together (a .table .now) (a .choices .now),
     )
 
 pub run-spec : {M : Type 1} → statement M

@@ -95,7 +95,7 @@ returns-3 : tie.Need-returns-3
 returns-3 c H =
     let d = c .before .before .before .before .before .before .before .before .before in
     let a = start d .args in
-    c .before .before .before .send-message .ensures H (a .tick) (a .written) (a .out .now) (up d)
+    c .before .before .before .send-message .ensures H (a .written) (a .out .now) (up d)
 
 go-alone-requires : tie.Need-go-alone-requires
 go-alone-requires c κs =

@@ -1,9 +1,10 @@
 -- `machine::finish_node` meets its contract. Assumes nothing.
 use Rattle.registers.proofs.Frames.{stored-eight}
-use Rattle.machine.proofs.NodeMoves.{Passing, passing-length, passes, words-moved, place-stored, time-stored, wake-stored}
+use Rattle.machine.proofs.NodeMoves.{Passing, passing-length, passes, words-moved, finish-noted, place-stored, time-stored, wake-stored}
 use Rattle.machine.specs.Chosen.{RowPassed}
 use mathlib.Core.Logic.{inl, inr, ⊎-elim}
 use mathlib.Core.Path.{sym, subst, _∙_}
+use native.Mathlib.Omega.{arith}
 use borrow.Author.Needs.{needs}
 use Rattle.machine.proofs.finish_node.Statement.{statement}
 use Rattle.machine.proofs.finish_node.Tie as tie
@@ -79,13 +80,13 @@ note-requires c κs =
       wake-stored (f .stored) (asked .wakes),
     )
 
-same-length : tie.Need-same-length
-same-length c =
-    let s = c .before .before .before .before .before .before .before .before .before .before .before .before .before .before .before .before .before .before .before .before in
+note-finish-requires : tie.Need-note-finish-requires
+note-finish-requires c κs =
+    let s = c .before .before .before .before .before .before .before .before .before .before .before .before .before .before .before .before .before .before .before .before .before in
     let a = s .args in
-    let base = c .before .before .before .before .before .before .before .before .before .before .before .before .before .before .before .word in
-    let size = c .before .before .before .before .before .before .before .before .before .before .before .before .before .word2 in
-    let row = c .before .before .before .before .before .before .before .before .before .before .before .before .if1 in
+    let base = c .before .before .before .before .before .before .before .before .before .before .before .before .before .before .before .before .word in
+    let size = c .before .before .before .before .before .before .before .before .before .before .before .before .before .before .word2 in
+    let row = c .before .before .before .before .before .before .before .before .before .before .before .before .before .if1 in
     let way : Passing (a .rows .now) (a .passages) (a .words .now) (a .c) (a .op) (row .words) =
     ⊎-elim
     (λ w. inl (w .0 .taken, subst (RowPassed (a .rows .now) (a .passages) (a .words .now) (a .c)) (sym (w .5)) (w .2 .ensures)))
@@ -94,18 +95,36 @@ same-length c =
     let asked =
     passes (a .program .now) (a .rows .now) (a .passages) (a .words .now) (a .values .now) (a .c) (base .result) (size .result) (a .op) (row .words) (base .ensures) (size .ensures)
     (s .pre .0) (s .pre .3) (s .pre .4) (s .pre .5) way in
-    c .before .before .note .kept .1 .1 .1 .0 ∙ (c .before .before .before .before .before .before .before .before .finish .kept .1 .0 ∙ passing-length (a .rows .now) (a .passages) (a .words .now) (a .c) (a .op) (row .words) way)
+    let f = c .before .before .before .before .before .before .before .before .before .finish .ensures in
+    (omega (arith, c .before .before .before .note .kept .1 .1 .1 .0, stored-eight (f .stored) (asked .eight) .words), s .pre .2)
+
+same-length : tie.Need-same-length
+same-length c =
+    let s = c .before .before .before .before .before .before .before .before .before .before .before .before .before .before .before .before .before .before .before .before .before .before .before .before in
+    let a = s .args in
+    let base = c .before .before .before .before .before .before .before .before .before .before .before .before .before .before .before .before .before .before .before .word in
+    let size = c .before .before .before .before .before .before .before .before .before .before .before .before .before .before .before .before .before .word2 in
+    let row = c .before .before .before .before .before .before .before .before .before .before .before .before .before .before .before .before .if1 in
+    let way : Passing (a .rows .now) (a .passages) (a .words .now) (a .c) (a .op) (row .words) =
+    ⊎-elim
+    (λ w. inl (w .0 .taken, subst (RowPassed (a .rows .now) (a .passages) (a .words .now) (a .c)) (sym (w .5)) (w .2 .ensures)))
+    (λ w. inr (w .0 .left, w .1))
+    (row .came) in
+    let asked =
+    passes (a .program .now) (a .rows .now) (a .passages) (a .words .now) (a .values .now) (a .c) (base .result) (size .result) (a .op) (row .words) (base .ensures) (size .ensures)
+    (s .pre .0) (s .pre .3) (s .pre .4) (s .pre .5) way in
+    c .before .before .note-finish .kept .0 ∙ (c .before .before .before .before .before .before .note .kept .1 .1 .1 .0 ∙ (c .before .before .before .before .before .before .before .before .before .before .before .before .finish .kept .1 .0 ∙ passing-length (a .rows .now) (a .passages) (a .words .now) (a .c) (a .op) (row .words) way))
 
 same-length-2 : tie.Need-same-length-2
 same-length-2 c = search needs
 
 returns : tie.Need-returns
 returns c =
-    let s = c .before .before .before .before .before .before .before .before .before .before .before .before .before .before .before .before .before .before .before .before in
+    let s = c .before .before .before .before .before .before .before .before .before .before .before .before .before .before .before .before .before .before .before .before .before .before .before .before in
     let a = s .args in
-    let base = c .before .before .before .before .before .before .before .before .before .before .before .before .before .before .before .word in
-    let size = c .before .before .before .before .before .before .before .before .before .before .before .before .before .word2 in
-    let row = c .before .before .before .before .before .before .before .before .before .before .before .before .if1 in
+    let base = c .before .before .before .before .before .before .before .before .before .before .before .before .before .before .before .before .before .before .before .word in
+    let size = c .before .before .before .before .before .before .before .before .before .before .before .before .before .before .before .before .before .word2 in
+    let row = c .before .before .before .before .before .before .before .before .before .before .before .before .before .before .before .before .if1 in
     let way : Passing (a .rows .now) (a .passages) (a .words .now) (a .c) (a .op) (row .words) =
     ⊎-elim
     (λ w. inl (w .0 .taken, subst (RowPassed (a .rows .now) (a .passages) (a .words .now) (a .c)) (sym (w .5)) (w .2 .ensures)))
@@ -114,9 +133,11 @@ returns c =
     let asked =
     passes (a .program .now) (a .rows .now) (a .passages) (a .words .now) (a .values .now) (a .c) (base .result) (size .result) (a .op) (row .words) (base .ensures) (size .ensures)
     (s .pre .0) (s .pre .3) (s .pre .4) (s .pre .5) way in
-    let f = c .before .before .before .before .before .before .before .before .finish in
-    words-moved (a .program .now) (a .rows .now) (a .passages) (a .words .now) (a .values .now) (a .c) (base .result) (size .result) (a .op) (f .result) (row .words) (f .last .1 .0) (f .last .1 .1 .0)
-    (c .before .before .note .last .1 .1 .1 .0) (s .pre .2) (base .ensures) (size .ensures) (s .pre .4) way asked (f .ensures) (c .before .before .note .ensures)
+    let f = c .before .before .before .before .before .before .before .before .before .before .before .before .finish in
+    finish-noted (a .op) (a .tick) (s .pre .2)
+    (words-moved (a .program .now) (a .rows .now) (a .passages) (a .words .now) (a .values .now) (a .c) (base .result) (size .result) (a .op) (f .result) (row .words) (f .last .1 .0) (f .last .1 .1 .0)
+    (c .before .before .before .before .before .before .note .last .1 .1 .1 .0) (s .pre .2) (base .ensures) (size .ensures) (s .pre .4) way asked (f .ensures) (c .before .before .before .before .before .before .note .ensures))
+    (c .before .before .note-finish .ensures)
 
 pub finish-node-spec : {M : Type 1} → statement M
 finish-node-spec =
@@ -134,6 +155,7 @@ finish-node-spec =
     part-note-start
     part-note-end
     note-requires
+    note-finish-requires
     same-length
     same-length-2
     returns)

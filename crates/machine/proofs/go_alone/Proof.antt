@@ -2,19 +2,19 @@
 use Rattle.machine.proofs.Alone.{refused, woken, done, observed-now}
 use Rattle.machine.proofs.Loads.{Loaded, held-fine, within, view-of, stands-there, all-inside}
 use Rattle.machine.proofs.Ops.{addable}
-use Rattle.registers.specs.Words.{wordIn, nodeIn, heldIn, partIn}
-use Rattle.machine.specs.Running.{viewIn}
+use Rattle.registers.specs.Words.{wordIn, nodeIn, heldIn, partIn, wakeTickIn, finishTickIn}
+use Rattle.machine.specs.Running.{viewIn, finishesWork}
 use Rattle.stand.specs.Stands.{mayFinish}
-use Rattle.model.specs.Run.{standOf, observes, observationBytes}
+use Rattle.model.specs.Run.{standOf, observes, observationWidth, writtenBytes}
 use Rattle.model.specs.Machine
 use lib.Seq.{sets}
 use borrow.Author.Tests.{not-true, not-false}
-use Prim.Native.Nat.{ℕ, _*_}
+use Prim.Native.Nat.{ℕ, _*_, _-_}
 use lib.IntN.{ℤ}
-use mathlib.Core.Bool.{Bool, true}
+use mathlib.Core.Bool.{Bool, true, cond}
 use mathlib.Core.List.{List}
 use native.Mathlib.Omega.{arith}
-use mathlib.Core.Path.{_≡_, refl, sym, ap₂, subst, _∙_}
+use mathlib.Core.Path.{_≡_, refl, sym, ap, ap₂, subst, _∙_}
 use borrow.Author.Needs.{needs}
 use Rattle.machine.proofs.go_alone.Statement.{statement}
 use Rattle.machine.proofs.go_alone.Tie as tie
@@ -68,40 +68,45 @@ counts-requires c κs = search needs
 load-requires : tie.Need-load-requires
 load-requires c κs = search needs
 
-cast-put-observation : tie.Need-cast-put-observation
-cast-put-observation c =
-    let s = c .before .before .before .before .before .before .before .before .before .before .before .before .before .before in
+word-requires : tie.Need-word-requires
+word-requires c κs =
+    let s = c .before .before .before .before .before .before .before .before .before .before .before .before .before .before .before in
+    (s .pre .0 .eight .words, omega (arith, s .pre .0 .most, s .pre .1), omega arith)
+
+cast-put-written : tie.Need-cast-put-written
+cast-put-written c =
+    let s = c .before .before .before .before .before .before .before .before .before .before .before .before .before .before .before .before in
     let a = s .args in
     omega (arith, s .pre .0 .most, s .pre .1)
 
-mul-put-observation : tie.Need-mul-put-observation
-mul-put-observation c = search needs
+mul-put-written : tie.Need-mul-put-written
+mul-put-written c = search needs
 
-put-observation-requires : tie.Need-put-observation-requires
-put-observation-requires c κs =
-    let s = c .before .before .before .before .before .before .before .before .before .before .before .before .before .before .before in
+put-written-requires : tie.Need-put-written-requires
+put-written-requires c κs =
+    let s = c .before .before .before .before .before .before .before .before .before .before .before .before .before .before .before .before .before in
     let a = s .args in
-    let d = c .before in (
-      s .pre .4 (observed-now (a .program .now) (a .words .now) (a .values .now) (a .c) (a .tick) (sym (s .pre .2) ∙ c .before .before .before .before .before .before .if2 .taken) (allowed (c .before .before .before .before .before .before .before))),
+    let d = c .before .before .before in (
+      s .pre .4 (observed-now (a .program .now) (a .words .now) (a .values .now) (a .c) (a .tick) (sym (s .pre .2) ∙ c .before .before .before .before .before .before .before .before .if2 .taken) (allowed (c .before .before .before .before .before .before .before .before .before))),
       held-fine (loaded d),
       within (loaded d),
     )
 
 finish-node-requires : tie.Need-finish-node-requires
 finish-node-requires c κs =
-    let s = c .before .before .before .before .before .before .before .before .before .before .before .before .before .before .before .before .before .before .before .before in
+    let s = c .before .before .before .before .before .before .before .before .before .before .before .before .before .before .before .before .before .before .before .before .before .before in
     let a = s .args in (
       s .pre .0 .eight,
       s .pre .0 .listed,
       (omega (arith, s .pre .0 .most, s .pre .1)),
       stands-there (s .pre .0) (a .c) (s .pre .1),
-      sym (c .before .before .before .before .before .before .before .before .before .before .before .if2 .taken) ∙ s .pre .2,
-      addable (partIn (a .program .now) (a .words .now) (a .c)) (heldIn (a .words .now) (a .c)) (nodeIn (a .words .now) (a .values .now) (a .c)) (a .tick) (allowed (c .before .before .before .before .before .before .before .before .before .before .before .before)),
+      sym (c .before .before .before .before .before .before .before .before .before .before .before .before .before .if2 .taken) ∙ s .pre .2,
+      addable (partIn (a .program .now) (a .words .now) (a .c)) (heldIn (a .words .now) (a .c)) (nodeIn (a .words .now) (a .values .now) (a .c)) (a .tick) (allowed (c .before .before .before .before .before .before .before .before .before .before .before .before .before .before)),
     )
 
-add-t30 : tie.Need-add-t30
-add-t30 c =
-    let s = c .before .before .before .before .before .before .before .before .before .before .before .before .before .before .before .before .before .before .before .before .before .before .before .before in
+add-t33 : tie.Need-add-t33
+add-t33 c =
+    let s = c .before .before .before .before .before .before .before .before .before .before .before .before .before .before .before .before .before .before .before .before .before .before .before .before .before .before in
     let a = s .args in
     omega (arith, s .pre .5)
 
@@ -116,18 +121,22 @@ same-length-5 c = search needs
 
 returns-2 : tie.Need-returns-2
 returns-2 c H common up clock =
-    let s = c .before .before .before .before .before .before .before .before .before .before .before .before .before .before .before .before .before .before .before .before .before .before .before .before in
+    let s = c .before .before .before .before .before .before .before .before .before .before .before .before .before .before .before .before .before .before .before .before .before .before .before .before .before .before in
     let a = s .args in
-    let d = c .before .before .before .before .before .before .before .before .before .before in
+    let d = c .before .before .before .before .before .before .before .before .before .before .before .before in
     woken (a .program .now) (a .rows .now) (a .passages) H (a .count) common (a .c) (a .words .now) (a .values .now) (a .out .now) (a .written) (s .pre .0 .most) (s .pre .1) up
-    (c .before .before .before .finish-node .ensures)
+    (c .before .before .before .finish-node .ensures .0)
+    0
+    (sym (c .before .before .before .before .before .before .before .before .before .before .before .before .before .before .before .before .before .if2 .taken) ∙ s .pre .2)
+    (c .before .before .before .finish-node .ensures .1)
     (s .pre .3)
     (at-common (a .program .now) (a .words .now) (a .values .now) (a .c) clock
-    (allowed (c .before .before .before .before .before .before .before .before .before .before .before .before .before .before .before .before)))
-    (sym (s .pre .2) ∙ c .before .before .before .before .before .before .before .before .before .before .before .before .before .before .before .if2 .taken)
+    (allowed (c .before .before .before .before .before .before .before .before .before .before .before .before .before .before .before .before .before .before)))
+    (sym (s .pre .2) ∙ c .before .before .before .before .before .before .before .before .before .before .before .before .before .before .before .before .before .if2 .taken)
     _
-    (c .before .before .before .before .before .before .before .before .put-observation .ensures (partIn (a .program .now) (a .words .now) (a .c))
-    ∙ ap₂ (λ (k : ℕ) (q : Rattle.model.specs.Machine.Node). sets (a .out .now) (a .written * 32) (observationBytes (observes (a .c) k q))) clock (view-of (loaded d)))
+    (c .before .before .before .before .before .before .before .before .put-written .ensures (partIn (a .program .now) (a .words .now) (a .c))
+    ∙ (ap₂ (λ (k : ℕ) (q : Rattle.model.specs.Machine.Node). sets (a .out .now) (a .written * observationWidth) (writtenBytes (record { observation = observes (a .c) k q; previous = c .before .before .before .before .before .before .before .before .before .before .word .result }))) clock (view-of (loaded d))
+    ∙ ap (λ (p : ℕ). sets (a .out .now) (a .written * observationWidth) (writtenBytes (record { observation = observes (a .c) (common - wakeTickIn (a .words .now) (a .c)) (viewIn (a .program .now) (a .words .now) (a .values .now) (a .c)); previous = p }))) (c .before .before .before .before .before .before .before .before .before .before .word .ensures)))
 
 finish-node-requires-2 : tie.Need-finish-node-requires-2
 finish-node-requires-2 c κs =
@@ -152,7 +161,10 @@ returns-3 c H common up clock =
     let s = c .before .before .before .before .before .before .before .before .before .before .before .before .before .before .before in
     let a = s .args in
     done (a .program .now) (a .rows .now) (a .passages) H (a .count) common (a .c) (a .words .now) (a .values .now) (a .out .now) (a .written) (s .pre .0 .most) (s .pre .1) up
-    (c .before .before .before .finish-node2 .ensures)
+    (c .before .before .before .finish-node2 .ensures .0)
+    (a .op)
+    (s .pre .2)
+    (c .before .before .before .finish-node2 .ensures .1 ∙ ap (λ (k : ℕ). cond (finishesWork (a .op)) k (finishTickIn (a .words .now) (a .c))) clock)
     (s .pre .3)
     (at-common (a .program .now) (a .words .now) (a .values .now) (a .c) clock (allowed (c .before .before .before .before .before .before .before)))
     (λ z. c .before .before .before .before .before .before .if2 .left (s .pre .2 ∙ z))
@@ -167,11 +179,12 @@ go-alone-spec =
     returns
     counts-requires
     load-requires
-    cast-put-observation
-    mul-put-observation
-    put-observation-requires
+    word-requires
+    cast-put-written
+    mul-put-written
+    put-written-requires
     finish-node-requires
-    add-t30
+    add-t33
     same-length-3
     same-length-4
     same-length-5

@@ -1,9 +1,10 @@
 -- `machine::hear` meets its contract. Assumes nothing.
 use mathlib.Core.Path.{refl}
+use native.Mathlib.Omega.{arith}
 use Rattle.registers.specs.Words.{heldIn}
 use Rattle.stand.proofs.Message.{message-grows}
 use borrow.Author.Needs.{needs}
-use Rattle.machine.proofs.NodeMoves.{asks, message-moved}
+use Rattle.machine.proofs.NodeMoves.{asks, message-moved, finish-heard}
 use Rattle.machine.proofs.hear.Statement.{statement}
 use Rattle.machine.proofs.hear.Tie as tie
 
@@ -65,6 +66,9 @@ put-node-requires c κs =
     let after = asked .put (q .result) (message-grows _ (a .channel) (r .result) (q .result) (q .ensures)) in
     (pre .0, pre .1, pre .2, asked .inside, search needs, pre .3 .wakes)
 
+put-word-requires : tie.Need-put-word-requires
+put-word-requires c κs = (c .before .before .before .before .put-node .ensures .eight .words, c .before .before .before .before .before .before .before .before .before .before .before .before .before .before .before .before .before .before .before .pre .2, omega arith)
+
 same-length : tie.Need-same-length
 same-length c = search needs
 
@@ -73,15 +77,16 @@ same-length-2 c = search needs
 
 returns : tie.Need-returns
 returns c =
-    let start = c .before .before .before .before .before .before .before .before .before .before .before .before .before .before .before .before .before .before in
+    let start = c .before .before .before .before .before .before .before .before .before .before .before .before .before .before .before .before .before .before .before .before .before .before in
     let a = start .args in
     let pre = start .pre in
-    let base = c .before .before .before .before .before .before .before .before .before .before .before .before .before .word in
-    let size = c .before .before .before .before .before .before .before .before .before .before .before .word2 in
-    let r = c .before .before .before .before .before .before .before .before .load in
-    let q = c .before .before .before .before .before .before .take-message in
-    let put = c .before .before .before .put-node in
-    message-moved (a .program .now) (a .rows .now) (a .passages) (a .words .now) (a .values .now) (a .i) (base .result) (size .result) (heldIn (a .words .now) (a .i)) (q .result)
+    let base = c .before .before .before .before .before .before .before .before .before .before .before .before .before .before .before .before .before .word in
+    let size = c .before .before .before .before .before .before .before .before .before .before .before .before .before .before .before .word2 in
+    let r = c .before .before .before .before .before .before .before .before .before .before .before .before .load in
+    let q = c .before .before .before .before .before .before .before .before .before .before .take-message in
+    let put = c .before .before .before .before .before .before .before .put-node in
+    finish-heard (a .tick) (pre .2)
+    (message-moved (a .program .now) (a .rows .now) (a .passages) (a .words .now) (a .values .now) (a .i) (base .result) (size .result) (heldIn (a .words .now) (a .i)) (q .result)
     (put .last .1 .1 .1 .0)
     (put .last .1 .1 .1 .1 .0)
     (base .ensures)
@@ -92,7 +97,8 @@ returns c =
     (r .ensures)
     (pre .4)
     (q .ensures)
-    (put .ensures)
+    (put .ensures))
+    (c .before .before .put-word .ensures)
 
 pub hear-spec : {M : Type 1} → statement M
 hear-spec =
@@ -107,6 +113,7 @@ hear-spec =
     part-take-message-end
     take-message-requires
     put-node-requires
+    put-word-requires
     same-length
     same-length-2
     returns)

@@ -73,19 +73,25 @@ same-length-2 : tie.Need-same-length-2
 same-length-2 c = search needs
 
 returns : tie.Need-returns
-returns c H tick written out wake =
+returns c H written out wake =
     let d = c .before .before .before .before .before in
     let f = start d in
     let a = f .args in
-    unheard (a .program .now) (a .rows .now) (a .passages) H (a .count) tick (a .c) (a .words .now) (a .values .now) out written (f .pre .0 .most) (f .pre .1) wake (f .pre .2) (c .before .before .before .byte-at .result)
+    unheard (a .program .now) (a .rows .now) (a .passages) H (a .count) (a .tick) (a .c) (a .words .now) (a .values .now) out written (f .pre .0 .most) (f .pre .1) wake (f .pre .2) (c .before .before .before .byte-at .result)
     (on-channel (c .before .before .before))
     (c .before .listener .result)
     (c .if1 .taken)
     (c .before .listener .ensures)
 
+own-tick-requires : tie.Need-own-tick-requires
+own-tick-requires c κs = search needs
+
+own-tick-requires-2 : tie.Need-own-tick-requires-2
+own-tick-requires-2 c κs = search needs
+
 finish-node-requires : tie.Need-finish-node-requires
 finish-node-requires c κs =
-    let d = c .before .before .before .before .before .before .before in
+    let d = c .before .before .before .before .before .before .before .before .before .before .before in
     let f = start d in (
       f .pre .0 .eight,
       f .pre .0 .listed,
@@ -97,34 +103,36 @@ finish-node-requires c κs =
 
 hear-requires : tie.Need-hear-requires
 hear-requires c κs =
-    let d = c .before .before .before .before .before .before .before .before .before .before .before .before .before in
+    let d = c .before .before .before .before .before .before .before .before .before .before .before .before .before .before .before .before .before in
     let f = start d in
-    let mv = c .before .before .before .before .before .finish-node .ensures in
-    let w = c .before .before .before .before .before .before .before .before .before .listener .ensures .1 (omega (arith, c .before .before .before .before .before .before .before .before .if1 .left)) in (
+    let mv = c .before .before .before .before .before .finish-node .ensures .0 in
+    let w = c .before .before .before .before .before .before .before .before .before .before .before .before .before .listener .ensures .1 (omega (arith, c .before .before .before .before .before .before .before .before .before .before .before .before .if1 .left)) in (
       mv .eight,
       f .pre .0 .listed,
-      (omega (arith, c .before .before .before .before .before .before .before .before .if1 .left)),
-      same-stands (mv .others (c .before .before .before .before .before .before .before .before .before .listener .result) (w .1)) (stands-there (f .pre .0) (c .before .before .before .before .before .before .before .before .before .listener .result) (w .0)),
-      op-still (f .args .program .now) 5 (mv .others (c .before .before .before .before .before .before .before .before .before .listener .result) (w .1)) (w .2),
+      (omega (arith, c .before .before .before .before .before .before .before .before .before .before .before .before .if1 .left)),
+      same-stands (mv .others (c .before .before .before .before .before .before .before .before .before .before .before .before .before .listener .result) (w .1)) (stands-there (f .pre .0) (c .before .before .before .before .before .before .before .before .before .before .before .before .before .listener .result) (w .0)),
+      op-still (f .args .program .now) 5 (mv .others (c .before .before .before .before .before .before .before .before .before .before .before .before .before .listener .result) (w .1)) (w .2),
     )
 
 same-length-3 : tie.Need-same-length-3
 same-length-3 c = search needs
 
 returns-2 : tie.Need-returns-2
-returns-2 c H tick written out wake =
-    let d = c .before .before .before .before .before .before .before .before .before .before .before .before .before .before .before .before .before in
+returns-2 c H written out wake =
+    let d = c .before .before .before .before .before .before .before .before .before .before .before .before .before .before .before .before .before .before .before .before .before in
     let f = start d in
     let a = f .args in
-    let k = c .before .before .before .before .before .before .before .before .before .before .before .before .before .before .before .byte-at in
-    let i = c .before .before .before .before .before .before .before .before .before .before .before .before .before .listener in
-    taken (a .program .now) (a .rows .now) (a .passages) H (a .count) tick (a .c) (a .words .now) (a .values .now) out written (f .pre .0 .most) (f .pre .1) wake (f .pre .2) (k .result)
-    (on-channel (c .before .before .before .before .before .before .before .before .before .before .before .before .before .before .before))
+    let k = c .before .before .before .before .before .before .before .before .before .before .before .before .before .before .before .before .before .before .before .byte-at in
+    let i = c .before .before .before .before .before .before .before .before .before .before .before .before .before .before .before .before .before .listener in
+    taken (a .program .now) (a .rows .now) (a .passages) H (a .count) (a .tick) (a .c) (a .words .now) (a .values .now) out written (f .pre .0 .most) (f .pre .1) wake (f .pre .2) (k .result)
+    (on-channel (c .before .before .before .before .before .before .before .before .before .before .before .before .before .before .before .before .before .before .before))
     (i .result)
-    (omega (arith, c .before .before .before .before .before .before .before .before .before .before .before .before .if1 .left))
+    (omega (arith, c .before .before .before .before .before .before .before .before .before .before .before .before .before .before .before .before .if1 .left))
     (i .ensures)
-    (c .before .before .before .before .before .before .before .before .before .finish-node .ensures)
-    (c .before .before .before .hear .ensures)
+    (c .before .before .before .before .before .before .before .before .before .finish-node .ensures .0)
+    (c .before .before .before .hear .ensures .0)
+    (c .before .before .before .before .before .before .before .before .before .finish-node .ensures .1 ∙ c .before .before .before .before .before .before .before .before .before .before .before .before .before .before .own-tick .ensures)
+    (c .before .before .before .hear .ensures .1 ∙ c .before .before .before .before .before .before .before .before .before .before .before .before .own-tick2 .ensures)
 
 pub send-message-spec : {M : Type 1} → statement M
 send-message-spec =
@@ -142,6 +150,8 @@ send-message-spec =
     listener-requires
     same-length
     returns
+    own-tick-requires
+    own-tick-requires-2
     finish-node-requires
     hear-requires
     same-length-2

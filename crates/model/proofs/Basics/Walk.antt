@@ -1,6 +1,6 @@
 -- Where parts stand in bytes, one after the other: the walk along them, and parts of one width read as a list. Assumes nothing.
 use mathlib.Core.Path.{_≡_, refl, sym, ap, ap₂, subst, _∙_}
-use mathlib.Core.List.{List, [], _∷_, _++_, append-nil, append-assoc}
+use mathlib.Core.List.{List, [], _∷_, _++_, map, append-nil, append-assoc}
 use Prim.Native.Nat.{ℕ, zero, suc, _+_, _*_, _≤_, _<_}
 use native.Mathlib.Omega.{arith}
 use lib.ListN.{length, drop, getD, length-append, List·getD-append}
@@ -104,6 +104,16 @@ module _ {A : Type 0} (f : A → List ℕ) (w : ℕ) (sized : (x : A) → length
       let e = append-assoc (f x) (each f xs) r in
       let t = list-back value In back a r in
       rw (e, back x (each f xs ++ r) h, drop-at (f x) (each f xs ++ r) w (sized x), t)
+
+  -- something read of each of them is that of each of the list
+  pub list-read : {B : Type 0} (value : List ℕ → B) (h : A → B) (In : A → Type 0) → ((x : A) (r : List ℕ) → In x → value (f x ++ r) ≡ h x) → {xs : List A} → All In xs → (r : List ℕ)
+      → listAt value w (length xs) (each f xs ++ r) ≡ map h xs
+  unfolding each listAt
+  list-read value h In back empty r = refl
+  list-read value h In back (more {x = x} {xs = xs} i a) r =
+      let e = append-assoc (f x) (each f xs) r in
+      let t = list-read value h In back a r in
+      rw (e, back x (each f xs ++ r) i, drop-at (f x) (each f xs ++ r) w (sized x), t)
 
 module _ {A : Type 0} (value : List ℕ → A) (w : ℕ) where
   -- n parts are read

@@ -19,14 +19,14 @@ use Rattle.model.specs.Window.{Entry, inRange, readyOf}
 use Rattle.model.specs.Schedule.{Passage, own}
 use Rattle.model.specs.Checks.{acceptedScheduleAt}
 use Rattle.model.specs.Network.{PathPassage, Taken, Observation, observation, takenOr, observationsOn, passagesOn, start}
-use Rattle.model.specs.Run.{settingAt, run, observationBytes}
+use Rattle.model.specs.Run.{settingAt, Run, run, observationWidth, noWork, Written, writtenBytes, withTicks, writtenIn}
 use Rattle.model.specs.Demand3.{TakenAs, PassAs}
 use Rattle.model.specs.Apart.{Permitted, clockOn}
 use Rattle.model.specs.Calls.{RunCall, spreadFine, readAt, offsetsFine, notRun, ran, runWithAt, runCallAt, runPlannedAt, runReadAt, runCall}
-use Rattle.model.specs.Observations.{readObservation, readObservations, ObservationsReadAt, ObservationsRead}
+use Rattle.model.specs.Observations.{wide, readObservation, readObservations, readPrevious, ReadAs, ObservationsReadAt, ObservationsRead}
 use Rattle.model.proofs.Basics.Bools.{and-is}
 use Rattle.model.proofs.Basics.Words.{all-before}
-use Rattle.model.proofs.Basics.Walk.{all-at, list-back}
+use Rattle.model.proofs.Basics.Walk.{all-at, list-read}
 use Rattle.model.proofs.Basics.Members.{only-is}
 use Rattle.model.proofs.Window.Opening.{end-bounded}
 use Rattle.model.proofs.Schedule.Own.{all-in, in-all, all-then, all-map, own-in}
@@ -38,8 +38,10 @@ use Rattle.model.proofs.Run.Tied.{Given, given-apart, component-in}
 use Rattle.model.proofs.Run.Apart.{promised-apart}
 use Rattle.model.proofs.Run.CallsApart.{offsets-fine, run-together}
 use Rattle.model.proofs.Run.Few.{of-nodes}
-use Rattle.model.proofs.Observations.Size.{observation-long}
-use Rattle.model.proofs.Observations.One.{Fits, observation-back}
+use Rattle.model.proofs.Run.FinishTicks.{with-ticks-length}
+use Rattle.model.proofs.Run.Finished.{Small, noted-all}
+use Rattle.model.proofs.Observations.Size.{written-long}
+use Rattle.model.proofs.Observations.One.{Fits, WrittenFits, written-back, previous-back}
 
 -- ## What a passage shows
 
@@ -105,6 +107,32 @@ shown-all P C c last (p ∷ ps) (v ∷ vs) h (more q a) = go (leb (o .tick) last
     go true b = more (subst P same q) b
     go false b = b
 
+-- ## With their ticks
+
+-- what holds of all observations and of all ticks
+all-with : {P : Observation → Type 0} {Q : ℕ → Type 0} {R : Written → Type 0} → ((o : Observation) (f : ℕ) → P o → Q f → R (record { observation = o; previous = f }))
+    → {os : List Observation} {fs : List ℕ} → All P os → All Q fs → All R (withTicks os fs)
+all-with h empty b = empty
+all-with h (more p a) empty = empty
+all-with h (more p a) (more q b) = more (h _ _ p q) (all-with h a b)
+
+-- the two lists again
+first-of : (os : List Observation) (fs : List ℕ) → length fs ≡ length os → map (λ (w : Written). w .observation) (withTicks os fs) ≡ os
+first-of [] fs e = refl
+first-of (o ∷ os) [] e = absurd (omega arith)
+first-of (o ∷ os) (f ∷ fs) e = ap (λ (l : List Observation). o ∷ l) (first-of os fs (omega arith))
+
+second-of : (os : List Observation) (fs : List ℕ) → length fs ≡ length os → map (λ (w : Written). w .previous) (withTicks os fs) ≡ fs
+second-of [] [] e = refl
+second-of [] (f ∷ fs) e = absurd (omega arith)
+second-of (o ∷ os) [] e = absurd (omega arith)
+second-of (o ∷ os) (f ∷ fs) e = ap (λ (l : List ℕ). f ∷ l) (second-of os fs (omega arith))
+
+-- a tick fits four bytes
+tick-fits : {H f : ℕ} → H ≤ 60000 → Small H f → f < 4294967296
+tick-fits h (inl e) = omega arith
+tick-fits h (inr l) = omega arith
+
 -- ## What a run shows
 
 module _ (G : ℕ) (bytes : List ℕ) (t : Read) (S : List Passage) (r : readTable bytes ≡ accepted t) (e : acceptedScheduleAt G t ≡ accepted S) (offs : List ℕ) (p : Permitted G (size (t .table)) offs) (cs : List ℕ) where
@@ -128,21 +156,37 @@ module _ (G : ℕ) (bytes : List ℕ) (t : Read) (S : List Passage) (r : readTab
   pub fit : All (Fits (t .table)) os
   fit = in-all os (λ o i. all-in (node-fits (o .component) (all-in (of-nodes given′ cs) i)) (only-is (λ (x : Observation). eqb (x .component) (o .component)) os .1 (i, eq-eqb (o .component) (o .component) refl)))
 
+  -- the ticks in them
+  abbrev fs : List ℕ
+  fs = run (settingAt t (t .horizon) S offs) cs .state .previous
+
+  as-many : length fs ≡ length os
+  as-many = noted-all given′ cs .each
+
+  -- all that is written fits
+  written-fits : All (WrittenFits (t .table)) (withTicks os fs)
+  written-fits = all-with (λ o f p q. record { observation = p; previous = tick-fits (given′ .limits .mostHorizon) q }) fit (noted-all given′ cs .small)
+
   -- their bytes are read back
-  pub read-back : (rest : List ℕ) → readObservations (t .table) (length os) (each observationBytes os ++ rest) ≡ os
-  read-back rest = list-back observationBytes 32 observation-long (readObservation (t .table)) (Fits (t .table)) (λ o r. observation-back (t .table) o r) fit rest
+  pub read-back : (rest : List ℕ) → ReadAs (t .table) (length os) (each writtenBytes (withTicks os fs) ++ rest) (run (settingAt t (t .horizon) S offs) cs .state)
+  read-back rest = (
+    subst (λ (n : ℕ). readObservations (t .table) n (each writtenBytes (withTicks os fs) ++ rest) ≡ os) (with-ticks-length os fs as-many)
+        (list-read writtenBytes observationWidth written-long (readObservation (t .table)) (λ (w : Written). w .observation) (WrittenFits (t .table)) (written-back (t .table)) written-fits rest ∙ first-of os fs as-many),
+    subst (λ (n : ℕ). readPrevious n (each writtenBytes (withTicks os fs) ++ rest) ≡ fs) (with-ticks-length os fs as-many)
+        (list-read writtenBytes observationWidth written-long (λ b. wide (drop 32 b)) (λ (w : Written). w .previous) (WrittenFits (t .table)) (previous-back (t .table)) written-fits rest ∙ second-of os fs as-many),
+  )
 
 -- the call `run_apart`: what it wrote is read back
 pub observations-read-at : (G : ℕ) (table offs choices lent : List ℕ) → ObservationsReadAt G table offs choices lent
 unfolding runCallAt
 observations-read-at G table offs choices lent t S r e = subst Back (sym same) (by-spread (ltb 1000 G))
   where
-    shown : List Observation
-    shown = run (settingAt t (t .horizon) S offs) choices .state .observations
+    shown : Run
+    shown = run (settingAt t (t .horizon) S offs) choices .state
 
     -- of this answer
     Back : RunCall → Type 0
-    Back c = c .verdict ≡ Accepted → readObservations (t .table) (c .size) (c .lent) ≡ shown
+    Back c = c .verdict ≡ Accepted → ReadAs (t .table) (c .size) (c .lent) shown
 
     same : runCallAt G table offs choices lent ≡ runReadAt G (cond (ltb 1000 G) (refused 19 255) (accepted t)) offs choices lent
     same = ap (λ (x : Answer Read). runReadAt G (spreadFine G x) offs choices lent) r
@@ -155,12 +199,12 @@ observations-read-at G table offs choices lent t S r e = subst Back (sym same) (
     go false true z q v = absurd (let w : _≡_ {A = ℕ} 0 1 = cc in omega arith)
     go false false false q v = absurd (let w : _≡_ {A = ℕ} 0 1 = cc in omega arith)
     go false false true q v =
-        read-back G table t S r e offs (offsets-fine G (size (t .table)) offs .0 q) choices (drop (length (each observationBytes shown)) lent)
+        read-back G table t S r e offs (offsets-fine G (size (t .table)) offs .0 q) choices (drop (length (each writtenBytes (writtenIn shown))) lent)
 
     by-plan : Back (runPlannedAt G t (acceptedScheduleAt G t) offs choices lent)
     by-plan =
         subst Back (sym (ap (λ (x : Answer (List Passage)). runPlannedAt G t x offs choices lent) e))
-        (go (ltb (length lent) (length S * 32)) (ltb 1000000 (length choices)) (offsetsFine G (size (t .table)) offs) refl)
+        (go (ltb (length lent) (length S * observationWidth)) (ltb 1000000 (length choices)) (offsetsFine G (size (t .table)) offs) refl)
 
     by-spread : (w : Bool) → Back (runReadAt G (cond w (refused 19 255) (accepted t)) offs choices lent)
     by-spread true v = absurd (let w : _≡_ {A = ℕ} 0 1 = cc in omega arith)
@@ -169,5 +213,5 @@ observations-read-at G table offs choices lent t S r e = subst Back (sym same) (
 -- the call `run`, with neither
 pub observations-read : (table choices lent : List ℕ) → ObservationsRead table choices lent
 observations-read table choices lent t S r e =
-    subst (λ (c : RunCall). c .verdict ≡ Accepted → readObservations (t .table) (c .size) (c .lent) ≡ run (settingAt t (t .horizon) S []) choices .state .observations)
+    subst (λ (c : RunCall). c .verdict ≡ Accepted → ReadAs (t .table) (c .size) (c .lent) (run (settingAt t (t .horizon) S []) choices .state))
     (run-together table choices lent) (observations-read-at 0 table [] choices lent t S r e)

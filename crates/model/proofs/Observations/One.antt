@@ -14,12 +14,12 @@ use Rattle.model.specs.Limits.{Int16}
 use Rattle.model.specs.Reader.{word, complement}
 use Rattle.model.specs.Places.{listAt}
 use Rattle.model.specs.Network.{Observation}
-use Rattle.model.specs.Run.{be32, four, observationBytes}
+use Rattle.model.specs.Run.{be32, four, observationBytes, Written, writtenBytes}
 use Rattle.model.specs.Observations.{wide, readObservation}
 use Rattle.model.proofs.Basics.Words.{word-back, complement-back}
 use Rattle.model.proofs.Basics.Walk.{list-back}
 use Rattle.model.proofs.Basics.Sums.{each-join}
-use Rattle.model.proofs.Observations.Size.{clocks-long}
+use Rattle.model.proofs.Observations.Size.{clocks-long, observation-long}
 
 -- ## Numbers
 
@@ -95,3 +95,20 @@ observation-back T o r h = rw (tick, clocks, values)
     values : listAt (λ b. complement (word b 0)) 2 (componentOf T (o .component) .variables) (drop 16 ((grown ++ kept) ++ r)) ≡ o .values
     values = rw (append-assoc grown kept r, drop-at grown (kept ++ r) 16 (clocks-long (o .clocks)))
         (four-back (λ (z : ℤ). be16 (unsigned z)) 2 (λ z. refl) (λ b. complement (word b 0)) Int16 signed-back (pos 0) _ (o .values) (h .valuesOf) (h .fewValues) (h .values) r)
+
+-- ## As it is written
+
+-- it fits its bytes, and so does its tick
+pub record WrittenFits (T : Table) (w : Written) : Type 0 where
+  pub observation : Fits T (w .observation)
+  pub previous : w .previous < 4294967296
+
+pub written-back : (T : Table) (w : Written) (r : List ℕ) → WrittenFits T w → readObservation T (writtenBytes w ++ r) ≡ w .observation
+written-back T w r h =
+    rw (append-assoc (observationBytes (w .observation)) (be32 (w .previous)) r) (observation-back T (w .observation) (be32 (w .previous) ++ r) (h .observation))
+
+-- "after the old 32 comes the tick"
+pub previous-back : (T : Table) (w : Written) (r : List ℕ) → WrittenFits T w → wide (drop 32 (writtenBytes w ++ r)) ≡ w .previous
+previous-back T w r h =
+    rw (append-assoc (observationBytes (w .observation)) (be32 (w .previous)) r, drop-at (observationBytes (w .observation)) (be32 (w .previous) ++ r) 32 (observation-long (w .observation)))
+    (wide-back (w .previous) r (h .previous))

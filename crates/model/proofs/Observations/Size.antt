@@ -8,7 +8,7 @@ use lib.ListN.{length, length-append}
 use Rattle.model.specs.Lists.{each, be16}
 use Rattle.model.specs.Bytes.{unsigned}
 use Rattle.model.specs.Network.{Observation}
-use Rattle.model.specs.Run.{be32, four, observationBytes}
+use Rattle.model.specs.Run.{be32, four, observationBytes, observationWidth, Written, writtenBytes}
 use Rattle.model.proofs.Basics.Walk.{each-length}
 
 four-long : {A : Type 0} (z : A) (xs : List A) → length (four z xs) ≡ 4
@@ -34,6 +34,10 @@ observation-long o =
     let kept = each (λ (z : ℤ). be16 (unsigned z)) (four (pos 0) (o .values)) in
     omega (arith, length-append grown kept, clocks-long (o .clocks), values-long (o .values))
 
--- observations, one after the other
-pub observations-long : (os : List Observation) → length (each observationBytes os) ≡ length os * 32
-observations-long os = each-length observationBytes 32 observation-long os
+-- an observation as it is written, with its tick
+pub written-long : (w : Written) → length (writtenBytes w) ≡ observationWidth
+written-long w = omega (arith, length-append (observationBytes (w .observation)) (be32 (w .previous)), observation-long (w .observation))
+
+-- all that is written, one after the other
+pub all-long : (ws : List Written) → length (each writtenBytes ws) ≡ length ws * observationWidth
+all-long ws = each-length writtenBytes observationWidth written-long ws

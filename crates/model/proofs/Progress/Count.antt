@@ -59,7 +59,7 @@ module _ {t : Read} {H : ℕ} {S : List Passage} {offs : List ℕ} (G : Given t 
       )
 
   -- what all nodes have to do
-  start-toil : toilOf t S (startRun (settingAt t H S offs)) ≤ length S * 658 + size (t .table) * 1299
+  pub start-toil : toilOf t S (startRun (settingAt t H S offs)) ≤ length S * 658 + size (t .table) * 1299
   start-toil =
       let n = size (t .table) in
       let each = total-least n (λ c. length (own c S) * 658 + 1299) (toilAt S (startRun (settingAt t H S offs))) (λ c h. omega (arith, start-light c h)) in

@@ -15,7 +15,7 @@ use Rattle.model.specs.Limits.{InLimits}
 use Rattle.model.specs.Schedule.{Passage, own}
 use Rattle.model.specs.Checks.{limit, acceptedScheduleAt, acceptedScheduleOf}
 use Rattle.model.specs.Network.{observation}
-use Rattle.model.specs.Run.{settingAt, offsetIn, offsetOf, Run, Result, nodeOf, ticked, run, startRun}
+use Rattle.model.specs.Run.{settingAt, offsetIn, offsetOf, Run, Result, nodeOf, ticked, run, startRun, observationWidth}
 use Rattle.model.specs.Calls.{runCall}
 use Rattle.model.specs.Apart.{Permitted}
 use Rattle.model.specs.Demand3.{observationsOf}
@@ -192,4 +192,4 @@ pub answers : Answers
 unfolding runCall
 answers bytes t S r e choices a lent h =
     let few = uses-at-most t S (read-limits bytes t r) e choices in
-    rw (r, e, le-ltb (length lent) (length S * 32) h, le-ltb 1000000 (length choices) (omega (arith, few, a .used)))
+    rw (r, e, le-ltb (length lent) (length S * observationWidth) h, le-ltb 1000000 (length choices) (omega (arith, few, a .used)))

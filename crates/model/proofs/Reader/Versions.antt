@@ -17,7 +17,7 @@ use Rattle.model.specs.Reader.{headerAt, byte, word, readComponents, len
 use Rattle.model.specs.Schedule.{Passage, others, schedule}
 use Rattle.model.specs.Checks.{near, disturb, isSend, isReceive, meets, collides, mayHear, heardWell, unheard, two, crowded, limit, checked, acceptedSchedule, acceptedScheduleOf}
 use Rattle.model.specs.Program.{Statement, takeEdge, locationBlock, edgeBlock, blocks, nodeBody, nodeBytes, programBytes}
-use Rattle.model.specs.Run.{settingOf, run}
+use Rattle.model.specs.Run.{settingOf, run, observationWidth}
 use Rattle.model.specs.Calls.{verdictOf, scheduleWith, bytesWith, acceptedScheduleIn, checkCall, scheduleCall, programIn, translateCall, notRun, ran, runWith, runPlanned, runRead, runCall}
 use Rattle.model.specs.Meetings.{sendsMet, listenersMet, sendsHeard, withMet, concerned, concernedAt, listOr, meetingsIn, meetingsCall}
 use Rattle.model.specs.Chart.{chart, chartIn, chartCall}
@@ -320,7 +320,7 @@ module _ (bs : List ℕ) (one : byte bs 0 ≡ 1) where
 
       -- a run's answer is no refusal of a table but by 13 and 14
       with-run : (t : Read) (S : List Passage) → mergedRun (runWith t S choices lent) ≡ runWith t S choices lent
-      with-run t S = go (ltb (length lent) (length S * 32)) (ltb 1000000 (length choices))
+      with-run t S = go (ltb (length lent) (length S * observationWidth)) (ltb 1000000 (length choices))
         where
           go : (a b : Bool)
               → mergedRun (cond a (notRun 13 255 lent) (cond b (notRun 14 255 lent) (ran (run (settingOf t S) choices) lent)))

@@ -15,7 +15,7 @@ use Rattle.model.specs.Table.{Read, size}
 use Rattle.model.specs.Reader.{readTable}
 use Rattle.model.specs.Schedule.{Passage, sevenOf}
 use Rattle.model.specs.Checks.{acceptedScheduleOf}
-use Rattle.model.specs.Run.{Setting, settingAt, settingTo, offsetIn, run}
+use Rattle.model.specs.Run.{Setting, settingAt, settingTo, offsetIn, run, observationWidth}
 use Rattle.model.specs.Apart.{Permitted}
 use Rattle.model.specs.Meetings.{concernedAt, listOr, meetingsInAt, meetingsIn, MeetingsCall, about, meetingsCallAt, meetingsCall}
 use Rattle.model.specs.Calls.{laid, verdictOf, spreadFine, checkCallAt, checkCall, offsetsFine, notRun, ran, runWithAt, runPlannedAt, runReadAt, runCallAt, runWith, runPlanned, runRead, runCall, Demand3ApartOf}
@@ -86,7 +86,7 @@ run-together table choices lent = ap (λ (a : Answer Read). runReadAt 0 a [] cho
     with-offsets t S =
         ap
         (λ (x : Bool).
-        cond (ltb (length lent) (length S * 32)) (notRun 13 255 lent)
+        cond (ltb (length lent) (length S * observationWidth)) (notRun 13 255 lent)
         (cond (ltb 1000000 (length choices)) (notRun 14 255 lent) (cond x (ran (run (settingAt t (t .horizon) S []) choices) lent) (notRun 20 255 lent))))
         (offsets-fine 0 (size (t .table)) [] .1 (λ c h. omega arith))
 

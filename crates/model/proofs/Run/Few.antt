@@ -86,8 +86,8 @@ leaves-if n false h k = k
 
 module _ (g : Setting) {n : ℕ} {s : Run} (k : Shown n s) where
   -- one node moved
-  moves : (c : ℕ) (r : Node) (os : List Observation) (ws : List Work) → All (λ o. o .component < n) os → Shown n (moved s c r os ws)
-  moves c r os ws h = record { full = length-set (s .nodes) c r ∙ k .full; shown = all-join (k .shown) h }
+  moves : (c : ℕ) (r : Node) (os : List Observation) (fs : List ℕ) (ws : List Work) → All (λ o. o .component < n) os → Shown n (moved s c r os fs ws)
+  moves c r os fs ws h = record { full = length-set (s .nodes) c r ∙ k .full; shown = all-join (k .shown) h }
 
   sends : (c a : ℕ) (is : List ℕ) → Leaves n (sent g s c a is)
   sends c a [] = no
@@ -95,14 +95,14 @@ module _ (g : Setting) {n : ℕ} {s : Run} (k : Shown n s) where
 
   -- a node finishes its statement
   node-leaves : (c : ℕ) → c < n → (w : Stand) → Leaves n (finishes g s c w)
-  node-leaves c h sleeping = leaves-if n (eqb (ownTick g c (s .tick)) (nodeOf s c .t)) (λ e. yes (moves c _ _ [] (more h empty))) no
+  node-leaves c h sleeping = leaves-if n (eqb (ownTick g c (s .tick)) (nodeOf s c .t)) (λ e. yes (moves c _ _ _ [] (more h empty))) no
   node-leaves c h (sending a) = sends c a (listeners g s c a)
-  node-leaves c h (listening qs) = leaves-if n (eqb (ownTick g c (s .tick)) (windowEnd (nodeOf s c))) (λ e. yes (moves c _ [] _ empty)) no
-  node-leaves c h finishing = yes (moves c _ [] _ empty)
-  node-leaves c h (adding v z) = leaves-if n (inRange (valueAt (nodeOf s c .values) v +ℤ z)) (λ e. yes (moves c _ [] [] empty)) no
-  node-leaves c h working = yes (moves c _ [] [] empty)
-  node-leaves c h taking = leaves-if n (isNone (nodeOf s c .kept)) (λ e. no) (yes (moves c _ [] [] empty))
-  node-leaves c h elsewhere = yes (moves c _ [] [] empty)
+  node-leaves c h (listening qs) = leaves-if n (eqb (ownTick g c (s .tick)) (windowEnd (nodeOf s c))) (λ e. yes (moves c _ [] [] _ empty)) no
+  node-leaves c h finishing = yes (moves c _ [] [] _ empty)
+  node-leaves c h (adding v z) = leaves-if n (inRange (valueAt (nodeOf s c .values) v +ℤ z)) (λ e. yes (moves c _ [] [] [] empty)) no
+  node-leaves c h working = yes (moves c _ [] [] [] empty)
+  node-leaves c h taking = leaves-if n (isNone (nodeOf s c .kept)) (λ e. no) (yes (moves c _ [] [] [] empty))
+  node-leaves c h elsewhere = yes (moves c _ [] [] [] empty)
   node-leaves c h nowhere = no
 
   same : Shown n (ticked s)

@@ -84,10 +84,10 @@ module _ {t : Read} {H : ℕ} {S : List Passage} {offs : List ℕ} (G : Given t 
       }
 
   -- one node moved: the others are as before
-  pub tied-moved : (c : ℕ) → c < size (t .table) → offsetOf (settingAt t H S offs) c ≤ s .tick → (r : Node) (os : List Observation) (ws : List Work) (B : ℕ → List Passage) → Grown B ws
+  pub tied-moved : (c : ℕ) → c < size (t .table) → offsetOf (settingAt t H S offs) c ≤ s .tick → (r : Node) (os : List Observation) (fs : List ℕ) (ws : List Work) (B : ℕ → List Passage) → Grown B ws
       → ((d : ℕ) → d < size (t .table) → (d ≡ c → ⊥) → B d ≡ k .tied .ahead d) → ((d : ℕ) → (d ≡ c → ⊥) → shownBy d os ≡ [])
-      → Tie (t .table) H S c (clockAt G (s .tick) c) r (shownBy c (s .observations) ++ shownBy c os) (B c) → Tied G (moved s c r os ws)
-  tied-moved c h wake r os ws B g others none′ tie =
+      → Tie (t .table) H S c (clockAt G (s .tick) c) r (shownBy c (s .observations) ++ shownBy c os) (B c) → Tied G (moved s c r os fs ws)
+  tied-moved c h wake r os fs ws B g others none′ tie =
       record { ahead = B; along = g .along; came = g .came; logged = g .logged; silent = quiet; full = length-set (s .nodes) c r ∙ k .tied .full; ties = λ d i. go d i (eqb d c) refl }
     where
       split : (d : ℕ) → shownBy d (s .observations ++ os) ≡ shownBy d (s .observations) ++ shownBy d os
@@ -112,9 +112,9 @@ module _ {t : Read} {H : ℕ} {S : List Passage} {offs : List ℕ} (G : Given t 
           (k .tied .ties d i)
 
   -- one node moved that finished no work and wrote nothing
-  pub tied-silent : (c : ℕ) → c < size (t .table) → offsetOf (settingAt t H S offs) c ≤ s .tick → (r : Node) → Tie (t .table) H S c (clockAt G (s .tick) c) r (shownBy c (s .observations)) (k .tied .ahead c) → Tied G (moved s c r [] [])
+  pub tied-silent : (c : ℕ) → c < size (t .table) → offsetOf (settingAt t H S offs) c ≤ s .tick → (r : Node) → Tie (t .table) H S c (clockAt G (s .tick) c) r (shownBy c (s .observations)) (k .tied .ahead c) → Tied G (moved s c r [] [] [])
   tied-silent c h wake r tie =
-      tied-moved c h wake r [] [] (k .tied .ahead) grown-none (λ d i n. refl) (λ d n. refl)
+      tied-moved c h wake r [] [] [] (k .tied .ahead) grown-none (λ d i n. refl) (λ d n. refl)
       (same-tie {T = t .table} {S = S} refl (sym (append-nil (shownBy c (s .observations)))) refl tie)
 
 -- ## The work of the first passage ahead finished

@@ -17,7 +17,7 @@ use Rattle.model.specs.Schedule.{Passage, names}
 use Rattle.model.specs.Program.{programBytes}
 use Rattle.model.specs.Network.{two}
 use Rattle.model.specs.Machine.{Node, partBytes, finish}
-use Rattle.model.specs.Run.{settingAt, offsetOf, awake, Run, noNode, nodeOf, Stand, standOf, listeners, takesMessage, Outcome, forbidden, on, moved, observes, messaged, ticked, sent, finishes, someDue, lateNodes, afterTick, choose1}
+use Rattle.model.specs.Run.{settingAt, offsetOf, awake, previousFinish, Run, noNode, nodeOf, Stand, standOf, listeners, takesMessage, Outcome, forbidden, on, moved, observes, messaged, ticked, sent, finishes, someDue, lateNodes, afterTick, choose1}
 use Rattle.model.proofs.Basics.Bools.{and-is}
 use Rattle.model.proofs.Node.Choosing.{asleep-sleeping}
 use Rattle.model.proofs.Node.Phase.{isWorking, actionOf, AtSend, AtListen, AtStand, phase-at}
@@ -191,7 +191,7 @@ module _ {t : Read} {H : ℕ} {S : List Passage} {offs : List ℕ} (G : Given t 
       go (leaving at e m l p) = way-leads G k c h wake at p (λ q. tied (leaving at e m l q)) (λ j q. tied (resting at e m l j q))
       go (resting at e m l j p) =
           subst (λ (x : Stand). Leads G s c (finishes (settingAt t H S offs) s c x)) (sym (asleep-sleeping p))
-          (ap-no (eqb (clockAt G (s .tick) c) (nodeOf s c .t)) (ne-eqb (clockAt G (s .tick) c) (nodeOf s c .t) (λ i. omega (arith, p .t, k .below))) (moved s c next (observes c (clockAt G (s .tick) c) (nodeOf s c) ∷ []) []))
+          (ap-no (eqb (clockAt G (s .tick) c) (nodeOf s c .t)) (ne-eqb (clockAt G (s .tick) c) (nodeOf s c .t) (λ i. omega (arith, p .t, k .below))) (moved s c next (observes c (clockAt G (s .tick) c) (nodeOf s c) ∷ []) (previousFinish (settingAt t H S offs) c (s .works) ∷ []) []))
         where
           ap-no : (x : Bool) → x ≡ false → (u : Run) → Leads G s c (cond x (on u) forbidden)
           ap-no x f u = subst (λ (y : Bool). Leads G s c (cond y (on u) forbidden)) (sym f) no

@@ -16,7 +16,7 @@ use Rattle.model.specs.Schedule.{Passage}
 use Rattle.model.specs.Program.{programBytes}
 use Rattle.model.specs.Network.{one, Observation}
 use Rattle.model.specs.Machine.{Node, partBytes, finish}
-use Rattle.model.specs.Run.{Setting, settingAt, offsetOf, Run, nodeOf, Stand, sleeping, sending, listening, finishing, adding, working, taking, elsewhere, nowhere, standOf, windowEnd, listeners, forbidden, on, observes, moved, sent, finishes}
+use Rattle.model.specs.Run.{Setting, settingAt, offsetOf, previousFinish, Run, nodeOf, Stand, sleeping, sending, listening, finishing, adding, working, taking, elsewhere, nowhere, standOf, windowEnd, listeners, forbidden, on, observes, moved, sent, finishes}
 use Rattle.model.proofs.Basics.Bools.{clash}
 use Rattle.model.proofs.Node.Choosing.{Asleep, asleep-sleeping}
 use Rattle.model.proofs.Node.Working.{Working}
@@ -82,15 +82,15 @@ module _ {t : Read} {H : ℕ} {S : List Passage} {offs : List ℕ} (G : Given t 
   kept p = record { fin = tie .fin; more = tie .more; count = tie .count; counts = tie .counts; whole = tie .whole; held = p; shown = tie .shown }
 
   -- the node moved, nothing else
-  silently : TieOf q → Leads G s c (on (moved s c q [] []))
-  silently p = stays G k c h wake (moved s c q [] []) (tied-silent G k c h wake q p) refl refl
+  silently : TieOf q → Leads G s c (on (moved s c q [] [] []))
+  silently p = stays G k c h wake (moved s c q [] [] []) (tied-silent G k c h wake q p) refl refl
 
   -- on the way to a sleep
   pub way-leads : (at : Entry) → Heading C (tie .count) at r → (Heading C (tie .count) at q → TieOf q) → ((j : Pick) → Asleep C (tie .count) at j q → TieOf q)
       → Leads G s c (finishes g s c (standOf r))
   way-leads at p further asleep = go (standOf r) (heading-stand p) (phase-at (coded G c h) (component-in G c h) (isHeading p))
     where
-      take : (o : Option Pick) → ((j : Pick) → o ≡ some j → Asleep C (tie .count) at j q) → Leads G s c (cond (isNone o) forbidden (on (moved s c q [] [])))
+      take : (o : Option Pick) → ((j : Pick) → o ≡ some j → Asleep C (tie .count) at j q) → Leads G s c (cond (isNone o) forbidden (on (moved s c q [] [] [])))
       take none f = no
       take (some j) f = silently (asleep j (f j refl))
 
@@ -125,12 +125,12 @@ module _ {t : Read} {H : ℕ} {S : List Passage} {offs : List ℕ} (G : Given t 
           ap₂ (λ (x y : List Observation). x ++ y) (tie .shown ∙ ap (map (seen C c)) (ap (λ (l : List Passage). tie .fin ++ l) m ∙ append-nil (tie .fin))) (mine i)
           ∙ sym (map-append (seen C c) (tie .fin) (v ∷ []))
 
-      go : (x : Bool) → eqb now (r .t) ≡ x → Leads G s c (cond x (on (moved s c q (observes c now r ∷ []) [])) forbidden)
+      go : (x : Bool) → eqb now (r .t) ≡ x → Leads G s c (cond x (on (moved s c q (observes c now r ∷ []) (previousFinish g c (s .works) ∷ []) [])) forbidden)
       go false i = no
       go true i =
           let due : now ≡ r .t = eqb-true now (r .t) i in
-          stays G k c h wake (moved s c q (observes c now r ∷ []) [])
-          (tied-moved G k c h wake q (observes c now r ∷ []) [] A (grown-none G k) (λ d l n. refl) others
+          stays G k c h wake (moved s c q (observes c now r ∷ []) (previousFinish g c (s .works) ∷ []) [])
+          (tied-moved G k c h wake q (observes c now r ∷ []) (previousFinish g c (s .works) ∷ []) [] A (grown-none G k) (λ d l n. refl) others
           (record {
             fin = tie .fin;
             more = v ∷ [];
@@ -158,10 +158,10 @@ module _ {t : Read} {H : ℕ} {S : List Passage} {offs : List ℕ} (G : Given t 
 
     -- the work finished alone
     alone-leads : Alone C now v → Tie (t .table) H S c now q (shownBy c (s .observations)) vs
-        → Leads G s c (on (moved s c q [] (one c (s .tick) ∷ [])))
+        → Leads G s c (on (moved s c q [] [] (one c (s .tick) ∷ [])))
     alone-leads p i =
-        stays G k c h wake (moved s c q [] (one c (s .tick) ∷ []))
-        (tied-moved G k c h wake q [] (one c (s .tick) ∷ []) (without c vs A) grown (λ d l n. without-other c vs A d n) (λ d n. refl)
+        stays G k c h wake (moved s c q [] [] (one c (s .tick) ∷ []))
+        (tied-moved G k c h wake q [] [] (one c (s .tick) ∷ []) (without c vs A) grown (λ d l n. without-other c vs A d n) (λ d n. refl)
         (same-tie {T = t .table} {S = S} refl (sym (append-nil (shownBy c (s .observations)))) (sym (without-same c vs A)) i))
         refl
         refl
@@ -180,11 +180,11 @@ module _ {t : Read} {H : ℕ} {S : List Passage} {offs : List ℕ} (G : Given t 
         → ((a : ℕ) → AtSend (partBytes (programBytes t) c) C (tie .count) (v .entry) r a → Leads G s c (sent g s c a (listeners g s c a))) → Leads G s c (finishes g s c (standOf r))
     work-leads j p send = go (standOf r) (working-stand p) (phase-at (coded G c h) (component-in G c h) (isWorking j p))
       where
-        again : (i : Pick) → Working C (tie .count) (v .entry) i q → Leads G s c (on (moved s c q [] []))
+        again : (i : Pick) → Working C (tie .count) (v .entry) i q → Leads G s c (on (moved s c q [] [] []))
         again i w = silently (kept (busy v vs e m ready below i w))
 
         times-out : (i : Pick) → Working C (tie .count) (v .entry) i r → actionOf C i ≡ Receive → Heading C (suc (tie .count)) (afterwards C (v .entry) i none) q
-            → (x : Bool) → eqb now (windowEnd r) ≡ x → Leads G s c (cond x (on (moved s c q [] (one c (s .tick) ∷ []))) forbidden)
+            → (x : Bool) → eqb now (windowEnd r) ≡ x → Leads G s c (cond x (on (moved s c q [] [] (one c (s .tick) ∷ []))) forbidden)
         times-out i w act n false f = no
         times-out i w act n true f =
             let o = opened-first G (k .tied .along) c h v vs e in

@@ -61,6 +61,10 @@ most-same : (f : ℕ → ℕ) (b : ℕ) → ((c : ℕ) → f c ≡ b) → (i n :
 most-same f b h i zero = omega (arith, h i)
 most-same f b h i (suc n) = omega (arith, h i, most-same f b h (suc i) n)
 
+-- every clock is the common one
+pub same-clock : (t : Read) (H : ℕ) (S : List Passage) (c τ : ℕ) → ownTick (settingTo t H S) c τ ≡ τ
+same-clock t H S c τ = omega (arith, none-at (offsetIn []) (λ i. refl) 0 (size (t .table)) c)
+
 module _ (t : Read) (H : ℕ) (S : List Passage) (cs : List ℕ) (some-node : 0 < size (t .table)) (sorted : Sorted (run (settingTo t H S) cs .state .works)) (d : Demand3Apart t H S [] cs) where
   abbrev g : Setting
   g = settingTo t H S
@@ -68,9 +72,8 @@ module _ (t : Read) (H : ℕ) (S : List Passage) (cs : List ℕ) (some-node : 0 
   abbrev R : Result
   R = run g cs
 
-  -- every clock is the common one
   same : (c τ : ℕ) → ownTick g c τ ≡ τ
-  same c τ = omega (arith, none-at (offsetIn []) (λ i. refl) 0 (size (t .table)) c)
+  same c τ = same-clock t H S c τ
 
   -- the path reaches the common tick
   reach′ : d .last .tick ≡ reached R

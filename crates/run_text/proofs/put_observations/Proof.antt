@@ -15,11 +15,11 @@ abbrev itself : List ℕ → List ℕ
 itself o = o
 
 abbrev lines : List ℕ → ℕ → ℕ → List ℕ
-lines = left 32 itself observationLine
+lines = left 36 itself observationLine
 
 abbrev Inv-loop : tie.InvT-loop
 Inv-loop out₀ at bytes n end₀ i₀ out end i =
-    (i ≤ n) × (at + n * 201 ≤ length out₀) × (n * 32 ≤ length bytes) × (length out ≡ length out₀) × (end ≤ at + i * 201)
+    (i ≤ n) × (at + n * 220 ≤ length out₀) × (n * 36 ≤ length bytes) × (length out ≡ length out₀) × (end ≤ at + i * 220)
     × (take end out ++ lines bytes n i ≡ take at out₀ ++ observationLines bytes n)
 
 abbrev μ-loop : tie.MeasureT-loop
@@ -29,7 +29,7 @@ loop-holds : tie.Need-loop-holds Inv-loop μ-loop
 unfolding observationLines
 loop-holds c =
     let s = c .before .before in
-    (omega arith, s .pre .0, s .pre .1, refl, omega arith, left-start 32 itself observationLine (s .args .bytes .now) (s .args .out .now) (s .args .at) (s .args .n))
+    (omega arith, s .pre .0, s .pre .1, refl, omega arith, left-start 36 itself observationLine (s .args .bytes .now) (s .args .out .now) (s .args .at) (s .args .n))
 
 mul-put-observation : tie.Need-mul-put-observation Inv-loop μ-loop
 mul-put-observation c = search needs
@@ -57,7 +57,7 @@ loop-again c =
     let s = c .before .before .before .before .before .before .before .before .before .args in
     let l = c .before .before .before .before .before .before .loop in
     let p = c .before .before .put-observation in
-    (omega arith, l .inv .1, l .inv .2, p .kept .0 ∙ l .inv .3, omega (arith, p .ensures .1, l .inv .4), left-turn 32 itself observationLine (s .bytes .now) (l .out) (p .last .0) (take (s .at) (s .out .now) ++ observationLines (s .bytes .now) (s .n)) (l .end) (p .result) (s .n) (l .i) (omega arith) (p .ensures .0) (l .inv .5))
+    (omega arith, l .inv .1, l .inv .2, p .kept .0 ∙ l .inv .3, omega (arith, p .ensures .1, l .inv .4), left-turn 36 itself observationLine (s .bytes .now) (l .out) (p .last .0) (take (s .at) (s .out .now) ++ observationLines (s .bytes .now) (s .n)) (l .end) (p .result) (s .n) (l .i) (omega arith) (p .ensures .0) (l .inv .5))
 
 same-length : tie.Need-same-length Inv-loop μ-loop
 same-length c = c .before .loop .inv .3
@@ -67,7 +67,7 @@ returns c =
     let s = c .before .before .before .before .args in
     let l = c .before .loop in
     let e : l .i ≡ s .n = omega arith in
-    (record { text = left-done 32 itself observationLine (s .bytes .now) (l .out) (take (s .at) (s .out .now) ++ observationLines (s .bytes .now) (s .n)) (l .end) (s .n) (l .i) e (l .inv .5) }, omega (arith, l .inv .4, e))
+    (record { text = left-done 36 itself observationLine (s .bytes .now) (l .out) (take (s .at) (s .out .now) ++ observationLines (s .bytes .now) (s .n)) (l .end) (s .n) (l .i) e (l .inv .5) }, omega (arith, l .inv .4, e))
 
 pub put-observations-spec : {M : Type 1} → statement M
 put-observations-spec =

@@ -7,6 +7,7 @@ mod budgets;
 mod charts;
 mod close;
 mod cuts;
+mod finishes;
 mod generated;
 mod limits;
 mod long;
@@ -72,7 +73,7 @@ const fn class(name: &'static str, run: fn(&mut Trial, &mut Random, &Extent) -> 
 }
 
 /// All classes, in the order in which they are tried.
-pub const CLASSES: [Class; 88] = [
+pub const CLASSES: [Class; 92] = [
     class("vectors", stored::vectors),
     class("corpus", stored::corpus),
     class("random bytes", random_bytes::anything),
@@ -173,4 +174,8 @@ pub const CLASSES: [Class; 88] = [
     class("budgets cut", budgets::cut),
     class("budgets of many edges", budgets::crowds),
     class("budgets: runs", budgets::runs),
+    class("finish ticks: works of several statements", finishes::works),
+    class("finish ticks: messages and timeouts", finishes::messages),
+    class("finish ticks: nodes that wake apart", finishes::apart),
+    class("finish ticks: stored tables", finishes::stored),
 ];

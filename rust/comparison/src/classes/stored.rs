@@ -8,11 +8,10 @@ use crate::places::{refused_by, READ};
 use crate::random::Random;
 use crate::reasons::AMPLE;
 use crate::requests::{self, Apart, Request};
-use crate::runs;
 use crate::runs::apart::Handed;
 use crate::stored::{self, Stored};
 use crate::trial::Trial;
-use timed_network::{RunNumbers, OBSERVATION};
+use timed_network::RunNumbers;
 
 pub(super) fn vectors(trial: &mut Trial, _: &mut Random, _: &Extent) -> Outcome {
     expect_all(trial, stored::vectors())
@@ -22,6 +21,14 @@ pub(super) fn corpus(trial: &mut Trial, _: &mut Random, _: &Extent) -> Outcome {
     expect_all(trial, stored::corpus())?;
     for (table, spread, answer) in stored::corpus_spreads().map_err(Stop::Unreadable)? {
         trial.expect_spread(&table, spread, answer)?;
+    }
+    for (table, run) in stored::corpus_runs().map_err(Stop::Unreadable)? {
+        let handed = Handed {
+            choices: &run.choices,
+            spread: run.spread,
+            offsets: &run.offsets,
+        };
+        trial.expect_shown(&table, &handed, &run.answer)?;
     }
     for (table, question, answer) in stored::corpus_questions().map_err(Stop::Unreadable)? {
         trial.expect_reasons(&table, &question, AMPLE, &answer)?;
@@ -82,7 +89,7 @@ pub(super) fn requests(trial: &mut Trial, _: &mut Random, _: &Extent) -> Outcome
                 numbers,
                 observations,
             } => {
-                let answer = runs::numbers(&ran(numbers, observations.len()));
+                let answer = ran(numbers, observations.len());
                 trial.expect_run(table, choices, &answer, observations)?;
             }
             Request::Spread {
@@ -110,15 +117,11 @@ fn expect_apart(trial: &mut Trial, request: &Apart) -> Outcome {
         spread: request.spread,
         offsets: &request.offsets,
     };
-    let answer = match &request.answer {
-        Ok((answer, observations)) => format!("{}: {}", runs::numbers(answer), hex(observations)),
-        Err(refused) => refused.to_string(),
-    };
-    trial.expect_run_apart(&request.table, &handed, request.lent, &answer)
+    trial.expect_run_apart(&request.table, &handed, request.lent, &request.answer)
 }
 
-/// The whole answer of a run that took place.
-fn ran(&[end, node, tick, used]: &[u32; 4], bytes: usize) -> RunNumbers {
+/// The whole answer of a run that took place, with so many observations.
+fn ran(&[end, node, tick, used]: &[u32; 4], observations: usize) -> RunNumbers {
     RunNumbers {
         number: 0,
         component: 255,
@@ -126,6 +129,6 @@ fn ran(&[end, node, tick, used]: &[u32; 4], bytes: usize) -> RunNumbers {
         node: node as u8,
         tick,
         used,
-        size: (bytes / OBSERVATION) as u32,
+        size: observations as u32,
     }
 }

@@ -1,11 +1,11 @@
 //! Runs of nodes that wake apart: `run HEX CHOICES G`, behind that the offsets with
 //! commas between them unless there are none, in front `lent BYTES` where it is
-//! said how many bytes are lent.
+//! said how many bytes are lent; with it there need not be a spread.
 
 use crate::bytes::unhex;
 use crate::runs::AMPLE;
 use crate::stored::read_answer;
-use timed_network::{RunNumbers, Verdict, OBSERVATION};
+use timed_network::{RunNumbers, Verdict};
 
 /// A run of nodes that wake apart, and what has to be answered.
 #[derive(Clone, Debug, PartialEq, Eq)]
@@ -20,9 +20,9 @@ pub struct Apart {
     pub offsets: Vec<u32>,
     /// How many bytes are lent.
     pub lent: usize,
-    /// The numbers of the answer with the observations, one after the other, or a
-    /// refusal.
-    pub answer: Result<(RunNumbers, Vec<u8>), Verdict>,
+    /// The numbers of the answer with the observations, each as far as it is stored, or
+    /// a refusal.
+    pub answer: Result<(RunNumbers, Vec<Vec<u8>>), Verdict>,
 }
 
 /// The request of these words, if it is one.
@@ -32,6 +32,7 @@ pub(super) fn read(words: &[&str], answer: &str) -> Option<Apart> {
         words => (AMPLE, words),
     };
     let (table, choices, spread, offsets) = match words {
+        ["run", table, choices] => (table, choices, &"0", Vec::new()),
         ["run", table, choices, spread] => (table, choices, spread, Vec::new()),
         ["run", table, choices, spread, offsets] => (table, choices, spread, numbers(offsets)?),
         _ => return None,
@@ -56,12 +57,12 @@ fn numbers(words: &str) -> Option<Vec<u32>> {
 }
 
 /// `end node tick used`, then each observation, with `|` between them.
-fn ran(answer: &str) -> Option<(RunNumbers, Vec<u8>)> {
+fn ran(answer: &str) -> Option<(RunNumbers, Vec<Vec<u8>>)> {
     let mut parts = answer.split('|');
     let words = parts.next()?.split(' ').map(|word| word.parse().ok());
     let [end, node, tick, used]: [u32; 4] = words.collect::<Option<Vec<_>>>()?.try_into().ok()?;
     let observations: Option<Vec<Vec<u8>>> = parts.map(unhex).collect();
-    let observations = observations?.concat();
+    let observations = observations?;
     let answer = RunNumbers {
         number: 0,
         component: 255,
@@ -69,7 +70,7 @@ fn ran(answer: &str) -> Option<(RunNumbers, Vec<u8>)> {
         node: node as u8,
         tick,
         used,
-        size: (observations.len() / OBSERVATION) as u32,
+        size: observations.len() as u32,
     };
     Some((answer, observations))
 }
@@ -85,19 +86,20 @@ mod tests {
 
     #[test]
     fn runs_are_read() {
-        let observation = "05".repeat(OBSERVATION);
-        let answer = format!("2 1 4 9|{observation}");
-        let found = read(&words("run 0102 00ff 3 0,3"), &answer).unwrap();
+        let answer = "2 1 4 9|0506";
+        let found = read(&words("run 0102 00ff 3 0,3"), answer).unwrap();
         assert_eq!((found.table, found.choices), (vec![1, 2], vec![0, 255]));
         assert_eq!((found.spread, found.offsets), (3, vec![0, 3]));
         assert_eq!(found.lent, AMPLE);
         let (answer, observations) = found.answer.unwrap();
         assert_eq!((answer.end, answer.node), (2, 1));
         assert_eq!((answer.tick, answer.used, answer.size), (4, 9, 1));
-        assert_eq!(observations, [5; OBSERVATION]);
+        assert_eq!(observations, [[5, 6]]);
         let found = read(&words("lent 31 run 0102 - 1001"), "refused 19 255").unwrap();
         assert_eq!((found.lent, found.offsets), (31, Vec::new()));
         assert_eq!(found.answer, Err(refused(19, 255)));
+        let found = read(&words("lent 31 run 0102 -"), "refused 13 255").unwrap();
+        assert_eq!((found.lent, found.spread), (31, 0));
     }
 
     #[test]

@@ -3,8 +3,10 @@
 
 pub mod apart;
 pub mod choices;
+pub mod noted;
 pub mod offsets;
 pub mod paths;
+pub mod scattered;
 mod tally;
 
 pub use tally::Runs;
@@ -17,7 +19,7 @@ use demand::{Claim, Demand, Facts};
 use reference::checks::verdict_within;
 use reference::schedule::Passage;
 use reference::table::Table;
-use timed_network::{RunNumbers, MAX_PASSAGES, OBSERVATION};
+use timed_network::{Observation, RunNumbers, MAX_PASSAGES, OBSERVATION};
 
 /// The bytes that the observations of every run fit in, and a few more.
 pub const AMPLE: usize = OBSERVATION * MAX_PASSAGES + 5;
@@ -101,6 +103,37 @@ impl Lent {
         self.buffer.first(self.size())
     }
 
+    /// The answer and the observations in words, of each as many bytes as the stored ones
+    /// have: those of the vectors older than wish 9 lack the finish tick.
+    pub fn told_like(&self, stored: &[Vec<u8>]) -> String {
+        let width = stored.first().map_or(OBSERVATION, Vec::len);
+        let own = self.observations().chunks(OBSERVATION);
+        let observations: Vec<Vec<u8>> = own
+            .map(|bytes| bytes[..width.min(bytes.len())].to_vec())
+            .collect();
+        told(&self.answer, &observations)
+    }
+
+    /// The answer as the corpus has it: end, node, tick and choices used, then node, tick
+    /// and finish tick of each observation, `-` for none.
+    pub fn shown(&self) -> String {
+        let RunNumbers {
+            end,
+            node,
+            tick,
+            used,
+            ..
+        } = self.answer;
+        let mut told = format!("{end} {node} {tick} {used}");
+        let (places, _) = self.observations().as_chunks();
+        for shown in places.iter().map(Observation::from) {
+            let finish = shown.previous_finish.map(|tick| tick.to_string());
+            let finish = finish.unwrap_or("-".to_string());
+            told += &format!("|{} {} {finish}", shown.component, shown.tick);
+        }
+        told
+    }
+
     /// Whether the answer is a refusal.
     fn is_refused(&self) -> bool {
         self.answer.number != 0
@@ -119,6 +152,12 @@ impl Lent {
         }
         text
     }
+}
+
+/// An answer and its observations in words.
+pub fn told(answer: &RunNumbers, observations: &[Vec<u8>]) -> String {
+    let observations: Vec<String> = observations.iter().map(|bytes| hex(bytes)).collect();
+    format!("{}: {}", numbers(answer), observations.join(" "))
 }
 
 /// An answer in words.

@@ -1,7 +1,8 @@
 //! What was counted of runs.
 
-use super::Ran;
+use super::{noted, Ran};
 use crate::readers::{TOO_MANY, TOO_SHORT};
+use demand::finishes::Noted;
 use demand::walk::Refusal;
 use demand::{LATE, NOT_ALLOWED};
 use std::fmt;
@@ -46,6 +47,8 @@ pub struct Runs {
     pub messages: u64,
     /// Listens that ended without a message.
     pub timeouts: u64,
+    /// The finish ticks in the observations.
+    pub noted: Noted,
 }
 
 fn reason(refusal: Refusal) -> Option<usize> {
@@ -87,6 +90,7 @@ impl Runs {
         self.observations += u64::from(ran.answer.size);
         self.messages += u64::from(facts.messages);
         self.timeouts += u64::from(facts.timeouts);
+        self.noted.add(&facts.noted);
         if ran.answer.end == LATE {
             let late = facts.late_at_work | facts.late_for_sleep;
             self.late_at_work += u64::from(facts.late_at_work != 0);
@@ -116,6 +120,7 @@ impl Runs {
         self.observations += other.observations;
         self.messages += other.messages;
         self.timeouts += other.timeouts;
+        self.noted.add(&other.noted);
     }
 
     /// What should have been seen often enough and was not.
@@ -176,9 +181,12 @@ impl fmt::Display for Runs {
             (self.messages, "messages"),
             (self.timeouts, "timeouts"),
         ];
-        match self.ran() {
-            0 => Ok(()),
-            _ => write!(out, "; {}", list(sizes)),
+        if self.ran() > 0 {
+            write!(out, "; {}", list(sizes))?;
+        }
+        match self.noted == Noted::default() {
+            true => Ok(()),
+            false => write!(out, "; finish ticks: {}", list(noted::kinds(&self.noted))),
         }
     }
 }

@@ -10,6 +10,7 @@ pub mod budgets;
 pub mod chains;
 mod edges;
 mod exact;
+pub mod finishes;
 pub mod planned;
 pub mod refused_opening;
 mod values;

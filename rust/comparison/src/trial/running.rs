@@ -10,7 +10,7 @@ use crate::runs::{self, Subject};
 use demand::{Demand, TICK};
 use reference::program::program_length;
 use reference::table::read_table;
-use timed_network::{Slots, Verdict, CHART_ROW};
+use timed_network::{RunNumbers, Slots, Verdict, CHART_ROW};
 
 /// The choices under which refused tables are run.
 const CHOICES: [u8; 4] = [0, TICK, 8, 1];
@@ -183,24 +183,21 @@ impl Trial<'_> {
         self.parts(program)
     }
 
-    /// Both have to give this answer, in the words of [`runs::numbers`], and
-    /// to write these observations.
+    /// Both have to give this answer and to write these observations, as far as they are
+    /// stored.
     pub fn expect_run(
         &mut self,
         input: &[u8],
         choices: &[u8],
-        answer: &str,
-        observations: &[u8],
+        answer: &RunNumbers,
+        observations: &[Vec<u8>],
     ) -> Outcome {
         let call = format!("run, with the choices {}", hex(choices));
-        let said = |reader: &Reader| {
-            let lent = runs::Lent::to(reader, input, choices, runs::AMPLE);
-            let numbers = runs::numbers(&lent.answer);
-            format!("{numbers}: {}", hex(lent.observations()))
-        };
-        let expected = format!("{answer}: {}", hex(observations));
+        let expected = runs::told(answer, observations);
         for reader in [self.readers.library, self.readers.second] {
-            self.demand(input, &call, said(&reader), expected.clone())?;
+            let lent = runs::Lent::to(&reader, input, choices, runs::AMPLE);
+            let said = lent.told_like(observations);
+            self.demand(input, &call, said, expected.clone())?;
         }
         match Subject::new(input) {
             Some(subject) => self.run_accepted(&subject, &subject.demand(), choices),

@@ -4,12 +4,11 @@
 use super::Trial;
 use crate::bytes::hex;
 use crate::difference::{Outcome, Stop};
-use crate::readers::Reader;
 use crate::runs::apart::{self, Handed};
 use crate::runs::{self, Subject};
 use crate::spreads;
 use demand::Demand;
-use timed_network::{Meetings, Verdict, FIELDS};
+use timed_network::{Meetings, RunNumbers, Verdict, FIELDS};
 
 /// The spreads at which tables of other classes are tried, by turns.
 const SPREADS: [u32; 11] = [1, 2, 0, 3, 1000, 1, 1001, 7, 0, 40, u32::MAX];
@@ -160,33 +159,43 @@ impl Trial<'_> {
         }
     }
 
-    /// Both have to give this answer with so many bytes lent: a refusal, or the
-    /// words of [`runs::numbers`] and these observations.
+    /// Both have to give this answer with so many bytes lent: a refusal, or these
+    /// numbers and these observations, as far as they are stored.
     pub fn expect_run_apart(
         &mut self,
         input: &[u8],
         handed: &Handed,
         length: usize,
-        answer: &str,
+        answer: &Result<(RunNumbers, Vec<Vec<u8>>), Verdict>,
     ) -> Outcome {
         let call = called(handed);
-        let said = |reader: &Reader| {
-            let lent = runs::Lent::apart(reader, input, handed, length);
-            match lent.answer.number {
-                0 => format!(
-                    "{}: {}",
-                    runs::numbers(&lent.answer),
-                    hex(lent.observations())
-                ),
-                number => format!("refused {number} {}", lent.answer.component),
-            }
+        let (expected, stored) = match answer {
+            Ok((answer, stored)) => (runs::told(answer, stored), &stored[..]),
+            Err(refused) => (refused.to_string(), &[][..]),
         };
         for reader in [self.readers.library, self.readers.second] {
-            self.demand(input, &call, said(&reader), answer.to_string())?;
+            let lent = runs::Lent::apart(&reader, input, handed, length);
+            let said = match lent.answer.number {
+                0 => lent.told_like(stored),
+                number => format!("refused {number} {}", lent.answer.component),
+            };
+            self.demand(input, &call, said, expected.clone())?;
         }
         let subject = Subject::within(input, handed.spread);
         let demand = subject.as_ref().map(Subject::demand);
         self.run_apart(input, demand.as_ref(), handed, length)
+    }
+
+    /// Both have to give this answer: `end node tick used`, then node, tick and finish
+    /// tick of each observation, as the corpus has it.
+    pub fn expect_shown(&mut self, input: &[u8], handed: &Handed, answer: &str) -> Outcome {
+        for reader in [self.readers.library, self.readers.second] {
+            let lent = runs::Lent::apart(&reader, input, handed, runs::AMPLE);
+            self.demand(input, &called(handed), lent.shown(), answer.to_string())?;
+        }
+        let subject = Subject::within(input, handed.spread);
+        let demand = subject.as_ref().map(Subject::demand);
+        self.run_apart(input, demand.as_ref(), handed, runs::AMPLE)
     }
 }
 

@@ -3,6 +3,7 @@
 #![allow(dead_code)]
 
 use comparison::random::Random;
+use comparison::readers::second_run_apart;
 use comparison::runs::choices::{draw_apart, spoil, Manner};
 use comparison::runs::Subject;
 use comparison::tables::{apart, chains};
@@ -13,6 +14,7 @@ use reference::program::{program, Op};
 use reference::run::{drive, run_apart, Happening, Machine, Outcome};
 use reference::schedule::Passage;
 use reference::table::{write_table, Table};
+use timed_network::RunNumbers;
 
 /// What a run says.
 #[derive(Clone, Debug, PartialEq, Eq)]
@@ -177,6 +179,43 @@ impl Case<'_> {
                 observations,
             },
         }
+    }
+}
+
+/// A refused run as it is, another one as this says.
+pub fn changed(
+    (table, choices, spread, offsets): (&[u8], &[u8], u32, &[u32]),
+    bytes: &mut [u8],
+    change: impl FnOnce(&Case) -> Answer,
+) -> RunNumbers {
+    let mut own = bytes.to_vec();
+    let right = second_run_apart(table, choices, spread, offsets, &mut own);
+    let Some(subject) = Subject::within(table, spread).filter(|_| right.number == 0) else {
+        return right;
+    };
+    let written = right.size as usize * OBSERVATION;
+    let answer = change(&Case {
+        subject: &subject,
+        spread,
+        offsets: offsets.to_vec(),
+        choices: choices.to_vec(),
+        answer: Answer {
+            end: right.end,
+            node: right.node,
+            tick: right.tick,
+            used: right.used,
+            observations: own[..written].to_vec(),
+        },
+    });
+    bytes[..answer.observations.len()].copy_from_slice(&answer.observations);
+    RunNumbers {
+        number: 0,
+        component: 255,
+        end: answer.end,
+        node: answer.node,
+        tick: answer.tick,
+        used: answer.used,
+        size: (answer.observations.len() / OBSERVATION) as u32,
     }
 }
 

@@ -65,7 +65,20 @@ pub enum Fault {
     DestinationShown,
     WrittenAfterWork,
     VariablesLittleEndian,
+    // Finish ticks.
+    FirstFinish0,
+    FinishOfTheFirstUpdate,
+    FinishAtReady,
+    FinishAtEnd,
+    FinishNotNotedForTimeout,
+    FinishNotNotedForMessage,
+    FinishOfTheWorkBefore,
+    FinishLittleEndian,
+    RoomFor32Bytes,
 }
+
+/// The bytes of an observation.
+const WIDTH: usize = 36;
 
 /// The run under way.
 struct Run {
@@ -83,7 +96,11 @@ pub fn run(bytes: &[u8], choices: &[u8], lent: &mut [u8], fault: Fault) -> RunNu
         Ok(accepted) => accepted,
         Err(refusal) => return refused(refusal.number, refusal.component),
     };
-    if lent.len() < 32 * passages.len() {
+    let asked = match fault {
+        Fault::RoomFor32Bytes => 32,
+        _ => WIDTH,
+    };
+    if lent.len() < asked * passages.len() {
         return refused(13, 255);
     }
     if choices.len() > 1_000_000 {
@@ -124,7 +141,7 @@ fn refused(number: u8, component: u8) -> RunNumbers {
 
 impl Run {
     fn answer(self, end: u8, node: u8, lent: &mut [u8]) -> RunNumbers {
-        let mut all: Vec<(usize, [u8; 32])> = Vec::new();
+        let mut all: Vec<(usize, [u8; WIDTH])> = Vec::new();
         for (number, node) in self.nodes.iter().enumerate() {
             for (when, mut bytes) in node.written.iter().copied() {
                 bytes[0] = number as u8;
@@ -132,7 +149,7 @@ impl Run {
             }
         }
         all.sort_by_key(|(when, _)| *when);
-        let places = lent.chunks_exact_mut(32);
+        let places = lent.chunks_exact_mut(WIDTH);
         for (place, (_, bytes)) in places.zip(&all) {
             place.copy_from_slice(bytes);
         }

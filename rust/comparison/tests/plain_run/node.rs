@@ -1,6 +1,6 @@
 //! One node of the plain run.
 
-use super::Fault;
+use super::{Fault, WIDTH};
 
 /// A node: its statements and its registers.
 pub struct Node {
@@ -22,10 +22,14 @@ pub struct Node {
     paired: Option<u8>,
     /// When the last work was finished.
     finished: i64,
+    /// When the first update of the work under way was made.
+    begun: Option<i64>,
+    /// When each work was finished.
+    finishes: Vec<i64>,
     /// The sleeps finished.
     pub sleeps: usize,
     /// The observations, each with its place among those of all nodes.
-    pub written: Vec<(usize, [u8; 32])>,
+    pub written: Vec<(usize, [u8; WIDTH])>,
 }
 
 fn two(bytes: &[u8]) -> usize {
@@ -67,6 +71,8 @@ impl Node {
             kept: None,
             paired: None,
             finished: 0,
+            begun: None,
+            finishes: Vec::new(),
             sleeps: 0,
             written: Vec::new(),
         }
@@ -97,11 +103,28 @@ impl Node {
         }
         let pairs = self.statement()[1];
         self.work_done(tick, 1 + usize::from(pairs));
+        if self.fault == Fault::FinishNotNotedForMessage {
+            self.forget_finish();
+        }
+    }
+
+    /// The tick of the work before stands for the last one.
+    fn forget_finish(&mut self) {
+        self.finishes.pop();
+        self.finishes
+            .push(self.finishes.last().copied().unwrap_or(-1));
     }
 
     /// Its work is finished; it goes on by so many statements.
     pub fn work_done(&mut self, tick: i64, statements: usize) {
         self.finished = tick;
+        let begun = self.begun.take();
+        self.finishes.push(match self.fault {
+            Fault::FinishOfTheFirstUpdate => begun.unwrap_or(tick),
+            Fault::FinishAtReady => self.t,
+            Fault::FinishAtEnd => self.t + self.d,
+            _ => tick,
+        });
         let skipped = self.fault != Fault::PairsRun;
         self.place += if skipped { statements } else { 1 };
         if self.fault == Fault::WrittenAfterWork {
@@ -130,14 +153,7 @@ impl Node {
                 self.work_done(tick, 1);
                 return true;
             }
-            0x05 => {
-                let early = fault == Fault::ListensShorter && tick + 1 == self.t + self.d;
-                if tick != self.t + self.d && !early {
-                    return false;
-                }
-                self.work_done(tick, 1 + usize::from(a));
-                return true;
-            }
+            0x05 => return self.time_out(tick, a),
             0x10 => return self.take(),
             0x11 => {
                 if fault != Fault::KeptNeverForgotten {
@@ -146,10 +162,45 @@ impl Node {
                 self.place = self.starts[usize::from(self.location)];
                 return true;
             }
+            0x01 | 0x02 => {
+                self.begun.get_or_insert(tick);
+                self.calculate(op, usize::from(a), k);
+            }
             _ => self.calculate(op, usize::from(a), k),
         }
         self.place += 1;
         true
+    }
+
+    /// Its listen is finished without a message, if it may be.
+    fn time_out(&mut self, tick: i64, pairs: u8) -> bool {
+        let early = self.fault == Fault::ListensShorter && tick + 1 == self.t + self.d;
+        if tick != self.t + self.d && !early {
+            return false;
+        }
+        self.work_done(tick, 1 + usize::from(pairs));
+        if self.fault == Fault::FinishNotNotedForTimeout {
+            self.forget_finish();
+        }
+        true
+    }
+
+    /// What stands in an observation of the work before.
+    fn previous_finish(&self) -> [u8; 4] {
+        let back = match self.fault {
+            Fault::FinishOfTheWorkBefore => 2,
+            _ => 1,
+        };
+        let place = self.finishes.len().checked_sub(back);
+        let finish = match (place, self.fault) {
+            (Some(place), _) => self.finishes[place],
+            (None, Fault::FirstFinish0) => 0,
+            (None, _) => -1,
+        };
+        match self.fault {
+            Fault::FinishLittleEndian => (finish as u32).to_le_bytes(),
+            _ => (finish as u32).to_be_bytes(),
+        }
     }
 
     fn take(&mut self) -> bool {
@@ -216,7 +267,7 @@ impl Node {
     }
 
     fn write(&mut self, tick: i64, when: usize) {
-        let mut bytes = [0; 32];
+        let mut bytes = [0; WIDTH];
         bytes[1] = self.edge;
         bytes[2] = match self.fault {
             Fault::DestinationShown => self.code
@@ -248,6 +299,7 @@ impl Node {
             };
             bytes[24 + 2 * place..][..2].copy_from_slice(&two);
         }
+        bytes[32..].copy_from_slice(&self.previous_finish());
         self.written.push((when, bytes));
     }
 }

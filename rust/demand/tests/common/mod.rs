@@ -3,8 +3,9 @@
 #![allow(dead_code)]
 
 use demand::{Claim, Demand, Facts, OBSERVATION, TICK};
+use reference::checks::verdict;
 use reference::program::program;
-use reference::run::{run, Machine};
+use reference::run::{run, run_apart, Machine};
 use reference::schedule::Passage;
 use reference::table::Table;
 use std::path::Path;
@@ -29,8 +30,11 @@ impl Answer {
     }
 }
 
-/// All answers that differ from this one in one number or one byte, in an
-/// observation more or less, or in the order of two.
+/// The bytes of an observation that the vectors older than wish 9 have.
+const OLD: usize = 32;
+
+/// All answers that differ from this one in one number, one byte or one finish tick, in
+/// an observation more or less, or in the order of two.
 pub fn changed(answer: &Answer) -> Vec<Answer> {
     let mut all = Vec::new();
     for place in 0..4 {
@@ -43,7 +47,7 @@ pub fn changed(answer: &Answer) -> Vec<Answer> {
         changed.numbers[place] = answer.numbers[place].wrapping_sub(1);
         all.push(changed);
     }
-    for place in (0..answer.observations.len()).step_by(3) {
+    for place in (0..answer.observations.len()).step_by(5) {
         for bit in [1, 128] {
             let mut changed = answer.clone();
             changed.observations[place] ^= bit;
@@ -56,6 +60,7 @@ pub fn changed(answer: &Answer) -> Vec<Answer> {
         all.push(changed.clone());
         changed.observations.extend(own);
         all.push(changed);
+        all.extend(other_finishes(answer, at));
     }
     let mut changed = answer.clone();
     changed.observations.extend([0; OBSERVATION]);
@@ -63,6 +68,31 @@ pub fn changed(answer: &Answer) -> Vec<Answer> {
     changed.observations.push(0);
     all.push(changed);
     all.retain(|changed| changed != answer);
+    all
+}
+
+/// The answer with other finish ticks in the observation at this place: next to the
+/// right one, none, 0, the observation's own tick; and without the finish tick.
+fn other_finishes(answer: &Answer, at: usize) -> Vec<Answer> {
+    let place = at + OLD..at + OBSERVATION;
+    let four = |at: usize| u32::from_be_bytes(*answer.observations[at..].first_chunk().unwrap());
+    let (own, right) = (four(at + 4), four(place.start));
+    let others = [
+        right.wrapping_sub(1),
+        right.wrapping_add(1),
+        0,
+        u32::MAX,
+        own,
+    ];
+    let mut all: Vec<Answer> = Vec::new();
+    for other in others {
+        let mut changed = answer.clone();
+        changed.observations[place.clone()].copy_from_slice(&other.to_be_bytes());
+        all.push(changed);
+    }
+    let mut short = answer.clone();
+    short.observations.drain(place);
+    all.push(short);
     all
 }
 
@@ -77,18 +107,21 @@ pub struct Stored {
 
 /// The runs of all vectors whose nodes wake together.
 pub fn stored() -> Vec<Stored> {
-    read_stored(&[
+    let mut all = read_stored(&[
         "named.tsv",
         "random.tsv",
         "bands.tsv",
         "hearings.tsv",
         "budgets.tsv",
-    ])
+        "finishes.tsv",
+    ]);
+    all.retain(|stored| stored.offsets.iter().all(|offset| *offset == 0));
+    all
 }
 
-/// The runs of the vectors whose nodes wake apart.
+/// The runs of the vectors whose nodes may wake apart.
 pub fn stored_apart() -> Vec<Stored> {
-    read_stored(&["apart.tsv"])
+    read_stored(&["apart.tsv", "finishes.tsv"])
 }
 
 fn read_stored(files: &[&str]) -> Vec<Stored> {
@@ -121,16 +154,38 @@ fn one(line: &str) -> Option<Stored> {
     let mut parts = fields[2].split('|');
     let first = parts.next().unwrap().split(' ');
     let numbers: Vec<u32> = first.map(|word| word.parse().unwrap()).collect();
-    Some(Stored {
+    let mut stored = Stored {
         name: fields[0].to_string(),
         table: unhex(words[1]),
         choices: unhex(words[2]),
         offsets,
         answer: Answer {
             numbers: numbers.try_into().unwrap(),
-            observations: parts.flat_map(unhex).collect(),
+            observations: Vec::new(),
         },
-    })
+    };
+    stored.answer.observations = with_finishes(&stored, parts.map(unhex).collect());
+    Some(stored)
+}
+
+/// The observations of a run. Those of the vectors older than wish 9 lack their last four
+/// bytes, which are the second implementation's.
+fn with_finishes(stored: &Stored, mut observations: Vec<Vec<u8>>) -> Vec<u8> {
+    if observations.iter().any(|bytes| bytes.len() == OLD) {
+        let (table, passages) = verdict(&stored.table).unwrap();
+        let program = program(&table);
+        let run = run_apart(
+            &table,
+            &passages,
+            &program,
+            &stored.choices,
+            &stored.offsets,
+        );
+        for (bytes, whole) in observations.iter_mut().zip(run.unwrap().observations) {
+            bytes.extend(&whole[OLD..]);
+        }
+    }
+    observations.concat()
 }
 
 pub fn unhex(text: &str) -> Vec<u8> {

@@ -1,7 +1,7 @@
 //! The step machine: all nodes, the common tick and the nodes' own clocks.
 
 use super::node::Node;
-use super::{OBSERVATION, TICK};
+use super::{FINISH_TICK, NO_WORK, OBSERVATION, TICK};
 use crate::program::{part_bytes, NodeProgram, Op};
 use crate::schedule::Passage;
 use crate::table::{Table, MAX_COMPONENTS};
@@ -59,6 +59,10 @@ pub struct Machine<'a> {
     /// The tick at which each node wakes.
     offsets: [u32; MAX_COMPONENTS],
     coming: [Coming; MAX_COMPONENTS],
+    /// How many sleeps each node has finished.
+    sleeps: [usize; MAX_COMPONENTS],
+    /// The ticks of each node's own clock at which its works finished, in their order.
+    finishes: [Vec<u32>; MAX_COMPONENTS],
     clocks: [u8; MAX_COMPONENTS],
     passages: &'a [Passage],
     tick: u32,
@@ -90,6 +94,8 @@ impl<'a> Machine<'a> {
             nodes: Vec::with_capacity(count),
             offsets: [0; MAX_COMPONENTS],
             coming: [Coming { index: 0, ready: 0 }; MAX_COMPONENTS],
+            sleeps: [0; MAX_COMPONENTS],
+            finishes: Default::default(),
             clocks: [0; MAX_COMPONENTS],
             passages,
             tick: 0,
@@ -145,10 +151,21 @@ impl<'a> Machine<'a> {
         }
         let own_clock = self.own_clock(number);
         let happening = self.nodes[number].finish(choice, statement, own_clock)?;
-        if let Happening::Slept { .. } = happening {
-            self.expect_passage(number, self.coming[number].index + 1);
+        match happening {
+            Happening::Slept { .. } => {
+                self.sleeps[number] += 1;
+                self.expect_passage(number, self.coming[number].index + 1);
+            }
+            Happening::Done { .. } | Happening::Timeout { .. } => self.note_finish(number),
+            _ => {}
         }
         Some(happening)
+    }
+
+    /// A node's work has finished now, "by its own clock".
+    fn note_finish(&mut self, number: usize) {
+        let own_clock = self.own_clock(number);
+        self.finishes[number].push(own_clock);
     }
 
     /// Notes a node's next passage, the first in the schedule from a place on.
@@ -176,6 +193,8 @@ impl<'a> Machine<'a> {
         let (receiver, pairs, location) = self.listener(channel, since)?;
         self.nodes[sender].sent();
         self.nodes[receiver].received(pairs, location);
+        self.note_finish(sender);
+        self.note_finish(receiver);
         Some(Happening::Message {
             sender: sender as u8,
             receiver: receiver as u8,
@@ -224,10 +243,19 @@ impl<'a> Machine<'a> {
         own_clock > self.coming[number].ready && !stands_at(node, Op::Sleep)
     }
 
+    /// "the tick at which the node's previous work finished": with its n-th sleep a
+    /// node has n − 1 works behind it, the last of them that of the passage before.
+    fn previous_finish(&self, number: usize) -> u32 {
+        let previous = self.sleeps[number].checked_sub(2);
+        let finish = previous.and_then(|work| self.finishes[number].get(work));
+        finish.copied().unwrap_or(NO_WORK)
+    }
+
     /// "Finished sleep writes an observation, due at the passage's ready, 32
     /// bytes: component, edge, location, 0, tick (4 bytes), four clocks grown
     /// by n (4 each), four variables (2 each); absent ones 0." "Observations carry
-    /// the node's own clock". The node must have finished the sleep by the last
+    /// the node's own clock". "after the old 32 comes the tick at which the node's
+    /// previous work finished". The node must have finished the sleep by the last
     /// choice.
     pub fn observation(&self, node: u8) -> [u8; OBSERVATION] {
         let number = usize::from(node);
@@ -240,10 +268,11 @@ impl<'a> Machine<'a> {
         for (place, clock) in clocks.zip(&registers.clocks[..present]) {
             place.copy_from_slice(&clock.saturating_add(registers.n).to_be_bytes());
         }
-        let variables = bytes[24..].chunks_exact_mut(2);
+        let variables = bytes[24..FINISH_TICK].chunks_exact_mut(2);
         for (place, variable) in variables.zip(&registers.variables) {
             place.copy_from_slice(&variable.to_be_bytes());
         }
+        bytes[FINISH_TICK..].copy_from_slice(&self.previous_finish(number).to_be_bytes());
         bytes
     }
 }

@@ -1,7 +1,8 @@
 //! The run: choices carried out on the program bytes, its four ways to end,
 //! its observations, and beside them a log of finished work. Document 02's wish 6
 //! gives each node an offset and a clock of its own; without offsets all nodes
-//! wake at tick 0, and the clocks are the tick.
+//! wake at tick 0, and the clocks are the tick. Its wish 9 puts into each observation
+//! when the node's previous work finished.
 
 mod machine;
 mod node;
@@ -14,8 +15,12 @@ use crate::table::{Table, NO_COMPONENT};
 
 /// "Choice 255: a tick passes."
 pub const TICK: u8 = 255;
-/// The length of an observation: "32 bytes".
-pub const OBSERVATION: usize = 32;
+/// Document 02, wish 9: "Each observation becomes 36 bytes".
+pub const OBSERVATION: usize = 36;
+/// Where the finish tick stands in it: "after the old 32".
+pub const FINISH_TICK: usize = 32;
+/// What stands there in the first observation of a node: "4,294,967,295".
+pub const NO_WORK: u32 = 4_294_967_295;
 
 /// The four ways to end, each with its number.
 #[derive(Clone, Copy, Debug, PartialEq, Eq)]

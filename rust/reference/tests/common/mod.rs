@@ -1,6 +1,8 @@
 //! What the tests share: the worked example, hexadecimal, and the vectors.
 #![allow(dead_code)]
 
+use reference::calls;
+use reference::run::{FINISH_TICK, OBSERVATION};
 use reference::schedule::{schedule, Passage};
 use reference::table::*;
 use std::path::PathBuf;
@@ -168,6 +170,12 @@ pub fn vectors_of_reasons() -> Vec<Vector> {
     read_vectors(&["reasons.tsv"])
 }
 
+/// The cases of finish ticks: `run`, before it `lent` where it is said how many bytes
+/// are lent.
+pub fn vectors_of_finishes() -> Vec<Vector> {
+    read_vectors(&["finishes.tsv"])
+}
+
 fn read_vectors(files: &[&str]) -> Vec<Vector> {
     let mut all = Vec::new();
     for file in files {
@@ -201,6 +209,45 @@ pub fn refusal_of(answer: &str) -> Option<Refusal> {
     let mut words = answer.strip_prefix("refused ")?.split(' ');
     let mut number = || words.next().unwrap().parse().unwrap();
     Some(refused(number(), number()))
+}
+
+/// As many bytes as any run takes.
+pub const AMPLE: usize = 1024 * OBSERVATION;
+
+/// The answer to a `run` with so many bytes lent: the words are the table, the choices
+/// and, unless they are missing, the spread and the offsets. What stands past the
+/// observations must stay.
+pub fn run_answer(words: &[&str], lent: usize) -> Result<String, Refusal> {
+    let numbers = |word: &&str| word.split(',').map(|n| n.parse().unwrap()).collect();
+    let spread = words.get(2).map_or(0, |word| word.parse().unwrap());
+    let offsets: Vec<u32> = words.get(3).map_or(Vec::new(), numbers);
+    let (table, choices) = (unhex(words[0]), unhex(words[1]));
+    let mut bytes = vec![77; lent];
+    let answer = match words {
+        [_, _] => calls::run(&table, &choices, &mut bytes),
+        _ => calls::run_apart(&table, &choices, spread, &offsets, &mut bytes),
+    };
+    let written = answer.map_or(0, |(_, count)| count * OBSERVATION);
+    assert!(bytes[written..].iter().all(|byte| *byte == 77));
+    let (outcome, _) = answer?;
+    let (end, node) = (outcome.end as u8, outcome.node);
+    let first = format!("{end} {node} {} {}", outcome.tick, outcome.used);
+    let observations = bytes[..written].chunks(OBSERVATION).map(hex);
+    let parts: Vec<String> = std::iter::once(first).chain(observations).collect();
+    Ok(parts.join("|"))
+}
+
+/// The answer to a run as the older vectors have it: of each observation "the old 32"
+/// bytes.
+pub fn without_finishes(answer: String) -> String {
+    let old = |part: &str| part[..part.len().min(2 * FINISH_TICK)].to_string();
+    let parts: Vec<String> = answer.split('|').map(old).collect();
+    parts.join("|")
+}
+
+/// An answer in the words of the vectors.
+pub fn told(answer: Result<String, Refusal>) -> String {
+    answer.unwrap_or_else(|refusal| format!("refused {} {}", refusal.number, refusal.component))
 }
 
 /// A small generator of numbers for tests that try many cases.

@@ -1,6 +1,7 @@
 //! The calls on the smallest table, and the layout of their answers.
 
 use super::*;
+use crate::OBSERVATION;
 
 /// Header, one component of one location and one internal edge whose
 /// window is 0 to 1.
@@ -108,7 +109,7 @@ fn the_program_and_its_only_part() {
 
 #[test]
 fn a_run_to_the_horizon() {
-    let mut bytes = [9; 33];
+    let mut bytes = [9; OBSERVATION + 1];
     let answer = RunNumbers {
         number: 0,
         component: 255,
@@ -120,12 +121,12 @@ fn a_run_to_the_horizon() {
     };
     assert_eq!(run(&SMALLEST, &[0, 0, 0, 0, 0, 255, 7], &mut bytes), answer);
     assert_eq!(bytes[..32], [0; 32]);
-    assert_eq!(bytes[32], 9);
+    assert_eq!(bytes[32..], [255, 255, 255, 255, 9]);
 }
 
 #[test]
 fn a_refused_run_gives_node_255_and_zeros() {
-    let mut bytes = [9; 31];
+    let mut bytes = [9; OBSERVATION - 1];
     let answer = RunNumbers {
         number: 13,
         component: 255,
@@ -136,5 +137,5 @@ fn a_refused_run_gives_node_255_and_zeros() {
         size: 0,
     };
     assert_eq!(run(&SMALLEST, &[0], &mut bytes), answer);
-    assert_eq!(bytes, [9; 31]);
+    assert_eq!(bytes, [9; OBSERVATION - 1]);
 }

@@ -281,12 +281,15 @@ impl Machine {
         Some(())
     }
 
-    /// A node's work is finished: it has to be at its next sleep in time.
+    /// A node's work is finished now: it has to be at its next sleep in time.
     #[inline]
     fn end_work(&mut self, number: usize) {
         self.waiting &= !(1 << number);
         self.listening &= !(1 << number);
-        self.set_stop(number, self.nodes[number % COMPONENTS].ready);
+        let node = &mut self.nodes[number % COMPONENTS];
+        node.finished = self.tick - self.offsets[number % COMPONENTS];
+        let ready = node.ready;
+        self.set_stop(number, ready);
     }
 
     /// A node's stop, by its own clock.

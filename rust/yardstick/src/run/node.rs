@@ -2,7 +2,7 @@
 
 use super::code::Statement;
 use crate::table::*;
-use crate::OBSERVATION;
+use crate::{NO_WORK, OBSERVATION};
 
 /// The ready delay of a node that has kept no edge.
 pub(super) const NOTHING_KEPT: i32 = i32::MAX;
@@ -10,6 +10,8 @@ pub(super) const NOTHING_KEPT: i32 = i32::MAX;
 const FAILED: i32 = i32::MIN;
 /// The location of a node that has taken no message.
 pub(super) const NO_LOCATION: u8 = 255;
+/// Where in an observation the finish tick stands.
+const FINISH_TICK: usize = 32;
 
 /// What a node remembers from one statement to the next.
 #[derive(Clone, Copy, Default)]
@@ -39,6 +41,8 @@ pub(super) struct Node {
     pub(super) passage: u16,
     /// The ready of that passage.
     pub(super) ready: u32,
+    /// The tick of its own clock at which its last work finished.
+    pub(super) finished: u32,
 }
 
 impl Node {
@@ -49,6 +53,7 @@ impl Node {
             location,
             kept: [NOTHING_KEPT, 0],
             paired: NO_LOCATION,
+            finished: NO_WORK,
             ..Node::default()
         }
     }
@@ -159,7 +164,8 @@ impl Node {
     }
 
     /// "32 bytes: component, edge, location, 0, tick (4 bytes), four clocks
-    /// grown by n (4 each), four variables (2 each); absent ones 0."
+    /// grown by n (4 each), four variables (2 each); absent ones 0." "after the old 32
+    /// comes the tick at which the node's previous work finished".
     #[inline]
     pub(super) fn observe(&self, number: u8, clocks: u8, tick: u32, out: &mut [u8; OBSERVATION]) {
         let mut bytes = [0; OBSERVATION];
@@ -169,10 +175,11 @@ impl Node {
         for (place, clock) in places.iter_mut().zip(&self.clocks).take(clocks.into()) {
             *place = (*clock as u32 + self.n).to_be_bytes();
         }
-        let places = bytes[24..].as_chunks_mut::<2>().0;
+        let places = bytes[24..FINISH_TICK].as_chunks_mut::<2>().0;
         for (place, variable) in places.iter_mut().zip(&self.variables) {
             *place = variable.to_be_bytes();
         }
+        bytes[FINISH_TICK..].copy_from_slice(&self.finished.to_be_bytes());
         *out = bytes;
     }
 }

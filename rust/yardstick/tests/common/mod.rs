@@ -70,13 +70,32 @@ fn line(row: &[u32]) -> String {
     words.join(" ")
 }
 
-/// How a run ended and its observations, as the vectors have them.
-pub fn run(yardstick: &mut Yardstick, table: &[u8], choices: &[u8]) -> Result<String, Refusal> {
-    let mut bytes = vec![0; 1024 * OBSERVATION];
-    let run = yardstick.run(table, choices, &mut bytes)?;
-    let (end, tick) = (run.end as u8, run.tick);
-    let first = format!("{end} {} {tick} {}", run.node, run.used);
-    let written = bytes.chunks(OBSERVATION).take(run.size).map(hex);
-    let parts: Vec<String> = std::iter::once(first).chain(written).collect();
+/// How a run ended and its observations, as the vectors have them: with so many bytes
+/// lent; the words are the table, the choices and, unless they are missing, the spread
+/// and the offsets. What stands past the observations must stay.
+pub fn run(yardstick: &mut Yardstick, lent: usize, words: &[&str]) -> Result<String, Refusal> {
+    let numbers = |word: &&str| word.split(',').map(|n| n.parse().unwrap()).collect();
+    let spread = words.get(2).map_or(0, |word| word.parse().unwrap());
+    let offsets: Vec<u32> = words.get(3).map_or(Vec::new(), numbers);
+    let (table, choices) = (unhex(words[0]), unhex(words[1]));
+    let mut bytes = vec![77; lent];
+    let run = match words {
+        [_, _] => yardstick.run(&table, &choices, &mut bytes),
+        _ => yardstick.run_apart(&table, &choices, spread, &offsets, &mut bytes),
+    };
+    let written = run.map_or(0, |run| run.size * OBSERVATION);
+    assert!(bytes[written..].iter().all(|byte| *byte == 77));
+    let run = run?;
+    let first = format!("{} {} {} {}", run.end as u8, run.node, run.tick, run.used);
+    let observations = bytes[..written].chunks(OBSERVATION).map(hex);
+    let parts: Vec<String> = std::iter::once(first).chain(observations).collect();
+    Ok(parts.join("|"))
+}
+
+/// The same as the older vectors have it: of each observation the first 32 bytes.
+pub fn old_run(yardstick: &mut Yardstick, lent: usize, words: &[&str]) -> Result<String, Refusal> {
+    let answer = run(yardstick, lent, words)?;
+    let old = |part: &str| part[..part.len().min(2 * 32)].to_string();
+    let parts: Vec<String> = answer.split('|').map(old).collect();
     Ok(parts.join("|"))
 }

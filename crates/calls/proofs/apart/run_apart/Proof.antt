@@ -2,6 +2,7 @@
 use borrow.Author.Needs.{needs}
 use Rattle.model.proofs.Observations.All.{observations-read-at}
 use Rattle.model.proofs.Run.CallsApart.{demanded-apart}
+use Rattle.model.proofs.Run.Finished.{finishes-apart}
 use Rattle.table.proofs.Answered.{refused-at, narrow, valid-at, starts-at}
 use Rattle.calls.proofs.RunCalls.{run-refused}
 use Rattle.calls.proofs.apart.run_apart.Statement.{statement}
@@ -37,6 +38,7 @@ returns c =
       rw k (c .not-run .ensures (a .observations .now)),
       demanded-apart (a .spread) (a .table .now) (a .offsets .now) (a .choices .now),
       observations-read-at (a .spread) (a .table .now) (a .offsets .now) (a .choices .now) (a .observations .now),
+      finishes-apart (a .spread) (a .table .now) (a .offsets .now) (a .choices .now),
     )
 
 same-length : tie.Need-same-length
@@ -48,6 +50,7 @@ returns-2 c =
       c .before .before .run-read .ensures,
       demanded-apart (a .spread) (a .table .now) (a .offsets .now) (a .choices .now),
       observations-read-at (a .spread) (a .table .now) (a .offsets .now) (a .choices .now) (a .observations .now),
+      finishes-apart (a .spread) (a .table .now) (a .offsets .now) (a .choices .now),
     )
 
 pub run-apart-spec : {M : Type 1} → statement M

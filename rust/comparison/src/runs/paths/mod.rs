@@ -198,8 +198,8 @@ fn realises(subject: &Subject, path: &Path, choices: &[u8], run: &Lent) -> Resul
     demanded("works", works.as_ref(), Some(&path.works))?;
     let written = observed::read(run.observations())?;
     for component in 0..subject.table.components.len() as u8 {
-        let own = written.iter().filter(|one| one.component == component);
-        let shown: Vec<Observation> = own.copied().collect();
+        let all = written.iter().map(|one| one.observation);
+        let shown: Vec<Observation> = all.filter(|one| one.component == component).collect();
         demanded("shown", shown, path.shown(subject, component))?;
     }
     Ok(())
