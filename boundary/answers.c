@@ -242,12 +242,24 @@ static void write_reasons(const struct stored *stored, enum where where) {
     }
 }
 
+/* The late runs, in all and of each node of the table, and the generator. */
+static void write_simulation(const struct stored *stored, enum where where) {
+    timed_network_simulation_numbers answer =
+        guarded_simulate(where, stored->table, stored->experiment);
+    if (write_refusal(answer.number, answer.component))
+        return;
+    write_number("", answer.late);
+    for (size_t i = 0; i < stored->table.at[3]; i++)
+        write_number(" ", answer.nodes[i]);
+    write_number("|state ", answer.state);
+}
+
 void stored_try(const struct stored *stored, enum where where) {
     static void (*const writers[])(const struct stored *, enum where) = {
         write_check,        write_schedule,  write_chart, write_plan,
         write_looked,       write_program,   write_part,  write_run,
         write_check_spread, write_run_apart, write_place, write_opening,
-        write_reasons};
+        write_reasons,      write_simulation, write_simulation};
     trying("a stored case", stored->name);
     used = 0;
     text[0] = 0;

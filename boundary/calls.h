@@ -23,7 +23,10 @@ enum {
     MAX_OBSERVATIONS = OBSERVATION * MAX_PASSAGES,
     MAX_CHOICES = 1000000,
     MAX_SPREAD = 1000,
-    MAX_OFFSETS = 64
+    MAX_OFFSETS = 64,
+    MAX_NODES = 8,
+    MAX_WORK = 60000,
+    MAX_RUNS = 10000
 };
 
 struct bytes {
@@ -48,7 +51,13 @@ struct question {
     uint32_t component, tick;
 };
 
-/* The exported calls; vectors ask for those up to REASONS. */
+/* What simulated runs are made with; the seed, unless it is the fixed one. */
+struct experiment {
+    uint32_t lo, hi, runs, seed;
+    int seeded;
+};
+
+/* The exported calls; vectors ask for those up to SIMULATE_FROM. */
 enum call {
     CHECK,
     SCHEDULE,
@@ -63,6 +72,8 @@ enum call {
     REFUSAL_PLACE,
     REFUSED_OPENING,
     REASONS,
+    SIMULATE,
+    SIMULATE_FROM,
     PASSAGES,
     MEETINGS,
     LARGEST_SPREAD,
@@ -92,6 +103,7 @@ void meetings_start(void);
 void apart_start(void);
 void refused_start(void);
 void reasons_start(void);
+void simulation_start(void);
 
 /*
  * What holds for every verdict: 0 to `most`, the last number of the call, or,
@@ -129,11 +141,17 @@ timed_network_place_numbers guarded_refusal_place(enum where where, struct bytes
 timed_network_opening_numbers guarded_refused_opening(enum where where, struct bytes table);
 timed_network_reason_numbers guarded_reasons(enum where where, struct bytes table,
                                              struct question question, size_t lent);
+timed_network_simulation_numbers guarded_simulate(enum where where, struct bytes table,
+                                                  struct experiment experiment);
 timed_network_node_registers guarded_start(enum where where, struct bytes part);
 void guarded_step(enum where where, timed_network_node_registers *node, struct bytes part,
                   uint8_t clocks, uint8_t variables);
 void guarded_take_message(enum where where, timed_network_node_registers *node,
                           struct bytes part, uint8_t channel);
+
+/* Simulated runs at once, in two pieces, and with the fixed seed given. */
+void simulate_in_all_ways(enum where where, struct bytes table,
+                          struct experiment experiment);
 
 /* The reasons with as many bytes lent as they need plus `more`. */
 void lend_for_reasons(enum where where, struct bytes table, struct question question,

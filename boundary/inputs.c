@@ -77,6 +77,23 @@ struct waking random_waking(struct bytes table) {
     return waking;
 }
 
+struct experiment random_experiment(void) {
+    static const uint32_t far[] = {MAX_WORK, MAX_WORK + 1, MAX_RUNS + 1, 65538, UINT32_MAX};
+    uint32_t hi = (uint32_t)random_below(6);
+    struct experiment experiment = {(uint32_t)random_below(hi + 1), hi,
+                                    1 + (uint32_t)random_below(3), (uint32_t)random_number(),
+                                    (int)random_below(2)};
+    if (random_below(8) == 0)
+        experiment.hi = far[random_below(5)];
+    if (random_below(8) == 0)
+        experiment.lo = (uint32_t)random_below(8);
+    if (random_below(16) == 0)
+        experiment.seed = 0;
+    if (random_below(16) == 0)
+        experiment.runs = random_below(2) ? 0 : far[2 + random_below(3)];
+    return experiment;
+}
+
 struct bytes random_program(size_t length) {
     if (length > 0)
         memcpy(program_bytes, program, length);

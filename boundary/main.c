@@ -229,6 +229,7 @@ static void all_calls(enum where where, struct bytes table, struct bytes choices
     guarded_refusal_place(where, table);
     guarded_refused_opening(where, table);
     guarded_reasons(where, table, any_question(table), lent % (MAX_TOLD + 1));
+    simulate_in_all_ways(where, table, random_experiment());
     if (verdict.number != 0) {
         same(planned.number == verdict.number && translated.number == verdict.number &&
                  ran.number == verdict.number && charted.number == verdict.number,

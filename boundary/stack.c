@@ -51,6 +51,7 @@ static timed_network_edge_choice_numbers edge_choice;
 static timed_network_place_numbers refusal_place;
 static timed_network_opening_numbers refused_opening;
 static timed_network_reason_numbers reasons;
+static timed_network_simulation_numbers simulation;
 
 /* What is lent to a call. For a node's calls `bytes` is its part. */
 struct lent {
@@ -59,6 +60,7 @@ struct lent {
     struct slots slots;
     struct waking waking;
     struct question question;
+    struct experiment experiment;
 };
 
 /* Apart from the others, whose frame would else hold what is passed in memory. */
@@ -89,6 +91,19 @@ __attribute__((noinline)) static void call_reasons(const struct lent *lent) {
     reasons = timed_network_reasons(lent->bytes.at, lent->bytes.length,
                                     lent->question.component, lent->question.tick, told,
                                     MAX_TOLD);
+}
+
+__attribute__((noinline)) static void call_simulate(const struct lent *lent) {
+    const struct experiment *experiment = &lent->experiment;
+    simulation = timed_network_simulate(lent->bytes.at, lent->bytes.length, experiment->lo,
+                                        experiment->hi, experiment->runs);
+}
+
+__attribute__((noinline)) static void call_simulate_from(const struct lent *lent) {
+    const struct experiment *experiment = &lent->experiment;
+    simulation =
+        timed_network_simulate_from(lent->bytes.at, lent->bytes.length, experiment->lo,
+                                    experiment->hi, experiment->runs, experiment->seed);
 }
 
 static void call(int request, const struct lent *lent) {
@@ -135,6 +150,12 @@ static void call(int request, const struct lent *lent) {
         break;
     case REASONS:
         call_reasons(lent);
+        break;
+    case SIMULATE:
+        call_simulate(lent);
+        break;
+    case SIMULATE_FROM:
+        call_simulate_from(lent);
         break;
     case PASSAGES:
         called = timed_network_passages(bytes, length, passages, MAX_PASSAGES);
@@ -244,8 +265,8 @@ static void each_part(int request, measure *measure, const struct stored *stored
 static void each_case(int request, measure *measure) {
     for (size_t i = 0; i < case_count; i++) {
         const struct stored *stored = &cases[i];
-        struct lent lent = {stored->table, stored->choices, stored->node,
-                            stored->slots, stored->waking,  stored->question};
+        struct lent lent = {stored->table,  stored->choices,  stored->node,      stored->slots,
+                            stored->waking, stored->question, stored->experiment};
         if (request < START) {
             size_t found = measure(request, &lent);
             note(request, found);

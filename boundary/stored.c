@@ -97,9 +97,21 @@ static struct question read_question(const char *words) {
     return question;
 }
 
+/* The work times, the runs and, unless it is the fixed one, the seed. */
+static struct experiment read_experiment(const char *words) {
+    unsigned long lo, hi, runs, seed = 0;
+    int read = sscanf(words, "%lu %lu %lu %lu", &lo, &hi, &runs, &seed);
+    if (read < 3)
+        fail("a simulation is not understood");
+    struct experiment experiment = {(uint32_t)lo, (uint32_t)hi, (uint32_t)runs, (uint32_t)seed,
+                                    read == 4};
+    return experiment;
+}
+
 /*
  * The request of a word. A check and a run that say a spread, behind the table
- * and behind the choices, are those at a spread.
+ * and behind the choices, are those at a spread; a simulation that says a seed,
+ * its fourth number, is the one from a seed.
  */
 static size_t request_of(const char *word, const char *words) {
     static const char *const all[] = {"check",  "schedule", "chart", "plan",
@@ -110,6 +122,12 @@ static size_t request_of(const char *word, const char *words) {
         return REFUSED_OPENING;
     if (strcmp(word, "why") == 0)
         return REASONS;
+    if (strcmp(word, "sim") == 0) {
+        int spaces = 0;
+        for (const char *at = words; *at != 0; at++)
+            spaces += *at == ' ';
+        return spaces == 4 ? SIMULATE_FROM : SIMULATE;
+    }
     size_t request = 0;
     while (request <= RUN && strcmp(all[request], word) != 0)
         request++;
@@ -140,6 +158,8 @@ static void read_words(struct stored *stored, char *table) {
         read_waking(&stored->waking, more);
     else if (request == REASONS)
         stored->question = read_question(more);
+    else if (request == SIMULATE || request == SIMULATE_FROM)
+        stored->experiment = read_experiment(more);
     else if (request == PART)
         stored->node = (uint8_t)atoi(more);
     else if (request == TIMING_CHART)
@@ -276,6 +296,7 @@ void stored_read(const char *root) {
     read_vectors(root, "vectors/reasons.tsv");
     read_vectors(root, "vectors/budgets.tsv");
     read_vectors(root, "vectors/finishes.tsv");
+    read_vectors(root, "vectors/simulations.tsv");
     read_vectors(root, "vectors/places.tsv");
     read_corpus(root);
     read_places(root);

@@ -21,6 +21,8 @@ usage: vanillatarn COMMAND ...
                                             how a run ends, and what is observed
   choices [--early|--late] [--offsets A,B,..] TABLE [-o FILE]
                                             choices that take a run to the horizon
+  simulate --work LO..HI --runs N [--seed S] [--sweep] [--json] TABLE
+                                            how many runs end late with such work times
   text TABLE                                a table as text
   table TEXTFILE [-o FILE]                  a text as a table
   install PREFIX                            the command and the library, in a folder
@@ -40,8 +42,9 @@ Exit status
   0  fine
   1  the answer is no: a table or a plan is refused, no edge is taken, a run ends
      late or with a choice that is not allowed, a spread or an offset is too large,
-     a component or a tick that is asked about is not there, a program is damaged
-     or has no such part, a text has a fault
+     a component or a tick that is asked about is not there, the numbers of a
+     simulation are out of range, a program is damaged or has no such part, a text
+     has a fault
   2  wrong use; a file that cannot be read or written, is empty or too long
   3  a tool is missing, could not be built or failed; standard output, standard
      error or the scratch folder cannot be written
@@ -222,6 +225,32 @@ node finishes everything as late as it may, its work at the end of the window.
            accepted at a spread of the largest one.
 
 Exit status: 0 written, 1 the table is refused.
+TEXT
+        simulate) cat <<'TEXT' ;;
+usage: vanillatarn simulate --work LO..HI --runs N [--seed S] [--sweep] [--json] TABLE
+       vanillatarn simulate --work LO..HI --runs N [--seed S] --show RUN TABLE [-o FILE]
+
+Tries work times: runs the programs of the table's nodes N times (1 to 10,000), and
+each time draws anew how many ticks each send and each internal work takes, LO to HI
+(at most 60,000; --work N is N..N). All else is finished as early as it may be, and
+all nodes wake at tick 0. Prints how many runs ended late, in all and for each node
+(the lowest late one of a run), with their share; the number of the first late run,
+counted from 0; and the generator afterwards, from which a further simulation goes
+on as --seed. That each run is a run of some list of choices is proved.
+
+--seed:  what the generator starts from (1 to 4,294,967,295; 0 is refused with 22);
+         without it 2463534242. The same words give the same answer.
+--sweep: the same for LO..LO, LO..LO+1 and so on up to LO..HI, each with N runs from
+         the same seed, as a table with a bar a line; where there are more than 41 of
+         them, 41 at even distances. Then up to which of them no run was late.
+--show:  writes the choices of one of the runs, as bytes, for vanillatarn run: how
+         this run came to be late.
+--json:  an object; with --sweep one a line (docs/FORMATS.md)
+
+On a terminal it is told how far a long simulation is.
+
+Exit status: 0 simulated, whatever came of it; 1 refused: the table, a seed of 0 with
+22, or with 23 LO above HI, HI above 60,000, or runs outside 1 to 10,000.
 TEXT
         text) cat <<'TEXT' ;;
 usage: vanillatarn text TABLE

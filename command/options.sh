@@ -17,7 +17,7 @@ read_option() {
             exit 0
             ;;
         -o)
-            has_option o -o
+            [[ $options == *v* ]] || has_option o -o
             (($# > 1)) || misused '-o lacks its file'
             output=$2 taken=2
             ;;
@@ -56,6 +56,16 @@ read_option() {
             (($# > 1)) || misused '--close lacks its number'
             read_close "$2"
             taken=2
+            ;;
+        --work | --runs | --seed | --show)
+            has_option v "$1"
+            (($# > 1)) || misused "$1 lacks its number"
+            simulate_option "$1" "$2"
+            taken=2
+            ;;
+        --sweep)
+            has_option v --sweep
+            swept=sweep
             ;;
         --early | --late)
             has_option m "$1"

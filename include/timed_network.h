@@ -30,8 +30,8 @@
  * The version of this header and its archive, as words and as a number that
  * grows: 10,000 x major + 100 x minor + patch.
  */
-#define TIMED_NETWORK_VERSION "0.9.0"
-#define TIMED_NETWORK_VERSION_NUMBER 900
+#define TIMED_NETWORK_VERSION "0.10.0"
+#define TIMED_NETWORK_VERSION_NUMBER 1000
 
 /*
  * Limits and sizes. "Enough" is what a buffer needs for any table.
@@ -55,6 +55,9 @@
 #define TIMED_NETWORK_MAX_CHOICES 1000000               /* choices of a run */
 #define TIMED_NETWORK_MAX_SPREAD 1000                   /* ticks of a spread */
 #define TIMED_NETWORK_MAX_BUDGET 60000                  /* ticks of an edge's budget */
+#define TIMED_NETWORK_MAX_RUNS 10000                    /* runs of a simulation */
+#define TIMED_NETWORK_MAX_WORK 60000                    /* ticks of work in one */
+#define TIMED_NETWORK_SEED 2463534242u                  /* where its generator starts */
 #define TIMED_NETWORK_TICK 255                          /* the choice that is a tick */
 #define TIMED_NETWORK_NONE 255                          /* no component, message, node */
 
@@ -81,7 +84,9 @@ enum timed_network_number {
     TIMED_NETWORK_REFUSED_PLAN = 18,
     TIMED_NETWORK_REFUSED_SPREAD = 19,
     TIMED_NETWORK_REFUSED_OFFSET = 20,
-    TIMED_NETWORK_REFUSED_QUESTION = 21
+    TIMED_NETWORK_REFUSED_QUESTION = 21,
+    TIMED_NETWORK_REFUSED_SEED = 22,
+    TIMED_NETWORK_REFUSED_SIMULATION = 23
 };
 
 /* What the end of a run means; see timed_network_run_numbers. */
@@ -152,7 +157,7 @@ extern "C" {
  *
  * 15 to 17 stand in the place of 11 (document 02): they are asked after 10 and
  * before 12, and earlier versions of this library said 11 for all four. 13, 14
- * and 18 to 21 refuse a call and say nothing about a table.
+ * and 18 to 23 refuse a call and say nothing about a table.
  *
  * component: the number of the component concerned, counted from 0. For 4 to 6
  * the one that was being read, for 7 to 9 the one that was opening a passage,
@@ -589,6 +594,67 @@ timed_network_run_apart(const uint8_t *table, size_t length,
                         uint32_t spread,
                         const uint32_t *offsets, size_t offsets_length,
                         uint8_t *observations, size_t observations_length);
+
+/*
+ * The answer of timed_network_simulate and timed_network_simulate_from. 44 bytes.
+ *
+ * number, component: as in a verdict, with two numbers more, tried in this order
+ * after 1 to 12:
+ *
+ *  22  the seed is 0; component 255
+ *  23  lo is above hi, hi above 60,000, or runs 0 or above 10,000; component 255
+ *
+ * late:  how many runs ended late; all others came to the horizon.
+ * nodes: how many of them ended with each node's number, the lowest late one. Their
+ *        sum is `late`. 0 for nodes that the table does not have.
+ * state: the generator after the last run: the number drawn last, or the seed where
+ *        none was drawn. As the seed of a further call it makes runs that go on where
+ *        these ended.
+ *
+ * After a refusal late, nodes and state are 0.
+ */
+typedef struct timed_network_simulation_numbers {
+    uint8_t number;
+    uint8_t component;
+    uint32_t late;
+    uint32_t nodes[8];
+    uint32_t state;
+} timed_network_simulation_numbers;
+
+/*
+ * Tries work times (document 02, wish 10): runs the programs of a table's nodes so
+ * many times, each time with other ticks of work, and counts the runs that end late.
+ *
+ * table, length: as for timed_network_check.
+ * lo, hi:        the least and the greatest number of ticks that work takes, 0 to
+ *                60,000.
+ * runs:          how many runs, 1 to 10,000.
+ *
+ * All nodes wake at tick 0. A sleep that is finished before a send or an internal
+ * edge draws x and gives the work behind it lo + x mod (hi - lo + 1) ticks, from
+ * that tick on: its last statement waits for them. In each tick the nodes 0 upward
+ * each finish all that is due and allowed, again and again until none moves; then
+ * the tick passes. A run ends late or at the horizon. Each is a run of some list of
+ * choices as timed_network_run takes it, however long.
+ *
+ * The numbers are drawn by Marsaglia's xorshift of 32 bits, shifts 13, 17 and 5, one
+ * generator for all nodes and all runs, which starts from 2463534242.
+ *
+ * Refused with 1 to 12 as timed_network_check refuses, then with 23. Nothing is
+ * written.
+ */
+timed_network_simulation_numbers
+timed_network_simulate(const uint8_t *table, size_t length,
+                       uint32_t lo, uint32_t hi, uint32_t runs);
+
+/*
+ * The same with a generator that starts from `seed`, which is not 0: refused with 22
+ * after 1 to 12, then with 23.
+ */
+timed_network_simulation_numbers
+timed_network_simulate_from(const uint8_t *table, size_t length,
+                            uint32_t lo, uint32_t hi, uint32_t runs,
+                            uint32_t seed);
 
 /*
  * A passage of a schedule: one stay in a location, with the window of the edge

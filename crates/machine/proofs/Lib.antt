@@ -12,3 +12,4 @@ pub mod Alone
 pub mod Sending
 pub mod Adding
 pub mod Loads
+pub mod Unseen

@@ -99,3 +99,10 @@ pub record Chosen (program rows : List ℕ) (n H count tick b : ℕ) (l : List �
   pub finished : m .allowed ≡ true → viewIn program l′ v′ b ≡ finish (partIn program l b) (viewIn program l v b) (viewIn program l v b .rest)
   pub alone : (opOf program l v b ≡ 4 → ⊥) → (i : ℕ) → (i ≡ b → ⊥) → SameNode l v l′ v′ i
   pub two : (i : ℕ) × ((j : ℕ) → (j ≡ b → ⊥) → (j ≡ i → ⊥) → SameNode l v l′ v′ j)
+
+-- The same, whatever was observed and wherever it would have been written.
+pub record ChosenUnseen (program rows : List ℕ) (n H count tick b : ℕ) (l : List ℕ) (v : List ℤ) (allowed : Bool) (l′ : List ℕ) (v′ : List ℤ) : Type 0 where
+  pub moved : Moved
+  pub out : List ℕ
+  pub may : moved .allowed ≡ allowed
+  pub chosen : Chosen program rows n H count tick b l v [] 0 moved l′ v′ out

@@ -16,7 +16,7 @@ ghost use Rattle.node.specs.Views.{Held, Within, opIn, Addable};
 ghost use Rattle.stand.specs.Stands.{never, mayFinish};
 ghost use Rattle.registers.specs.Words.{nodeIn, partIn, heldIn, Eight, placeIn, readyTickIn, wakeTickIn, finishTickIn};
 ghost use Rattle.machine.specs.Running.{RowsStand, readyAt, viewIn, finishesWork, NodeStands, Standing};
-ghost use Rattle.machine.specs.Chosen.{opOf, Inside, Noted, NodePut, RowPassed, IsFirst, NodeMoved, observesNow, Chosen};
+ghost use Rattle.machine.specs.Chosen.{opOf, Inside, Noted, NodePut, RowPassed, IsFirst, NodeMoved, observesNow, Chosen, ChosenUnseen};
 use model::layout;
 use model::op;
 use node::Node;
@@ -374,4 +374,34 @@ pub fn choose_node(
         out,
         written,
     )
+}
+
+// The same choice of node c, which stands at that op, where nobody reads what is observed: nothing is written. Whether it is allowed. (A second caller
+// of `choose_node` would cost a run a call at each choice.)
+pub fn move_node(
+    program: &[u8],
+    rows: &[u32],
+    passages: usize,
+    count: usize,
+    words: &mut [u64],
+    values: &mut [i16],
+    tick: u64,
+    c: usize,
+    op: u8,
+) -> bool
+    requires { ⌜ Standing (now program) (now rows) passages (now words) (now values) count × (c < count) × (op ≡ opOf (now program) (now words) (now values) c) ⌝ }
+    ensures { λ allowed. ⌜ ((H : ℕ) → ChosenUnseen (now (program .entry)) (now (rows .entry)) passages H count tick c (now (words .entry)) (now (values .entry)) allowed (now (words .exit)) (now (values .exit))) ⌝ }
+{
+    let since = registers::word(words, c, registers::WAKE_TICK);
+    if tick < since {
+        return false;
+    }
+    if op == op::SEND {
+        return send_message(program, rows, passages, words, values, count, c, tick);
+    }
+    if !may_finish(program, words, values, c, op, tick - since) {
+        return false;
+    }
+    finish_node(program, rows, passages, words, values, c, op, tick - since);
+    true
 }

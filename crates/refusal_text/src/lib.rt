@@ -115,7 +115,8 @@ fn put_question_on_listener(out: &mut [u8], at: usize, number: u8) -> usize
     }
 }
 
-// The questions about numbers handed in: a plan's, the spread, the offsets, a component and a tick. A number past them has none.
+// The questions about numbers handed in: a plan's, the spread, the offsets, a component and a tick, the seed, ticks of work and runs. A number past
+// them has none.
 fn put_question_on_numbers(out: &mut [u8], at: usize, number: u8) -> usize
     requires { ⌜ (at + 80 ≤ length (now out)) × (18 ≤ number) ⌝ }
     ensures { λ r. ⌜ Added (now (out .entry)) at (question number) (now (out .exit)) r × (r ≤ at + 80) ⌝ }
@@ -132,6 +133,12 @@ fn put_question_on_numbers(out: &mut [u8], at: usize, number: u8) -> usize
             out,
             at,
             b"Is the component there and the tick below the horizon?\n",
+        ),
+        22 => put(out, at, b"Is the seed at least 1?\n"),
+        23 => put(
+            out,
+            at,
+            b"Is lo at most hi, hi at most 60,000, and are the runs 1 to 10,000?\n",
         ),
         _ => put(out, at, b"Does a question have this number?\n"),
     }

@@ -11,7 +11,7 @@ use Rattle.model.specs.Run.{Setting, Run, startRun, Outcome, forbidden, on, ove
 use Rattle.model.proofs.Observations.Size.{all-long}
 use Rattle.model.proofs.Basics.Sums.{each-join}
 use Rattle.run.specs.declared.Ended.{Ended}
-use Rattle.run.specs.Ends.{Roomy, EndsAs}
+use Rattle.run.specs.Ends.{Roomy, mostUsed, Brief, EndsAs}
 
 -- ## How far the list has come
 
@@ -61,12 +61,17 @@ module _ (g : Setting) (cs : List ℕ) where
     unfolding runFrom
     ends-used h = whole ∙ ap (λ (xs : List ℕ). runFrom g xs s) (drop-of-length-le cs h)
 
+    so-far : run g (take used cs) ≡ ends s 1 255
+    unfolding runFrom run
+    so-far = ap (λ (xs : List ℕ). runFrom g xs (startRun g)) (sym (append-nil (take used cs))) ∙ at []
+
     -- the observations so far have room
     pub roomy-at : (room : ℕ) → Roomy g cs room → length (s .observations) * observationWidth ≤ room
-    unfolding runFrom run
-    roomy-at room R =
-        let e : run g (take used cs) ≡ ends s 1 255 = ap (λ (xs : List ℕ). runFrom g xs (startRun g)) (sym (append-nil (take used cs))) ∙ at [] in
-        subst (λ (r : Result). length (r .state .observations) * observationWidth ≤ room) e (R used)
+    roomy-at room R = subst (λ (r : Result). length (r .state .observations) * observationWidth ≤ room) so-far (R used)
+
+    -- the choices so far are not too many
+    pub brief-at : Brief g cs → s .used ≤ mostUsed
+    brief-at B = subst (λ (r : Result). r .state .used ≤ mostUsed) so-far (B used)
 
 -- ## The bytes of the observations
 

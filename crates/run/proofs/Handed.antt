@@ -19,12 +19,13 @@ use Rattle.model.specs.Run.{Counts, Setting, readyOfNth, settingAt, offsetIn, r
 use Rattle.model.proofs.Checks.Independence.{only-map}
 use Rattle.model.proofs.Reader.Located.{valid-read, valid-located}
 use Rattle.model.proofs.Run.Few.{few-apart}
+use Rattle.model.proofs.Run.CallsApart.{demanded-apart}
 use Rattle.model.proofs.Checks.Lower.{plan-lower}
 use Rattle.rows.specs.Rows.{rowsOf}
 use Rattle.translator.proofs.Standing.{valid-count}
 use Rattle.registers.specs.Words.{wakeTickIn}
 use Rattle.machine.specs.Running.{countsAt, settingIn}
-use Rattle.run.specs.Ends.{Roomy, EndsAs, Started, PlannedApart}
+use Rattle.run.specs.Ends.{Roomy, mostUsed, Brief, EndsAs, Started, PlannedApart}
 use Rattle.run.specs.declared.Ended.{Ended}
 
 -- what the rows keep of the passages has their readies
@@ -47,6 +48,12 @@ same-plan d e = ap passagesIn (sym d ∙ e)
 -- whatever the spread
 same-at : (t : Read) (G K : ℕ) {S U : List Passage} → acceptedScheduleAt G t ≡ accepted S → acceptedScheduleAt K t ≡ accepted U → S ≡ U
 same-at t G K {S} {U} d e = same-plan (plan-lower G 0 (omega arith) t S d) (plan-lower K 0 (omega arith) t U e)
+
+-- the front of a list is no longer than it is
+take-most : (k : ℕ) (xs : List ℕ) → length (take k xs) ≤ length xs
+take-most zero xs = omega arith
+take-most (suc k) [] = omega arith
+take-most (suc k) (x ∷ xs) = omega (arith, take-most k xs)
 
 abbrev settingWith : List ℕ → ℕ → List Counts → List ℕ → (ℕ → ℕ → Option ℕ) → Setting
 settingWith program H counts offsets ready = record { program = program; horizon = H; counts = counts; ready = ready; offsets = offsets }
@@ -75,7 +82,7 @@ module _ (table : List ℕ) (b : Bytes table) (valid : Valid table) {program row
       ∙ ap (settingWith (programBytes (readOf table)) (readOf table .horizon) _ _) ready-is)
 
   -- the setting is that of the table and its schedule
-  setting-is : (G : ℕ) (S : List Passage) → acceptedScheduleAt G (readOf table) ≡ accepted S
+  pub setting-is : (G : ℕ) (S : List Passage) → acceptedScheduleAt G (readOf table) ≡ accepted S
       → settingIn program H rows n l (byte table 3) ≡ settingAt (readOf table) (readOf table .horizon) S os
   setting-is G S e =
       planned-setting
@@ -86,6 +93,12 @@ module _ (table : List ℕ) (b : Bytes table) (valid : Valid table) {program row
   room-enough choices room r k =
       subst (λ (g : Setting). length (run g (take k choices) .state .observations) * observationWidth ≤ room) (sym planned-setting)
       (omega (arith, p .plan .count, few-apart (p .spread) table (readOf table) (p .plan .passages) (valid-read table valid) (p .plan .acceptedSchedule) os (p .permitted) (take k choices)))
+
+  -- no more are carried out than there are
+  pub brief-enough : (choices : List ℕ) → length choices ≤ mostUsed → Brief (settingIn program H rows n l (byte table 3)) choices
+  brief-enough choices short k =
+      let few = demanded-apart (p .spread) table os (take k choices) (readOf table) (p .plan .passages) (valid-read table valid) (p .plan .acceptedSchedule) (p .permitted) .used in
+      subst (λ (g : Setting). run g (take k choices) .state .used ≤ mostUsed) (sym planned-setting) (omega (arith, few, take-most k choices, short))
 
   -- so the run ends as that of the table and its schedule
   pub ends-so : {choices out out′ : List ℕ} {e : Ended} → EndsAs (settingIn program H rows n l (byte table 3)) choices out e out′

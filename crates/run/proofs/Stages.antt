@@ -23,11 +23,11 @@ use Rattle.machine.specs.declared.Moved.{Moved}
 use Rattle.machine.specs.Running.{settingIn, viewIn, NodeStands, Standing, Running}
 use Rattle.machine.specs.Chosen.{opOf, observesNow, Chosen}
 use Rattle.run.specs.declared.Ended.{Ended}
-use Rattle.run.specs.Ends.{Roomy, EndsAs, FirstLate}
+use Rattle.run.specs.Ends.{Roomy, mostUsed, Brief, EndsAs, FirstLate}
 use Rattle.node.proofs.Ops.{stand-op}
 use Rattle.run.proofs.Ticks.{due-said, late-none, late-some}
 use Rattle.run.proofs.Choices.{numbered-below, as-many, tick-choice, awake, sleep-ends, one-seen}
-use Rattle.run.proofs.Carried.{Reaches, reaches-first, reaches-next, ends-forbidden, ends-over, ends-used, roomy-at, Over, over-none, over-length, over-more, ends-as}
+use Rattle.run.proofs.Carried.{Reaches, reaches-first, reaches-next, ends-forbidden, ends-over, ends-used, roomy-at, brief-at, Over, over-none, over-length, over-more, ends-as}
 
 -- ## Registers that have not grown beyond a number have not grown beyond a greater one
 
@@ -110,18 +110,22 @@ module _ {program : List ℕ} {H : ℕ} {rows : List ℕ} {n count : ℕ} {l₀ 
   pub used-up : {e : Ended} → length choices ≤ k → Says e 1 255 now k w → EndsAs g choices out₀ e out
   used-up h x = ends-here x (ends-used g choices k s (St .reaches) h)
 
+  -- the choices so far are not too many
+  pub few-used : Brief g choices → k ≤ mostUsed
+  few-used B = omega (arith, St .used, brief-at g choices k s (St .reaches) B)
+
   -- the slices stand
-  pub standing : k ≤ 1000000 → Standing program rows n l v count
-  standing h =
+  pub standing : Brief g choices → Standing program rows n l v count
+  standing B =
       let R = St .running in
       record {
         most = R .most;
         listed = R .listed;
         eight = R .eight;
-        each = λ c x. stands-more program rows n l v c (s .used * 131070) 2000000000000000000 (omega (arith, St .used)) (R .each c x);
+        each = λ c x. stands-more program rows n l v c (s .used * 131070) 2000000000000000000 (omega (arith, St .used, few-used B)) (R .each c x);
       }
 
-  module _ (more : k < length choices) (short : length choices ≤ 1000000) where
+  module _ (more : k < length choices) (brief : Brief g choices) where
     -- the next choice
     abbrev b : ℕ
     b = getD choices k 0
@@ -135,7 +139,7 @@ module _ {program : List ℕ} {H : ℕ} {rows : List ℕ} {n count : ℕ} {l₀ 
       tick-by {d} e =
           tick-choice g s b is
           ∙ ap (λ (t : Bool). cond t forbidden (afterTick g (ticked s) (lateNodes g (suc (s .tick)) 0 (s .nodes))))
-          (due-said program H rows n l₀ l v count s (St .running) (St .same) (s .tick) (omega (arith, St .tick, St .early))
+          (due-said program H rows n l₀ l v count s (St .running) (St .same) (s .tick) (omega (arith, St .tick, St .early, few-used brief))
           ∙ subst (λ (t : ℕ). any (λ (c : ℕ). eqb (wordIn l c 26) t) (below count) ≡ d) (sym (St .tick)) e)
 
       -- somebody is due
@@ -158,12 +162,12 @@ module _ {program : List ℕ} {H : ℕ} {rows : List ℕ} {n count : ℕ} {l₀ 
         -- a node is late
         pub tick-late : {e : Ended} → r < count → Says e 2 r (now + 1) (k + 1) w → EndsAs g choices out₀ e out
         tick-late h x =
-            let m = late-some program H rows n l₀ l v count s (St .running) (St .same) (suc (s .tick)) (omega (arith, St .tick, St .early)) F′ h in
+            let m = late-some program H rows n l₀ l v count s (St .running) (St .same) (suc (s .tick)) (omega (arith, St .tick, St .early, few-used brief)) F′ h in
             ends-then x (tick-by d ∙ ap (afterTick g (ticked s)) (m .1))
 
         passes : count ≤ r → choose1 g s b ≡ cond (eqb (suc (s .tick)) H) (over (ticked s) 0 255) (on (ticked s))
         passes h =
-            tick-by d ∙ ap (afterTick g (ticked s)) (late-none program H rows n l₀ l v count s (St .running) (St .same) (suc (s .tick)) (omega (arith, St .tick, St .early)) F′ h)
+            tick-by d ∙ ap (afterTick g (ticked s)) (late-none program H rows n l₀ l v count s (St .running) (St .same) (suc (s .tick)) (omega (arith, St .tick, St .early, few-used brief)) F′ h)
 
         -- the horizon is reached
         pub tick-horizon : {e : Ended} → count ≤ r → now + 1 ≡ H → Says e 0 255 (now + 1) (k + 1) w → EndsAs g choices out₀ e out

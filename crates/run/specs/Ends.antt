@@ -22,6 +22,14 @@ use Rattle.run.specs.declared.Ended.{Ended}
 abbrev pub Roomy : Setting → List ℕ → ℕ → Type 0
 Roomy g choices room = (k : ℕ) → length (run g (take k choices) .state .observations) * observationWidth ≤ room
 
+-- so many choices are carried out at most
+abbrev pub mostUsed : ℕ
+mostUsed = 1000000
+
+-- however far the list is carried out, no more than that
+abbrev pub Brief : Setting → List ℕ → Type 0
+Brief g choices = (k : ℕ) → run g (take k choices) .state .used ≤ mostUsed
+
 -- the numbers of the end, and the bytes of the observations over the front of what was lent
 pub record EndsAs (g : Setting) (choices out : List ℕ) (e : Ended) (out′ : List ℕ) : Type 0 where
   pub end : e .end ≡ run g choices .end

@@ -14,7 +14,7 @@ ghost use Rattle.model.specs.Run.{settingAt, offsetIn, startRun, observationWid
 ghost use Rattle.table.specs.Directory.{startsOf};
 ghost use Rattle.registers.specs.Words.{Eight, dueIn};
 ghost use Rattle.machine.specs.Running.{RowsStand, settingIn, Running};
-ghost use Rattle.run.specs.Ends.{Roomy, EndsAs, FirstLate, Calm, Ticks, WordsPut, NodeStarted, Started, PlannedApart};
+ghost use Rattle.run.specs.Ends.{Roomy, Brief, EndsAs, FirstLate, Calm, Ticks, WordsPut, NodeStarted, Started, PlannedApart};
 
 // The tick that stands in a node's first observation.
 const NO_WORK: u64 = 4294967295;
@@ -29,7 +29,7 @@ pub struct Ended {
 }
 
 // Whether a sleep or a listen is due.
-fn some_due(words: &[u64], count: usize, tick: u64) -> bool
+pub fn some_due(words: &[u64], count: usize, tick: u64) -> bool
     requires { ⌜ (256 ≤ length (now words)) × (count ≤ 8) ⌝ }
     ensures { λ r. ⌜ r ≡ any (λ c. eqb (dueIn (now (words .entry)) c) tick) (below count) ⌝ }
 {
@@ -44,7 +44,7 @@ fn some_due(words: &[u64], count: usize, tick: u64) -> bool
 }
 
 // The lowest node that is late at that tick, the number of nodes where none is.
-fn first_late(words: &[u64], count: usize, tick: u64) -> usize
+pub fn first_late(words: &[u64], count: usize, tick: u64) -> usize
     requires { ⌜ (256 ≤ length (now words)) × (count ≤ 8) ⌝ }
     ensures { λ r. ⌜ FirstLate (now (words .entry)) count tick r ⌝ }
 {
@@ -58,14 +58,14 @@ fn first_late(words: &[u64], count: usize, tick: u64) -> usize
     count
 }
 
-fn lesser(first: u64, second: u64) -> u64
+pub fn lesser(first: u64, second: u64) -> u64
     ensures { λ r. ⌜ (r ≤ first) × (r ≤ second) × ((m : ℕ) → m ≤ first → m ≤ second → m ≤ r) ⌝ }
 {
     if first < second { first } else { second }
 }
 
 // A tick before the horizon up to which no node is due and none is late.
-fn calm_until(words: &[u64], count: usize, horizon: u64) -> u64
+pub fn calm_until(words: &[u64], count: usize, horizon: u64) -> u64
     requires { ⌜ (256 ≤ length (now words)) × (count ≤ 8) ⌝ }
     ensures { λ calm. ⌜ Calm (now (words .entry)) count horizon calm ⌝ }
 {
@@ -156,7 +156,7 @@ fn carry_out(
     values: &mut [i16],
     out: &mut [u8],
 ) -> Ended
-    requires { ⌜ Running (now program) (now rows) passages (now words) (now values) count (startRun (settingIn (now program) horizon (now rows) passages (now words) count)) × (length (now choices) ≤ 1000000) × Roomy (settingIn (now program) horizon (now rows) passages (now words) count) (now choices) (length (now out)) ⌝ }
+    requires { ⌜ Running (now program) (now rows) passages (now words) (now values) count (startRun (settingIn (now program) horizon (now rows) passages (now words) count)) × Brief (settingIn (now program) horizon (now rows) passages (now words) count) (now choices) × Roomy (settingIn (now program) horizon (now rows) passages (now words) count) (now choices) (length (now out)) ⌝ }
     ensures { λ e. ⌜ EndsAs (settingIn (now (program .entry)) horizon (now (rows .entry)) passages (now (words .entry)) count) (now (choices .entry)) (now (out .entry)) e (now (out .exit)) ⌝ }
 {
     let mut tick: u64 = 0;
@@ -271,7 +271,7 @@ fn offset_of(offsets: &[u32], c: usize) -> u32
 }
 
 // All nodes at their programs' start.
-fn start(
+pub fn start(
     table: &[u8],
     starts: [u16; 8],
     program: &[u8],

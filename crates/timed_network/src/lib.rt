@@ -2,6 +2,7 @@
 // name in a crate below, with the answer written out as numbers.
 pub mod edge_reasons;
 pub mod places;
+pub mod simulated;
 pub mod spread;
 
 ghost use mathlib.Core.Path.{_≡_};

@@ -10,10 +10,9 @@ use Rattle.model.specs.declared.Verdict.{Verdict}
 use Rattle.model.specs.declared.Verdict.the-variants.{Accepted, Refused}
 use Rattle.model.specs.Lists.{Answer, accepted, refused}
 use Rattle.model.specs.Table.{Read}
-use Rattle.model.specs.Reader.{byte, versionFine, lengthFine, countFine, bandsFine, readTable}
+use Rattle.model.specs.Reader.{byte, readTable}
 use Rattle.model.specs.Calls.{spreadFine, runReadAt, runCallAt}
-use Rattle.model.proofs.Reader.Parts.{cond-accepted}
-use Rattle.model.proofs.Basics.Bools.{and-is, tests}
+use Rattle.node_count.proofs.Few.{read-few}
 use Rattle.refusal_text.specs.RefusalText.{refusalText}
 use Rattle.run_text.specs.RunText.{endText, countsText, offsetsText, firstLine, observationLines, runText, ranTextAt, runTextAt}
 use Rattle.run_text.proofs.Together.{text-together}
@@ -40,16 +39,6 @@ module _ (G : ℕ) (table offsets choices lent : List ℕ) where
   text-none e g o = e ∙ ap₂ (λ (K : ℕ) (os : List ℕ). runTextAt K table os choices lent) g o ∙ text-together table choices lent
 
 -- ## A table that is run has at most 8 nodes
-
-read-few : (table : List ℕ) (t : Read) → readTable table ≡ accepted t → byte table 3 ≤ 8
-unfolding readTable
-read-few table t e =
-    let first = cond-accepted (versionFine table) _ 1 255 e in
-    let second = cond-accepted (lengthFine table) _ 2 255 (first .1) in
-    let third = cond-accepted (countFine table && bandsFine table) _ 3 255 (second .1) in
-    let both = and-is (countFine table) (bandsFine table) .0 (third .0) in
-    let numbers = simp tests at (both .0) in
-    omega arith
 
 pub few-nodes : (G : ℕ) (table offsets choices lent : List ℕ) → runCallAt G table offsets choices lent .verdict ≡ Accepted → byte table 3 ≤ 8
 unfolding runCallAt

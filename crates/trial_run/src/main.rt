@@ -11,7 +11,6 @@ ghost use mathlib.Core.List.{[], _++_};
 ghost use Prim.Native.Nat.{_*_, _≤_};
 ghost use lib.ListN.{length, take};
 ghost use Rattle.io.specs.Counts.{Counts};
-ghost use Rattle.model.specs.Reader.{byte};
 ghost use Rattle.model.specs.Run.{observationWidth};
 ghost use Rattle.text.specs.Words.{Added};
 ghost use Rattle.run_text.specs.RunText.{endText, countsText, offsetsText, firstLine, observationLines, runText, runTextAt};
@@ -20,6 +19,7 @@ use libc::STDERR_FILENO;
 use libc::STDOUT_FILENO;
 use model::Verdict;
 use model::layout;
+use node_count::nodes_of;
 use offset_list::Listed;
 use text::Number;
 
@@ -39,16 +39,6 @@ fn open_argument(i: usize) -> i32 {
         os::fail(&path[..n]);
     }
     fd
-}
-
-// How many nodes the table has, of any bytes.
-fn nodes_of(table: &[u8]) -> usize
-    ensures { λ r. ⌜ r ≡ byte (now (table .entry)) 3 ⌝ }
-{
-    if table.len() <= layout::TABLE_COMPONENTS {
-        return 0;
-    }
-    text::wide(table[layout::TABLE_COMPONENTS]) as usize
 }
 
 // The end in words, the tick, the choices used, the offsets where one is above 0, and the observations as a table.

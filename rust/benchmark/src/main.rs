@@ -11,6 +11,7 @@ mod processor;
 mod reasons;
 mod refused;
 mod report;
+mod simulation;
 mod tables;
 
 use clock::{in_turns, Effort};
@@ -82,6 +83,7 @@ fn measure(effort: Effort) -> Result<(), String> {
     }
     time_plan(effort)?;
     reasons::time(effort)?;
+    simulation::time(effort)?;
     refused::time(effort)
 }
 
@@ -218,7 +220,7 @@ fn time_run(effort: Effort, row: &Row, choices: &[u8], each: &str) {
 
 #[cfg(test)]
 mod tests {
-    use super::{apart, demand_agreement, reasons, refused, tables};
+    use super::{apart, demand_agreement, reasons, refused, simulation, tables};
 
     #[test]
     fn all_sides_agree_on_every_row() {
@@ -234,6 +236,10 @@ mod tests {
         }
         for (name, table, component) in &reasons::asked() {
             let agreed = reasons::demand_agreement(name, table, *component);
+            assert_eq!(agreed, Ok(()));
+        }
+        for (name, table, experiment) in &simulation::tried() {
+            let agreed = simulation::demand_agreement(name, table, experiment);
             assert_eq!(agreed, Ok(()));
         }
         for (number, table) in refused::read().iter().chain(&refused::opened()) {

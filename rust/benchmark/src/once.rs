@@ -3,7 +3,7 @@
 
 use crate::apart::{self, OFFSETS, SPREAD};
 use crate::tables::{apart_rows, rows, slow_rows, Row};
-use crate::{choices_to_the_horizon, last_node, reasons, refused, PLAN};
+use crate::{choices_to_the_horizon, last_node, reasons, refused, simulation, PLAN};
 use comparison::runs::AMPLE;
 use reference::table::write_table;
 use std::hint::black_box;
@@ -38,6 +38,7 @@ fn all() -> Result<(), String> {
     let mut table = [0; MAX_PLAN];
     tell("a plan of seven probes", "plan", || plan(PLAN, &mut table));
     tell_reasons();
+    tell_simulations();
     tell_refused();
     Ok(())
 }
@@ -120,6 +121,16 @@ fn tell_reasons() {
     }
 }
 
+/// Simulated runs.
+fn tell_simulations() {
+    for (name, table, experiment) in simulation::tried() {
+        let bytes = write_table(&table);
+        let work = [experiment.lo, experiment.hi];
+        let simulate = || simulate_numbers(&bytes, work, experiment.runs, experiment.seed);
+        tell(name, "simulate", simulate);
+    }
+}
+
 /// A run has to come to the horizon, or another one is counted than the row's.
 fn demand_end(name: &str, answer: RunNumbers) -> Result<(), String> {
     if (answer.number, answer.end) == (0, 0) {
@@ -163,6 +174,9 @@ fn tell_early(name: &str, table: &[u8]) {
     })
     .ok();
     tell(name, "reasons", || reasons_into(table, 0, 0, &mut []));
+    tell(name, "simulate", || {
+        simulate_numbers(table, [0, 1], 1, None)
+    });
     tell(name, "refusal_place", || refusal_place(table));
     tell(name, "refused_opening", || refused_opening(table));
 }

@@ -2,9 +2,12 @@
 //! a thread answers all calls, so that what a call leaves in its buffers is
 //! there when the next one is made.
 
-use crate::readers::{refused, second_edge_choice, OpeningNumbers, PlaceNumbers, Reader};
+use crate::readers::{
+    refused, refused_simulation, second_edge_choice, OpeningNumbers, PlaceNumbers, Reader,
+};
+use crate::simulations::Experiment;
 use std::cell::RefCell;
-use timed_network::{Call, Meetings, RunNumbers, Slots, Told, Verdict, NO_NODE};
+use timed_network::{Call, Meetings, RunNumbers, SimulationNumbers, Slots, Told, Verdict, NO_NODE};
 use yardstick::{Place, Refusal, RefusedOpening, Run, Yardstick};
 
 thread_local! {
@@ -28,6 +31,7 @@ pub(crate) const READER: Reader = Reader {
     reasons,
     part,
     run,
+    simulate,
     meetings,
     check_spread,
     largest_spread,
@@ -102,6 +106,24 @@ fn run(table: &[u8], choices: &[u8], observations: &mut [u8]) -> RunNumbers {
     run_numbers(with(|yardstick| {
         yardstick.run(table, choices, observations)
     }))
+}
+
+fn simulate(table: &[u8], experiment: &Experiment) -> SimulationNumbers {
+    let Experiment { lo, hi, runs, seed } = *experiment;
+    let answer = with(|yardstick| match seed {
+        None => yardstick.simulate(table, lo, hi, runs),
+        Some(seed) => yardstick.simulate_from(table, lo, hi, runs, seed),
+    });
+    match answer {
+        Ok(counts) => SimulationNumbers {
+            number: 0,
+            component: 255,
+            late: counts.late,
+            nodes: counts.nodes,
+            state: counts.state,
+        },
+        Err(refusal) => refused_simulation(refusal.number, refusal.component),
+    }
 }
 
 fn run_apart(

@@ -6,7 +6,8 @@
 //! the entries of schedules and at others both are asked for the edge that is
 //! taken, and at ticks of accepted tables why it is. Of each table both are asked where it is refused by checks 4 to 9. At
 //! spreads both are asked for verdicts and for the windows that met, and run nodes
-//! that wake apart. Of accepted tables random paths of the network within the
+//! that wake apart. Both count simulated runs, each of which is handed on as a list of
+//! choices. Of accepted tables random paths of the network within the
 //! schedule are drawn, and found again in runs. The first difference ends the
 //! comparison. Each run is also held to demand 3, with the finish ticks in its
 //! observations.
@@ -31,6 +32,7 @@ pub mod readers;
 pub mod reasons;
 pub mod requests;
 pub mod runs;
+pub mod simulations;
 pub mod spreads;
 pub mod stored;
 pub mod tables;
@@ -112,6 +114,8 @@ pub struct Least {
     pub of_each_path: u64,
     /// Finish ticks of each kind, in runs and in runs of nodes that wake apart.
     pub of_each_finish: u64,
+    /// Simulations and simulated runs of each kind.
+    pub of_each_simulation: u64,
 }
 
 /// What the comparison should have tried and did not: a class without cases,
@@ -119,8 +123,8 @@ pub struct Least {
 /// too rarely, lists or bytes that never came back in one of the ways, a kind of
 /// edge choice or a reason of an edge that never came, parts never found or never missed, a kind of run
 /// that is too rare, an answer at a spread or a kind of run of nodes that wake
-/// apart that is, a way in which checks 4 to 9 stop that is, a kind of path or of finish
-/// tick that is, fewer cases or runs in all than demanded.
+/// apart that is, a way in which checks 4 to 9 stop that is, a kind of path, of finish
+/// tick or of simulation that is, fewer cases or runs in all than demanded.
 pub fn gaps(tallies: &[Tally], least: &Least) -> Vec<String> {
     let empty = tallies.iter().filter(|tally| tally.is_empty());
     let mut gaps: Vec<String> = empty
@@ -148,6 +152,7 @@ pub fn gaps(tallies: &[Tally], least: &Least) -> Vec<String> {
     for (runs, tally) in [("runs", &sum.runs), ("runs apart", &sum.apart.runs)] {
         gaps.extend(noted::gaps(runs, &tally.noted, least.of_each_finish));
     }
+    gaps.extend(sum.simulated.gaps(least.of_each_simulation));
     let (cases, runs) = (sum.cases(), sum.runs.ran());
     for (count, least, what) in [(cases, least.cases, "cases"), (runs, least.runs, "runs")] {
         if count < least {

@@ -3,6 +3,7 @@
 mod apart;
 mod places;
 mod reasons;
+mod simulations;
 
 pub use apart::{
     second_check_spread, second_largest_spread, second_meetings, second_meetings_spread,
@@ -11,14 +12,17 @@ pub use apart::{
 use places::{library_opening, library_place};
 pub use places::{second_opening, second_place, OpeningNumbers, PlaceNumbers, NONE};
 pub use reasons::second_reasons;
+use simulations::library_simulate;
+pub use simulations::{refused_simulation, second_simulate};
 
 use crate::fast;
+use crate::simulations::Experiment;
 use reference::run::Outcome;
 use reference::table::Refusal;
 use reference::{calls, edge_choice, plan};
 use timed_network::{
-    Call, EdgeChoice, Entry, Meetings, RunNumbers, Slots, TakenEdge, Told, Verdict, FIELDS,
-    NO_MESSAGE, NO_NODE,
+    Call, EdgeChoice, Entry, Meetings, RunNumbers, SimulationNumbers, Slots, TakenEdge, Told,
+    Verdict, FIELDS, NO_MESSAGE, NO_NODE,
 };
 
 /// The numbers that `check` answers: 0 where it accepts, then those of the
@@ -38,6 +42,10 @@ pub const TOO_LATE: u8 = 20;
 /// The refusal of a question about a component that there is not, or about a tick from
 /// the horizon on.
 pub const NO_QUESTION: u8 = 21;
+/// The refusal of a simulation whose seed is 0.
+pub const NO_SEED: u8 = 22;
+/// The refusal of a simulation whose work times or runs are out of range.
+pub const NO_SIMULATION: u8 = 23;
 
 /// A call that finds one node's part of a program.
 pub type Part = for<'a> fn(&'a [u8], u8) -> &'a [u8];
@@ -60,6 +68,8 @@ pub type ListsMet = fn(&[u8], u32, &mut [u32]) -> Meetings;
 pub type Locates = fn(&[u8]) -> Option<PlaceNumbers>;
 /// A call that tells where checks 7 to 9 stop.
 pub type LocatesOpening = fn(&[u8]) -> Option<OpeningNumbers>;
+/// A call that counts late runs with drawn work times.
+pub type Simulates = fn(&[u8], &Experiment) -> SimulationNumbers;
 /// A call that runs a table under choices, at a spread, with offsets.
 pub type RunApart = fn(&[u8], &[u8], u32, &[u32], &mut [u8]) -> RunNumbers;
 
@@ -84,6 +94,8 @@ pub struct Reader {
     pub part: Part,
     /// What it says of a table's run under choices, and writes.
     pub run: Run,
+    /// What it says of simulated runs.
+    pub simulate: Simulates,
     /// Which windows it says have met.
     pub meetings: fn(&[u8], &mut [u32]) -> Meetings,
     /// What it says of a table at a spread.
@@ -124,6 +136,7 @@ impl Readers {
             reasons: timed_network::reasons_into,
             part: timed_network::part,
             run: timed_network::run_numbers,
+            simulate: library_simulate,
             meetings: timed_network::meetings,
             check_spread: timed_network::check_spread,
             largest_spread: |table| timed_network::largest_spread(table).map_err(Verdict::from),
@@ -158,6 +171,7 @@ impl Reader {
             reasons: second_reasons,
             part: second_part,
             run: second_run,
+            simulate: second_simulate,
             meetings: second_meetings,
             check_spread: second_check_spread,
             largest_spread: second_largest_spread,

@@ -1,10 +1,12 @@
-//! The programs, parts, charts, plans, edge choices, reasons, verdicts at a spread, runs
-//! and places of refusals that the vectors keep, with their answers.
+//! The programs, parts, charts, plans, edge choices, reasons, verdicts at a spread, runs,
+//! simulated ones and places of refusals that the vectors keep, with their answers.
 
 mod apart;
+mod simulated;
 mod why;
 
 pub use apart::Apart;
+pub use simulated::Simulated;
 pub use why::Why;
 
 use crate::bytes::unhex;
@@ -68,6 +70,8 @@ pub enum Request {
         /// The observations, each as far as it is stored.
         observations: Vec<Vec<u8>>,
     },
+    /// Simulated runs of a table.
+    Simulated(Simulated),
     /// The verdict on a table at a spread.
     Spread {
         /// The table.
@@ -144,6 +148,7 @@ fn request(line: &str) -> Option<Option<Request>> {
         (["plan", numbers @ ..], _) => plan(numbers, answer)?,
         (["looked", table], _) => looked(table, answer)?,
         (["why", ..] | ["lent", _, "why", ..], _) => Request::Why(why::read(&words, answer)?),
+        (["sim", ..], _) => Request::Simulated(simulated::read(&words, answer)?),
         (["place", table], _) => Request::Place {
             table: unhex(table)?,
             answer: located(answer)?,

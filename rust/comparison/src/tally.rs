@@ -7,6 +7,7 @@ use crate::reasons::Asked;
 use crate::runs::apart::RunsApart;
 use crate::runs::paths::Paths;
 use crate::runs::Runs;
+use crate::simulations::Simulated;
 use crate::spreads::Spreads;
 use std::fmt;
 use timed_network::Verdict;
@@ -37,6 +38,8 @@ pub struct Tally {
     pub parts: [u64; 2],
     /// The runs.
     pub runs: Runs,
+    /// The simulated runs.
+    pub simulated: Simulated,
     /// Verdicts at a spread, and what belongs to them.
     pub spreads: Spreads,
     /// The runs of nodes that wake apart.
@@ -163,6 +166,7 @@ impl Tally {
             asked: Asked::default(),
             parts: [0; 2],
             runs: Runs::default(),
+            simulated: Simulated::default(),
             spreads: Spreads::default(),
             apart: RunsApart::default(),
             places: Places::default(),
@@ -178,7 +182,7 @@ impl Tally {
     /// Whether nothing was tried.
     pub fn is_empty(&self) -> bool {
         let lent = self.charts.all() + self.plans.all();
-        let runs = self.runs.all() + self.apart.all();
+        let runs = self.runs.all() + self.simulated.all() + self.apart.all();
         let others = self.parts.iter().sum::<u64>() + self.spreads.all() + self.paths.all();
         self.cases() + lent + runs + others == 0
     }
@@ -217,6 +221,7 @@ impl Tally {
                 *all += own;
             }
             sum.runs.add(&tally.runs);
+            sum.simulated.add(&tally.simulated);
             sum.spreads.add(&tally.spreads);
             sum.apart.add(&tally.apart);
             sum.places.add(&tally.places);
@@ -227,8 +232,8 @@ impl Tally {
 }
 
 /// What was tried: the answers that were given, each with how often, then
-/// lists, programs, charts, plans, edge choices, questions, parts, runs, what there is of
-/// nodes that wake apart, where the tables were refused, and paths.
+/// lists, programs, charts, plans, edge choices, questions, parts, runs, simulated ones,
+/// what there is of nodes that wake apart, where the tables were refused, and paths.
 impl fmt::Display for Tally {
     fn fmt(&self, out: &mut fmt::Formatter<'_>) -> fmt::Result {
         let [accepted, refusals @ ..] = &self.answers;
@@ -265,6 +270,9 @@ impl fmt::Display for Tally {
         }
         if self.runs.all() > 0 {
             write!(out, "; {}", self.runs)?;
+        }
+        if self.simulated.all() > 0 {
+            write!(out, "; {}", self.simulated)?;
         }
         if self.spreads.all() > 0 {
             write!(out, "; {}", self.spreads)?;

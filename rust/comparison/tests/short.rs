@@ -18,6 +18,7 @@ const LEAST: Least = Least {
     of_each_place: 1,
     of_each_path: 1,
     of_each_finish: 1,
+    of_each_simulation: 1,
 };
 
 fn short(readers: &Readers, seed: u64) -> Result<Vec<Tally>, Stop> {

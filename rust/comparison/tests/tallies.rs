@@ -5,14 +5,15 @@ use comparison::reasons::Asked;
 use comparison::runs::apart::RunsApart;
 use comparison::runs::paths::Paths;
 use comparison::runs::Runs;
+use comparison::simulations::Simulated;
 use comparison::spreads::Spreads;
 use comparison::tally::{EdgeChoices, Lists, Tally};
 use comparison::{cases, gaps, Least};
 use demand::finishes::Noted;
 
 /// A class with these answers, and lists, programs, charts, plans, edge choices,
-/// questions, parts and runs of all kinds, also of nodes that wake apart, and refusals at all
-/// places.
+/// questions, parts, runs and simulations of all kinds, also of nodes that wake apart, and
+/// refusals at all places.
 fn tally(class: &'static str, answers: [u64; 16]) -> Tally {
     let lists = Lists {
         written: 3,
@@ -42,10 +43,28 @@ fn tally(class: &'static str, answers: [u64; 16]) -> Tally {
         },
         parts: [5, 4],
         runs: all_kinds(),
+        simulated: all_simulated(),
         spreads: all_spreads(),
         apart: all_apart(),
         places: all_places(),
         paths: all_paths(),
+    }
+}
+
+/// A simulation of each kind.
+fn all_simulated() -> Simulated {
+    Simulated {
+        in_time: 6,
+        sometimes_late: 5,
+        always_late: 4,
+        several_nodes: 3,
+        undrawn: 2,
+        seedless: 1,
+        out_of_range: 2,
+        refused: 3,
+        runs: 90,
+        handed: 80,
+        handed_late: 30,
     }
 }
 
@@ -144,6 +163,7 @@ fn least(cases: u64, runs: u64) -> Least {
         of_each_place: 1,
         of_each_path: 1,
         of_each_finish: 1,
+        of_each_simulation: 1,
     }
 }
 
@@ -170,6 +190,7 @@ fn what_was_not_tried_is_told() {
     let bare = Tally {
         answers: FULL,
         runs: all_kinds(),
+        simulated: all_simulated(),
         spreads: all_spreads(),
         apart: all_apart(),
         places: all_places(),
@@ -224,9 +245,26 @@ fn what_was_not_tried_is_told() {
     assert_eq!(gaps(&[nowhere], &least(0, 0)).len(), 25 + 52 + 2 + 12 + 3);
     let no_paths = Tally {
         paths: Paths::default(),
-        ..full
+        ..full.clone()
     };
     assert_eq!(gaps(&[no_paths], &least(0, 0)).len(), 7);
+    let unsimulated = Tally {
+        simulated: Simulated::default(),
+        ..full
+    };
+    let told = [
+        "0 simulations without a late run are fewer than 1",
+        "0 simulations with some late runs are fewer than 1",
+        "0 simulations with late runs alone are fewer than 1",
+        "0 simulations with several late nodes are fewer than 1",
+        "0 simulations in which nothing was drawn are fewer than 1",
+        "0 simulations refused with 22 are fewer than 1",
+        "0 simulations refused with 23 are fewer than 1",
+        "0 simulations of refused tables are fewer than 1",
+        "0 simulated runs in time are fewer than 1",
+        "0 simulated runs that were late are fewer than 1",
+    ];
+    assert_eq!(gaps(&[unsimulated], &least(0, 0)), told);
 }
 
 #[test]
@@ -250,6 +288,9 @@ fn a_line_tells_all_answers_that_were_given() {
                 finish ticks: 10 none yet, 4 done at ready, 3 done between, 2 done at the end, \
                 3 sent at ready, 2 sent between, 1 sent at the end, 6 taken, 5 timed out, \
                 1 of work spread over ticks; \
+                21 simulations: in time 6, some late 5, all late 4 (3 of several nodes), \
+                refused 22: 1, refused 23: 2, table refused 3, nothing drawn 2; \
+                90 simulated runs, 80 of them handed on as choices, 30 late; \
                 17 verdicts at a spread: accepted 1, refused 1: 1, refused 2: 1, refused 3: 1, \
                 refused 4: 1, refused 5: 1, refused 6: 1, refused 7: 1, refused 8: 1, \
                 refused 9: 1, refused 10: 1, refused 11: 1, refused 12: 1, refused 15: 1, \

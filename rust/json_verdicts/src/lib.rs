@@ -3,6 +3,8 @@
 #![forbid(unsafe_code)]
 
 pub mod json;
+pub mod refusals;
 pub mod run;
+pub mod simulate;
 pub mod stop;
 pub mod why;

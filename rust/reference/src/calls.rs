@@ -1,5 +1,4 @@
-//! The exported calls over lent buffers, with checks 13, 14, 18, 20
-//! and 21.
+//! The exported calls over lent buffers, with checks 13, 14, 18 and 20 to 23.
 //!
 //! "Lent buffers keep their bytes; on success so do those past the result."
 
@@ -13,6 +12,7 @@ use crate::program::{self, program_length, write_program};
 use crate::reasons;
 use crate::run::{run_apart_into, Outcome, OBSERVATION};
 use crate::schedule::{schedule_or_fault, Passage};
+use crate::simulation::{self, Simulation, WorkTimes};
 use crate::table::{read_table, write_table, Refusal, Table};
 
 /// "14. Are there at most 1,000,000 choices? Else 14."
@@ -164,6 +164,19 @@ pub fn reasons_of(
         passage: reasons.passage,
         size: reasons.edges.len(),
     })
+}
+
+/// Simulated runs of a table: "the generator starts from its fixed seed 2463534242
+/// unless one is given". "After the table's checks, seed 0 is refused with 22, and lo
+/// above hi, hi above 60,000 or runs outside 1 to 10,000 with 23."
+pub fn simulate(
+    table: &[u8],
+    work: WorkTimes,
+    runs: u32,
+    seed: Option<u32>,
+) -> Result<Simulation, Refusal> {
+    let (table, passages) = verdict(table)?;
+    simulation::simulate(&table, &passages, work, runs, seed)
 }
 
 /// "The part of the program bytes that belongs to one node can be had by its

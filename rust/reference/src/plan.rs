@@ -50,12 +50,11 @@ pub fn plan(slots: &Slots) -> Result<Table, Refusal> {
 /// "Refusal 18 is given for a number outside its range or n × (s + 2 × g) ≥ p
 /// [...] and for nothing else."
 fn can_be_planned(slots: &Slots) -> bool {
-    let all: u64 = u64::from(slots.probes) * (u64::from(slots.slot) + 2 * u64::from(slots.guard));
     PROBES.contains(&slots.probes)
         && TICKS.contains(&slots.slot)
         && TICKS.contains(&slots.guard)
         && slots.period <= MAX_PERIOD
-        && all < u64::from(slots.period)
+        && slots.probes * (slots.slot + 2 * slots.guard) < slots.period
 }
 
 /// The slots of its own: a probe's one, or all of them, which are the hub's:

@@ -13,8 +13,9 @@
 //! [`part`] finds one node's part in it, [`run`] carries out choices and writes
 //! observations, which an [`Observation`] reads. For nodes
 //! that wake apart there are [`check_spread`], [`largest_spread`],
-//! [`meetings_spread`] and [`run_apart`]. [`node`] has one node whose registers
-//! the caller lends. The declarations of the library stand in five private
+//! [`meetings_spread`] and [`run_apart`]. [`simulate`] counts the late ones of runs
+//! whose work times are drawn. [`node`] has one node whose registers
+//! the caller lends. The declarations of the library stand in six private
 //! modules; each call gets its safe form.
 //!
 //! Every slice may be lent: an empty one, one of any length (a slice never
@@ -32,6 +33,7 @@ mod places;
 mod reasons;
 mod refusal;
 mod running;
+mod simulation;
 mod spread;
 
 pub use exported::{Entry, Passage, RunNumbers};
@@ -41,6 +43,9 @@ pub use reasons::{reasons, reasons_into, Reason, Reasons, Told, REASON, REASONS_
 pub use refusal::{Refusal, Refused, UnknownNumber, Verdict, NO_COMPONENT};
 pub use running::{
     part, program, run, run_numbers, translate, End, Run, MAX_CHOICES, MAX_PROGRAM, NO_NODE, TICK,
+};
+pub use simulation::{
+    simulate, simulate_numbers, Simulation, SimulationNumbers, MAX_RUNS, MAX_WORK, SEED,
 };
 pub use spread::{
     check_spread, largest_spread, meetings_spread, run_apart, run_apart_numbers, MAX_SPREAD,

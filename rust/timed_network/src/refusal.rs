@@ -8,7 +8,7 @@ use std::fmt;
 pub const NO_COMPONENT: u8 = 255;
 
 /// Why a table or a call is refused: the question that is answered with no, by
-/// the numbers of document 01; 15 to 21 are those of document 02. Displayed as
+/// the numbers of document 01; 15 to 23 are those of document 02. Displayed as
 /// that question, in the words of the proved text (`crates/refusal_text`).
 ///
 /// ```
@@ -69,10 +69,14 @@ pub enum Refusal {
     /// 21: a component that is asked about is absent, or a tick is not below the
     /// horizon.
     Question = 21,
+    /// 22: the seed of a simulation is 0.
+    Seed = 22,
+    /// 23: the work times or the runs of a simulation are out of range.
+    Simulation = 23,
 }
 
 /// The question of each refusal, in the order of their numbers.
-const QUESTIONS: [&str; 21] = [
+const QUESTIONS: [&str; 23] = [
     "Is the first byte 1, 2 or 3?",
     "Is the stated length the length handed in, from 7 to 8,192?",
     "Are components, channels, horizon and bands in range?",
@@ -94,11 +98,13 @@ const QUESTIONS: [&str; 21] = [
     "Is the spread at most 1,000 ticks?",
     "Is no offset above the spread?",
     "Is the component there and the tick below the horizon?",
+    "Is the seed at least 1?",
+    "Is lo at most hi, hi at most 60,000, and are the runs 1 to 10,000?",
 ];
 
 impl Refusal {
     /// All refusals, in the order of their numbers, which start with 1.
-    pub const ALL: [Refusal; 21] = [
+    pub const ALL: [Refusal; 23] = [
         Refusal::Version,
         Refusal::Length,
         Refusal::Header,
@@ -120,9 +126,11 @@ impl Refusal {
         Refusal::Spread,
         Refusal::Offset,
         Refusal::Question,
+        Refusal::Seed,
+        Refusal::Simulation,
     ];
 
-    /// Its number, 1 to 21.
+    /// Its number, 1 to 23.
     pub fn number(self) -> u8 {
         self as u8
     }

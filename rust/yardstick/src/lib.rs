@@ -11,8 +11,9 @@
 //! in one sweep, `meetings` notes on the way which windows meet, `spread` looks at
 //! all of them again where nodes wake apart. `translate` writes programs, `part`
 //! finds one node's part, `run` carries out choices, `chart` draws the schedule,
-//! `plan` writes the table of a plan, `reasons` tells why an edge is taken. `place` and
-//! `refused` tell where a table is refused.
+//! `plan` writes the table of a plan, `reasons` tells why an edge is taken, `simulation`
+//! counts late runs with drawn work times. `place` and `refused` tell where a table is
+//! refused.
 #![forbid(unsafe_code)]
 #![warn(missing_docs)]
 
@@ -27,6 +28,7 @@ mod reasons;
 mod refused;
 mod run;
 mod schedule;
+mod simulation;
 mod spread;
 mod table;
 mod translate;
@@ -36,6 +38,7 @@ pub use place::Place;
 pub use plan::plan;
 pub use reasons::{Told, REASON};
 pub use refused::RefusedOpening;
+pub use simulation::{Simulation, MAX_RUNS, MAX_WORK, SEED};
 
 use run::Machine;
 use schedule::Schedule;
@@ -62,7 +65,7 @@ pub const MAX_SPREAD: u32 = 1000;
 #[derive(Clone, Copy, Debug, PartialEq, Eq)]
 pub struct Refusal {
     /// The number of the check that is not passed: 1 to 12 or 15
-    /// to 17, 13, 14, or 18 to 21.
+    /// to 17, 13, 14, or 18 to 23.
     pub number: u8,
     /// The component concerned, or [`NONE`].
     pub component: u8,

@@ -37,6 +37,18 @@ slice-aggregate-put-5 c = search needs
 put-requires-5 : tie.Need-put-requires-5
 put-requires-5 c κs = search needs
 
+slice-aggregate-put-6 : tie.Need-slice-aggregate-put-6
+slice-aggregate-put-6 c = search needs
+
+put-requires-6 : tie.Need-put-requires-6
+put-requires-6 c κs = search needs
+
+slice-aggregate-put-7 : tie.Need-slice-aggregate-put-7
+slice-aggregate-put-7 c = search needs
+
+put-requires-7 : tie.Need-put-requires-7
+put-requires-7 c κs = search needs
+
 same-length : tie.Need-same-length
 same-length c = search needs
 
@@ -77,8 +89,26 @@ same-length-5 : tie.Need-same-length-5
 same-length-5 c = search needs
 
 returns-5 : tie.Need-returns-5
+unfolding question
 returns-5 c =
     let p = c .before .before .put5 in
+    (asked (c .before .before .before .before .before .before .before .args .number) 22 (c .before .before .before .before .before .match .keys5) (p .ensures .0), omega (arith, p .ensures .1))
+
+same-length-6 : tie.Need-same-length-6
+same-length-6 c = search needs
+
+returns-6 : tie.Need-returns-6
+unfolding question
+returns-6 c =
+    let p = c .before .before .put6 in
+    (asked (c .before .before .before .before .before .before .before .args .number) 23 (c .before .before .before .before .before .match .keys6) (p .ensures .0), omega (arith, p .ensures .1))
+
+same-length-7 : tie.Need-same-length-7
+same-length-7 c = search needs
+
+returns-7 : tie.Need-returns-7
+returns-7 c =
+    let p = c .before .before .put7 in
     let rest = c .before .before .before .before .before .match .rest in
     (not-asked (c .before .before .before .before .before .before .before .args .number) (omega (arith, c .before .before .before .before .before .before .before .pre, rest .0, rest .1)) (p .ensures .0), omega (arith, p .ensures .1))
 
@@ -96,6 +126,10 @@ put-question-on-numbers-spec =
     put-requires-4
     slice-aggregate-put-5
     put-requires-5
+    slice-aggregate-put-6
+    put-requires-6
+    slice-aggregate-put-7
+    put-requires-7
     same-length
     returns
     same-length-2
@@ -105,4 +139,8 @@ put-question-on-numbers-spec =
     same-length-4
     returns-4
     same-length-5
-    returns-5)
+    returns-5
+    same-length-6
+    returns-6
+    same-length-7
+    returns-7)

@@ -5,7 +5,7 @@ use native.Mathlib.Omega.{arith}
 use borrow.Author.Needs.{needs}
 use borrow.Author.Tests.{not-true, not-false}
 use lib.ListN.{length, getD}
-use Rattle.run.proofs.Stages.{Stage, first-stage, used-up, standing, tick-forbidden, tick-late, tick-horizon, tick-stage, room, node-forbidden, node-stage}
+use Rattle.run.proofs.Stages.{Stage, first-stage, used-up, few-used, standing, tick-forbidden, tick-late, tick-horizon, tick-stage, room, node-forbidden, node-stage}
 use Rattle.run.proofs.Bulk.{ticks-stage}
 use Rattle.run.proofs.carry_out.Statement.{statement}
 use Rattle.run.proofs.carry_out.Tie as tie
@@ -38,10 +38,10 @@ ticks-in-a-row-requires c κs =
     (c .before .before .before .before .before .loop-test .taken, omega (arith, c .if2 .taken), c .before .before .before .if1 .taken)
 
 add-tick : tie.Need-add-tick Inv-loop μ-loop
-add-tick c = omega (arith, c .ticks-in-a-row .ensures .2, c .before .before .before .before .before .before .before .loop .inv .0 .early, c .before .before .before .before .before .before .before .before .before .before .before .before .before .pre .1)
+add-tick c = omega (arith, c .ticks-in-a-row .ensures .1, c .before .if2 .taken, c .before .before .calm-until .ensures .before)
 
 add-used : tie.Need-add-used Inv-loop μ-loop
-add-used c = omega (arith, c .ticks-in-a-row .ensures .2, c .before .before .before .before .before .before .before .before .before .before .before .before .before .pre .1)
+add-used c = omega (arith, c .ticks-in-a-row .ensures .2)
 
 loop-less : tie.Need-loop-less Inv-loop μ-loop
 loop-less c = omega (arith, c .ticks-in-a-row .ensures .0, c .before .before .before .before .before .before .loop-test .taken)
@@ -76,7 +76,7 @@ returns c =
     tick-forbidden (i .inv .0) (c .before .before .before .before .before .before .before .before .before .loop-test .taken) (e .pre .1) (c .before .before .before .before .before .before .before .if1 .taken) (sym (c .before .before .some-due .ensures) ∙ c .before .if3 .taken) (c .end-of .ensures)
 
 add-tick-2 : tie.Need-add-tick-2 Inv-loop μ-loop
-add-tick-2 c = search needs
+add-tick-2 c = let i = c .before .before .before .before .before .before .before .before .before .loop in omega (arith, i .inv .0 .early, few-used (i .inv .0) (c .before .before .before .before .before .before .before .before .before .before .before .before .before .before .before .pre .1))
 
 add-used-2 : tie.Need-add-used-2 Inv-loop μ-loop
 add-used-2 c = search needs
@@ -147,7 +147,7 @@ choose-node-requires c κs =
     let i = t .before .loop in
     let other = c .before .before .before .if1 .left in
     let small : getD (e .args .choices .now) (i .used) 0 < 255 = omega (arith, c .before .before .before .before .shared-slice-known4 .given (i .used)) in
-    (standing (i .inv .0) (search needs), small, room (i .inv .0) (t .loop-test .taken) (e .pre .1) (e .pre .2) other, omega (arith, i .inv .0 .few, i .inv .1, e .pre .1))
+    (standing (i .inv .0) (e .pre .1), small, room (i .inv .0) (t .loop-test .taken) (e .pre .1) (e .pre .2) other, omega (arith, i .inv .0 .few, few-used (i .inv .0) (e .pre .1)))
 
 end-of-requires-4 : tie.Need-end-of-requires-4 Inv-loop μ-loop
 end-of-requires-4 c κs = search needs

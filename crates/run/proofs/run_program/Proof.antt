@@ -3,7 +3,7 @@ use borrow.Author.Needs.{needs}
 use native.Mathlib.Omega.{arith}
 use lib.ListN.{length}
 use Rattle.translator.proofs.Standing.{slice-bytes, few-nodes, valid-long}
-use Rattle.run.proofs.Handed.{small-offsets, room-enough, ends-so}
+use Rattle.run.proofs.Handed.{small-offsets, room-enough, brief-enough, ends-so}
 use Rattle.run.proofs.run_program.Statement.{statement}
 use Rattle.run.proofs.run_program.Tie as tie
 
@@ -58,7 +58,7 @@ carry-out-requires c κs =
     let started = c .before .before .before .before .before .before .before .start .ensures in
     let word-at = c .before .before .before .word-at in (
       started .running (word-at .result),
-      s .pre .5,
+      brief-enough table bytes (s .pre .0) (s .pre .2) (s .pre .3) started (word-at .ensures) (s .args .choices .now) (s .pre .5),
       room-enough table bytes (s .pre .0) (s .pre .2) (s .pre .3) started (word-at .ensures) (s .args .choices .now) (length (s .args .out .now)) (s .pre .4),
     )
 

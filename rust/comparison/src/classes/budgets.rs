@@ -56,6 +56,13 @@ pub(super) fn in_time(trial: &mut Trial, random: &mut Random, extent: &Extent) -
     Ok(())
 }
 
+/// A table with budgets for which there is time.
+pub(super) fn in_time_for_work(random: &mut Random) -> Table {
+    let mut table = accepted(random);
+    budgets::draw(random, &mut table, suiting);
+    table
+}
+
 /// All edges from a location that is entered have too short a window: 8. With budgets
 /// of one tick less the passage that was refused is there.
 pub(super) fn too_long(trial: &mut Trial, random: &mut Random, extent: &Extent) -> Outcome {
@@ -188,8 +195,7 @@ fn component_length(table: &Table, last: usize) -> usize {
 /// Runs of tables whose budgets are next to the lengths of their windows.
 pub(super) fn runs(trial: &mut Trial, random: &mut Random, extent: &Extent) -> Outcome {
     for _ in 0..2 * extent.rounds {
-        let mut table = accepted(random);
-        budgets::draw(random, &mut table, suiting);
+        let mut table = in_time_for_work(random);
         run(trial, random, &write_table(&table), 3, 3000)?;
         budgets::draw(random, &mut table, mostly_suiting);
         run(trial, random, &write_table(&table), 3, 3000)?;

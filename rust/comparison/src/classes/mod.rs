@@ -21,6 +21,7 @@ mod programs;
 mod random_bytes;
 mod running;
 mod shifted;
+mod simulated;
 mod slots;
 mod stored;
 mod ties;
@@ -73,7 +74,7 @@ const fn class(name: &'static str, run: fn(&mut Trial, &mut Random, &Extent) -> 
 }
 
 /// All classes, in the order in which they are tried.
-pub const CLASSES: [Class; 92] = [
+pub const CLASSES: [Class; 99] = [
     class("vectors", stored::vectors),
     class("corpus", stored::corpus),
     class("random bytes", random_bytes::anything),
@@ -178,4 +179,11 @@ pub const CLASSES: [Class; 92] = [
     class("finish ticks: messages and timeouts", finishes::messages),
     class("finish ticks: nodes that wake apart", finishes::apart),
     class("finish ticks: stored tables", finishes::stored),
+    class("simulations of stored tables", simulated::stored),
+    class("simulations of a hub and its probes", simulated::regular),
+    class("simulations of planned tables", simulated::planned),
+    class("simulations of internal loops", simulated::workers),
+    class("simulations of windows close together", simulated::close),
+    class("simulations with budgets", simulated::with_budgets),
+    class("simulations of the longest work", simulated::longest_work),
 ];

@@ -169,13 +169,19 @@ pub(super) fn close(trial: &mut Trial, random: &mut Random, extent: &Extent) -> 
 /// ahead finds nothing to take there.
 pub(super) fn dead_ends(trial: &mut Trial, random: &mut Random, extent: &Extent) -> Outcome {
     for _ in 0..3 * extent.rounds {
-        let size = short_ticks(random);
-        let mut table = drawn(random, &size, &Style::PLAIN);
-        table.horizon = near_passages(random, &table);
-        end_dead(random, &mut table);
+        let table = dead_end(random);
         run(trial, random, &write_table(&table), 4, 3000)?;
     }
     Ok(())
+}
+
+/// A plan with such locations.
+pub(super) fn dead_end(random: &mut Random) -> Table {
+    let size = short_ticks(random);
+    let mut table = drawn(random, &size, &Style::PLAIN);
+    table.horizon = near_passages(random, &table);
+    end_dead(random, &mut table);
+    table
 }
 
 /// Gives components whose last edge was not taken before a new location for

@@ -52,8 +52,8 @@ fn expect_all(trial: &mut Trial, tables: Result<Vec<Stored>, String>) -> Outcome
     Ok(())
 }
 
-/// The programs, parts, charts, plans, edge choices, reasons, verdicts at a spread, runs
-/// and places of refusals of the vectors.
+/// The programs, parts, charts, plans, edge choices, reasons, verdicts at a spread, runs,
+/// simulated ones and places of refusals of the vectors.
 pub(super) fn requests(trial: &mut Trial, _: &mut Random, _: &Extent) -> Outcome {
     for request in requests::requests().map_err(Stop::Unreadable)? {
         match &request {
@@ -91,6 +91,9 @@ pub(super) fn requests(trial: &mut Trial, _: &mut Random, _: &Extent) -> Outcome
             } => {
                 let answer = ran(numbers, observations.len());
                 trial.expect_run(table, choices, &answer, observations)?;
+            }
+            Request::Simulated(request) => {
+                trial.expect_simulation(&request.table, &request.experiment, &request.answer)?
             }
             Request::Spread {
                 table,

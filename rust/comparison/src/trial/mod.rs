@@ -6,6 +6,7 @@ mod choosing;
 mod following;
 mod locating;
 mod running;
+mod simulating;
 mod spreading;
 
 use crate::difference::{Difference, Expected, Outcome, Stop};
@@ -120,6 +121,7 @@ impl<'a> Trial<'a> {
             self.translate_and_run_refused(input, count / every)?;
             self.choose_refused(input)?;
             self.ask_refused(input)?;
+            self.simulate_refused(input)?;
         }
         Ok(())
     }

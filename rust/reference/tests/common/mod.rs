@@ -176,6 +176,12 @@ pub fn vectors_of_finishes() -> Vec<Vector> {
     read_vectors(&["finishes.tsv"])
 }
 
+/// The cases of simulated runs: `sim` with the work times, the runs and, unless it is
+/// the fixed one, the seed.
+pub fn vectors_of_simulations() -> Vec<Vector> {
+    read_vectors(&["simulations.tsv"])
+}
+
 fn read_vectors(files: &[&str]) -> Vec<Vector> {
     let mut all = Vec::new();
     for file in files {

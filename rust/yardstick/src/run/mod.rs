@@ -8,6 +8,7 @@
 
 mod code;
 mod node;
+mod simulated;
 
 use crate::schedule::{Schedule, NOWHERE};
 use crate::table::*;
@@ -58,6 +59,11 @@ impl Machine {
         for (own, offset) in self.offsets.iter_mut().zip(offsets) {
             *own = *offset;
         }
+        self.start_again(network);
+    }
+
+    /// The same network with the same offsets from the start.
+    pub(crate) fn start_again(&mut self, network: &Network) {
         self.stops = [u32::MAX; COMPONENTS];
         self.waiting = 0;
         self.listening = 0;

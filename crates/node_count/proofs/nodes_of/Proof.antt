@@ -1,9 +1,9 @@
--- `trial_run::nodes_of` meets its contract. Assumes nothing.
+-- `node_count::nodes_of` meets its contract. Assumes nothing.
 use mathlib.Core.Path.{sym}
 use lib.ListN.{List·getD-eq-default}
 use borrow.Author.Needs.{needs}
-use Rattle.trial_run.proofs.nodes_of.Statement.{statement}
-use Rattle.trial_run.proofs.nodes_of.Tie as tie
+use Rattle.node_count.proofs.nodes_of.Statement.{statement}
+use Rattle.node_count.proofs.nodes_of.Tie as tie
 
 returns : tie.Need-returns
 returns c = sym (List·getD-eq-default (c .before .before .args .table .now) 0 (c .if1 .taken))

@@ -1,0 +1,2 @@
+pub mod SimulationText
+pub mod Cases

@@ -1,0 +1,7 @@
+pub mod Waiting
+pub mod Still
+pub mod Attempts
+pub mod Ticking
+pub mod Turning
+pub mod Idling
+pub mod Looping
