@@ -25,6 +25,7 @@ mod simulated;
 mod slots;
 mod stored;
 mod ties;
+mod tried;
 
 use crate::difference::Outcome;
 use crate::random::Random;

@@ -1,17 +1,12 @@
 //! Simulated runs with work times next to the lengths of the windows, each run handed on
 //! as a list of choices.
 
-use super::budgets;
-use super::close::{close_windows, moved_plan};
-use super::planned::{drawn, hub_and_probes, side_by_side, with_workers, workers_alone};
-use super::running::{dead_end, short_ticks};
-use super::Extent;
-use crate::difference::{Outcome, Stop};
+use super::running::dead_end;
+use super::{budgets, tried, Extent};
+use crate::difference::Outcome;
 use crate::random::Random;
 use crate::runs::Subject;
 use crate::simulations::{self, spoilt, Experiment};
-use crate::stored;
-use crate::tables::planned::{near_passages, shortened, Style};
 use crate::trial::Trial;
 use reference::table::*;
 use timed_network::{Verdict, MAX_RUNS, MAX_WORK};
@@ -47,78 +42,41 @@ fn simulate(trial: &mut Trial, random: &mut Random, table: &[u8], times: usize) 
     Ok(())
 }
 
-/// The same of a table with another horizon, now and then.
-fn simulate_table(trial: &mut Trial, random: &mut Random, mut table: Table) -> Outcome {
-    if random.once_in(2) {
-        table.horizon = near_passages(random, &table);
-    }
-    simulate(trial, random, &write_table(&table), 3)
-}
-
 /// All accepted tables of the vectors and the corpus.
 pub(super) fn stored(trial: &mut Trial, random: &mut Random, extent: &Extent) -> Outcome {
-    let tables = stored::vectors().and_then(|vectors| Ok((vectors, stored::corpus()?)));
-    let (vectors, corpus) = tables.map_err(Stop::Unreadable)?;
-    for table in vectors.iter().chain(&corpus) {
-        simulate(trial, random, &table.bytes, extent.rounds.div_ceil(200))?;
-    }
-    Ok(())
+    tried::stored(trial, random, extent, simulate)
 }
 
 /// A hub and its probes.
 pub(super) fn regular(trial: &mut Trial, random: &mut Random, extent: &Extent) -> Outcome {
-    for _ in 0..extent.rounds {
-        let longest = random.pick(&[1, 3, 20]);
-        let table = hub_and_probes(random, longest);
-        simulate_table(trial, random, table)?;
-    }
-    Ok(())
+    tried::regular(trial, random, extent, simulate)
 }
 
-/// Several hubs and channels, receives that time out, few edges or many; two plans on
-/// bands of their own; and locations behind the last passages that no edge leaves.
+/// Planned tables, and locations behind the last passages that no edge leaves.
 pub(super) fn planned(trial: &mut Trial, random: &mut Random, extent: &Extent) -> Outcome {
+    tried::planned(trial, random, extent, simulate)?;
     for _ in 0..extent.rounds {
-        let size = short_ticks(random);
-        let styles = [Style::sparse(random), Style::crowded(random)];
-        for style in &styles {
-            let table = drawn(random, &size, style);
-            simulate_table(trial, random, table)?;
-        }
-        let table = side_by_side(random);
-        simulate_table(trial, random, table)?;
         let table = dead_end(random);
         simulate(trial, random, &write_table(&table), 3)?;
     }
     Ok(())
 }
 
-/// Internal loops, alone and beside a plan.
+/// Internal loops.
 pub(super) fn workers(trial: &mut Trial, random: &mut Random, extent: &Extent) -> Outcome {
-    for _ in 0..extent.rounds {
-        let most = random.pick(&[10, 30, 80]);
-        for table in [workers_alone(random), with_workers(random)] {
-            simulate_table(trial, random, shortened(table, most))?;
-        }
-    }
-    Ok(())
+    tried::workers(trial, random, extent, simulate)
 }
 
-/// Windows so close together that many of them touch, where they are accepted.
+/// Windows close together, where they are accepted.
 pub(super) fn close(trial: &mut Trial, random: &mut Random, extent: &Extent) -> Outcome {
-    for _ in 0..3 * extent.rounds {
-        for table in [close_windows(random), moved_plan(random)] {
-            simulate(trial, random, &write_table(&table), 3)?;
-        }
-    }
-    Ok(())
+    tried::close(trial, random, extent, simulate)
 }
 
 /// Edges with a work budget.
 pub(super) fn with_budgets(trial: &mut Trial, random: &mut Random, extent: &Extent) -> Outcome {
     for _ in 0..extent.rounds {
         let table = budgets::in_time_for_work(random);
-        simulate_table(trial, random, table)?;
+        tried::any_horizon(trial, random, table, simulate)?;
     }
     Ok(())
 }
