@@ -242,6 +242,17 @@ static void write_reasons(const struct stored *stored, enum where where) {
     }
 }
 
+/* How many passages were read, then the answers. */
+static void write_positions(const struct stored *stored, enum where where) {
+    timed_network_position_numbers answer =
+        guarded_positions(where, stored->table, stored->pairs, stored->lent);
+    if (write_refusal(answer.number, answer.component))
+        return;
+    write_number("", answer.read);
+    write_text(stored->pairs.length == 0 ? "|-" : "|");
+    write_hex(answered, POSITION * (stored->pairs.length / 2));
+}
+
 /* The late runs, in all and of each node of the table, and the generator. */
 static void write_simulation(const struct stored *stored, enum where where) {
     timed_network_simulation_numbers answer =
@@ -259,7 +270,7 @@ void stored_try(const struct stored *stored, enum where where) {
         write_check,        write_schedule,  write_chart, write_plan,
         write_looked,       write_program,   write_part,  write_run,
         write_check_spread, write_run_apart, write_place, write_opening,
-        write_reasons,      write_simulation, write_simulation};
+        write_reasons,      write_positions, write_simulation, write_simulation};
     trying("a stored case", stored->name);
     used = 0;
     text[0] = 0;

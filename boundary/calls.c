@@ -3,12 +3,12 @@
 #include <string.h>
 
 const char *const call_names[CALLS] = {
-    "check",         "schedule",       "timing_chart",    "plan",
-    "edge_choice",   "translate",      "part",            "run",
-    "check_spread",  "run_apart",      "refusal_place",   "refused_opening",
-    "reasons",       "simulate",       "simulate_from",   "passages",
-    "meetings",      "largest_spread", "meetings_spread", "start",
-    "step",          "take_message"};
+    "check",        "schedule",     "timing_chart",   "plan",
+    "edge_choice",  "translate",    "part",           "run",
+    "check_spread", "run_apart",    "refusal_place",  "refused_opening",
+    "reasons",      "positions",    "simulate",       "simulate_from",
+    "passages",     "meetings",     "largest_spread", "meetings_spread",
+    "start",        "step",         "take_message"};
 unsigned long made[CALLS];
 uint32_t list[MAX_LIST];
 uint8_t chart[MAX_CHART];
@@ -38,6 +38,7 @@ void calls_start(void) {
     apart_start();
     refused_start();
     reasons_start();
+    positions_start();
     simulation_start();
 }
 

@@ -16,6 +16,9 @@ enum {
     MAX_PLAN = 414,
     REASON = 3,
     MAX_TOLD = REASON * MAX_EDGES,
+    POSITION = 3,
+    MAX_NUMBERS = 4096,
+    MAX_ANSWERED = POSITION * MAX_NUMBERS / 2,
     MAX_TABLE = 12288,
     MAX_PROGRAM = 24576,
     MAX_PART = 65535,
@@ -31,6 +34,11 @@ enum {
 
 struct bytes {
     uint8_t *at;
+    size_t length;
+};
+
+struct numbers {
+    uint32_t *at;
     size_t length;
 };
 
@@ -72,6 +80,7 @@ enum call {
     REFUSAL_PLACE,
     REFUSED_OPENING,
     REASONS,
+    POSITIONS,
     SIMULATE,
     SIMULATE_FROM,
     PASSAGES,
@@ -93,6 +102,7 @@ extern uint32_t list[MAX_LIST];
 extern uint8_t chart[MAX_CHART];
 extern uint8_t plan[MAX_PLAN];
 extern uint8_t told[MAX_TOLD];
+extern uint8_t answered[MAX_ANSWERED];
 extern uint8_t program[MAX_PROGRAM];
 extern uint8_t observations[MAX_OBSERVATIONS];
 extern timed_network_passage passages[MAX_PASSAGES];
@@ -103,6 +113,7 @@ void meetings_start(void);
 void apart_start(void);
 void refused_start(void);
 void reasons_start(void);
+void positions_start(void);
 void simulation_start(void);
 
 /*
@@ -141,6 +152,8 @@ timed_network_place_numbers guarded_refusal_place(enum where where, struct bytes
 timed_network_opening_numbers guarded_refused_opening(enum where where, struct bytes table);
 timed_network_reason_numbers guarded_reasons(enum where where, struct bytes table,
                                              struct question question, size_t lent);
+timed_network_position_numbers guarded_positions(enum where where, struct bytes table,
+                                                 struct numbers pairs, size_t lent);
 timed_network_simulation_numbers guarded_simulate(enum where where, struct bytes table,
                                                   struct experiment experiment);
 timed_network_node_registers guarded_start(enum where where, struct bytes part);
@@ -148,6 +161,10 @@ void guarded_step(enum where where, timed_network_node_registers *node, struct b
                   uint8_t clocks, uint8_t variables);
 void guarded_take_message(enum where where, timed_network_node_registers *node,
                           struct bytes part, uint8_t channel);
+
+/* The positions of pairs with as many bytes lent as they need plus `more`. */
+void lend_for_positions(enum where where, struct bytes table, struct numbers pairs,
+                        long more);
 
 /* Simulated runs at once, in two pieces, and with the fixed seed given. */
 void simulate_in_all_ways(enum where where, struct bytes table,

@@ -77,6 +77,25 @@ struct waking random_waking(struct bytes table) {
     return waking;
 }
 
+struct numbers random_pairs(struct bytes table) {
+    static uint32_t numbers[82];
+    size_t components = table.length > 3 ? table.at[3] : 0;
+    size_t horizon = table.length > 6 ? 256u * table.at[5] + table.at[6] : 0;
+    size_t length = random_below(2) ? random_below(7) : random_below(82);
+    uint32_t tick = 0;
+    for (size_t i = 0; i < length; i += 2) {
+        tick += (uint32_t)random_below(2 + 4 * horizon / (length + 1));
+        numbers[i] = (uint32_t)random_below(components + (random_below(32) == 0) + 1);
+        if (components > 0 && random_below(16) != 0)
+            numbers[i] %= (uint32_t)components;
+        numbers[i + 1] = tick % (uint32_t)(horizon + 1);
+    }
+    if (length > 1 && random_below(8) == 0)
+        numbers[random_below(length)] = (uint32_t)random_number();
+    struct numbers pairs = {numbers, length};
+    return pairs;
+}
+
 struct experiment random_experiment(void) {
     static const uint32_t far[] = {MAX_WORK, MAX_WORK + 1, MAX_RUNS + 1, 65538, UINT32_MAX};
     uint32_t hi = (uint32_t)random_below(6);

@@ -1,4 +1,4 @@
-/* Random tables, choices, offsets, simulations and programs, most of them close to good ones. */
+/* Random tables, choices, offsets, pairs, simulations, programs, most of them close to good ones. */
 #ifndef INPUTS_H
 #define INPUTS_H
 
@@ -31,6 +31,12 @@ size_t random_choices(struct bytes table, size_t from, size_t more);
  * one that is too large, and fewer or more offsets than there are nodes.
  */
 struct waking random_waking(struct bytes table);
+
+/*
+ * Pairs for a table, most of them of its components and ticks and sorted by tick;
+ * sometimes with a number left over.
+ */
+struct numbers random_pairs(struct bytes table);
 
 /* Few runs with short work, most of them; now and then other numbers. */
 struct experiment random_experiment(void);

@@ -72,6 +72,7 @@ static void lend(enum where where, struct bytes table, struct bytes choices, lon
              (lent[4] < needed[4] ? 13 : 0),
          "bytes for a chart are refused or taken wrongly");
     lend_for_reasons(where, table, any_question(table), more);
+    lend_for_positions(where, table, random_pairs(table), more);
 }
 
 static void stored_cases(void) {
@@ -229,6 +230,7 @@ static void all_calls(enum where where, struct bytes table, struct bytes choices
     guarded_refusal_place(where, table);
     guarded_refused_opening(where, table);
     guarded_reasons(where, table, any_question(table), lent % (MAX_TOLD + 1));
+    guarded_positions(where, table, random_pairs(table), lent % (MAX_ANSWERED + 1));
     simulate_in_all_ways(where, table, random_experiment());
     if (verdict.number != 0) {
         same(planned.number == verdict.number && translated.number == verdict.number &&

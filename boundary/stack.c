@@ -51,6 +51,7 @@ static timed_network_edge_choice_numbers edge_choice;
 static timed_network_place_numbers refusal_place;
 static timed_network_opening_numbers refused_opening;
 static timed_network_reason_numbers reasons;
+static timed_network_position_numbers positions;
 static timed_network_simulation_numbers simulation;
 
 /* What is lent to a call. For a node's calls `bytes` is its part. */
@@ -60,6 +61,7 @@ struct lent {
     struct slots slots;
     struct waking waking;
     struct question question;
+    struct numbers pairs;
     struct experiment experiment;
 };
 
@@ -91,6 +93,12 @@ __attribute__((noinline)) static void call_reasons(const struct lent *lent) {
     reasons = timed_network_reasons(lent->bytes.at, lent->bytes.length,
                                     lent->question.component, lent->question.tick, told,
                                     MAX_TOLD);
+}
+
+__attribute__((noinline)) static void call_positions(const struct lent *lent) {
+    positions =
+        timed_network_positions(lent->bytes.at, lent->bytes.length, lent->pairs.at,
+                                lent->pairs.length, answered, MAX_ANSWERED);
 }
 
 __attribute__((noinline)) static void call_simulate(const struct lent *lent) {
@@ -150,6 +158,9 @@ static void call(int request, const struct lent *lent) {
         break;
     case REASONS:
         call_reasons(lent);
+        break;
+    case POSITIONS:
+        call_positions(lent);
         break;
     case SIMULATE:
         call_simulate(lent);
@@ -265,8 +276,8 @@ static void each_part(int request, measure *measure, const struct stored *stored
 static void each_case(int request, measure *measure) {
     for (size_t i = 0; i < case_count; i++) {
         const struct stored *stored = &cases[i];
-        struct lent lent = {stored->table,  stored->choices,  stored->node,      stored->slots,
-                            stored->waking, stored->question, stored->experiment};
+        struct lent lent = {stored->table,  stored->choices,  stored->node,  stored->slots,
+                            stored->waking, stored->question, stored->pairs, stored->experiment};
         if (request < START) {
             size_t found = measure(request, &lent);
             note(request, found);

@@ -97,6 +97,22 @@ static struct question read_question(const char *words) {
     return question;
 }
 
+/* Pairs with commas between them, a colon in each; - for none. */
+static struct numbers read_pairs(const char *words) {
+    struct numbers pairs = {demand(malloc(MAX_NUMBERS * sizeof(uint32_t))), 0};
+    char *at = (char *)words;
+    while (*at >= '0' && *at <= '9') {
+        if (pairs.length == MAX_NUMBERS)
+            fail("there are too many pairs");
+        pairs.at[pairs.length++] = (uint32_t)strtoul(at, &at, 10);
+        if (*at == ':' || *at == ',')
+            at++;
+    }
+    if (strcmp(words, "-") != 0 && *at != 0)
+        fail("pairs are not understood");
+    return pairs;
+}
+
 /* The work times, the runs and, unless it is the fixed one, the seed. */
 static struct experiment read_experiment(const char *words) {
     unsigned long lo, hi, runs, seed = 0;
@@ -122,6 +138,8 @@ static size_t request_of(const char *word, const char *words) {
         return REFUSED_OPENING;
     if (strcmp(word, "why") == 0)
         return REASONS;
+    if (strcmp(word, "where") == 0)
+        return POSITIONS;
     if (strcmp(word, "sim") == 0) {
         int spaces = 0;
         for (const char *at = words; *at != 0; at++)
@@ -158,6 +176,8 @@ static void read_words(struct stored *stored, char *table) {
         read_waking(&stored->waking, more);
     else if (request == REASONS)
         stored->question = read_question(more);
+    else if (request == POSITIONS)
+        stored->pairs = read_pairs(more);
     else if (request == SIMULATE || request == SIMULATE_FROM)
         stored->experiment = read_experiment(more);
     else if (request == PART)
@@ -179,7 +199,10 @@ static void read_vectors(const char *root, const char *path) {
         }
         char *words = cut(request, ' ');
         struct stored *stored = add(line, (enum call)request_of(request, words), answer);
-        stored->lent = stored->request == REASONS && lent > MAX_TOLD ? MAX_TOLD : lent;
+        size_t most = stored->request == REASONS     ? MAX_TOLD
+                      : stored->request == POSITIONS ? MAX_ANSWERED
+                                                     : lent;
+        stored->lent = lent > most ? most : lent;
         read_words(stored, words);
         line = next;
     }
@@ -244,6 +267,23 @@ static void read_runs(const char *root, char *name, struct bytes table) {
     }
 }
 
+/* Where components of a table of the corpus are, if it has pairs: pairs and the answer a line. */
+static void read_positions(const char *root, char *name, struct bytes table) {
+    char path[300];
+    snprintf(path, sizeof path, "corpus/%s.where", name);
+    if (!is_there(root, path))
+        return;
+    char *line = (char *)read_file(root, path).at;
+    while (*line != 0) {
+        char *next = cut(line, '\n');
+        struct stored *stored = add(name, POSITIONS, cut(line, ' '));
+        stored->table = table;
+        stored->lent = MAX_ANSWERED;
+        stored->pairs = read_pairs(line);
+        line = next;
+    }
+}
+
 /* Where tables of the corpus are refused: a name, and a place or an opening, a line. */
 static void read_places(const char *root) {
     char *line = (char *)read_file(root, "corpus/places.tsv").at;
@@ -258,7 +298,7 @@ static void read_places(const char *root) {
     }
 }
 
-/* A table of the corpus: its verdict, and if accepted its schedule, reasons and runs. */
+/* A table of the corpus: its verdict, and if accepted its schedule, reasons, runs and positions. */
 static void read_corpus(const char *root) {
     char *line = (char *)read_file(root, "corpus/answers.tsv").at;
     while (*line != 0) {
@@ -279,6 +319,7 @@ static void read_corpus(const char *root) {
             add(line, SCHEDULE, (char *)text.at)->table = table;
             read_questions(root, line, table);
             read_runs(root, line, table);
+            read_positions(root, line, table);
         }
         line = next;
     }
@@ -297,6 +338,7 @@ void stored_read(const char *root) {
     read_vectors(root, "vectors/budgets.tsv");
     read_vectors(root, "vectors/finishes.tsv");
     read_vectors(root, "vectors/simulations.tsv");
+    read_vectors(root, "vectors/positions.tsv");
     read_vectors(root, "vectors/places.tsv");
     read_corpus(root);
     read_places(root);

@@ -8,11 +8,12 @@ struct stored {
     char *name;
     enum call request;            /* CHECK to SIMULATE_FROM */
     struct bytes table;           /* for PART the program */
-    size_t lent;                  /* for TIMING_CHART, PLAN, RUN, RUN_APART and REASONS */
+    size_t lent;                  /* for TIMING_CHART, PLAN, RUN, RUN_APART, REASONS, POSITIONS */
     struct slots slots;           /* for PLAN, which has no table */
     struct bytes choices;         /* for RUN and RUN_APART */
     struct waking waking;         /* for RUN_APART; for CHECK_SPREAD the spread */
     struct question question;     /* for REASONS */
+    struct numbers pairs;         /* for POSITIONS */
     struct experiment experiment; /* for SIMULATE and SIMULATE_FROM */
     uint8_t node;                 /* for PART */
     char *answer;

@@ -14,6 +14,7 @@ usage: vanillatarn COMMAND ...
                                             a table in which each probe has a slot
   edge TABLE --component C --location L ... the edge that is taken at an entry
   why [--json] TABLE COMPONENT TICK         why a component takes its edge at a tick
+  where [--json] TABLE PAIRS                where components are at the ticks of a log
   translate TABLE [-o FILE]                 the program of its nodes
   list PROGRAM                              a program, a statement a line
   part PROGRAM NODE [-o FILE]               the part of a program that belongs to one node
@@ -42,9 +43,9 @@ Exit status
   0  fine
   1  the answer is no: a table or a plan is refused, no edge is taken, a run ends
      late or with a choice that is not allowed, a spread or an offset is too large,
-     a component or a tick that is asked about is not there, the numbers of a
-     simulation are out of range, a program is damaged or has no such part, a text
-     has a fault
+     a component or a tick that is asked about is not there, pairs are not sorted,
+     the numbers of a simulation are out of range, a program is damaged or has no
+     such part, a text has a fault
   2  wrong use; a file that cannot be read or written, is empty or too long
   3  a tool is missing, could not be built or failed; standard output, standard
      error or the scratch folder cannot be written
@@ -165,6 +166,28 @@ A number above 4,294,967,295 counts as that one.
 
 Exit status: 0 told; 1 the table is refused, or the question, with 21: there is no
 such component, or the tick is not below the horizon.
+TEXT
+        where) cat <<'TEXT' ;;
+usage: vanillatarn where [--component COLUMN] [--tick COLUMN] [--json] TABLE PAIRS
+
+Tells where components are at many ticks, in one walk through the schedule. PAIRS is a
+text with a pair a line, sorted by tick: the component and the tick, with blanks, tabs
+or a comma between them. What stands behind # is a comment, and a line without a word
+counts for nothing. Prints a line a pair: component, tick, the number of the passage,
+and `before` if the tick lies before its ready, `window` if it lies in the window; then
+how many passages of the schedule were read. vanillatarn why tells more of one pair.
+
+--component, --tick: in which columns of a longer line they stand, counted from 1;
+                     without them 1 and 2. Lines of a log need not be cut.
+--json:              an object a pair, then one with the passages read
+                     (docs/FORMATS.md)
+
+A number above 4,294,967,295 counts as that one.
+
+Exit status: 0 told; 1 the table is refused, or a pair: with 21 where there is no such
+component or the tick is not below the horizon, with 24 where the tick is below that of
+the pair before it; the first bad one is told with its line. 1 also where a line has no
+such column, or no number there.
 TEXT
         translate) cat <<'TEXT' ;;
 usage: vanillatarn translate TABLE [-o FILE]

@@ -33,8 +33,12 @@ read_option() {
             [[ -z ${plan[${1#--}]-} ]] || misused "$1 is given twice"
             plan[${1#--}]=$2 taken=2
             ;;
-        --component | --location | --clocks | --variables)
-            has_option e "$1"
+        --component | --tick | --location | --clocks | --variables)
+            case $1:$options in
+                --component:*c* | --tick:*c*) [[ -z ${entry[$1]} ]] || misused "$1 is given twice" ;;
+                --tick:*) has_option c "$1" ;;
+                *) has_option e "$1" ;;
+            esac
             (($# > 1)) || misused "$1 lacks its number"
             entry[$1]=$2 taken=2
             ;;

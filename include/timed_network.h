@@ -30,8 +30,8 @@
  * The version of this header and its archive, as words and as a number that
  * grows: 10,000 x major + 100 x minor + patch.
  */
-#define TIMED_NETWORK_VERSION "0.10.0"
-#define TIMED_NETWORK_VERSION_NUMBER 1000
+#define TIMED_NETWORK_VERSION "0.11.0"
+#define TIMED_NETWORK_VERSION_NUMBER 1100
 
 /*
  * Limits and sizes. "Enough" is what a buffer needs for any table.
@@ -47,6 +47,7 @@
 #define TIMED_NETWORK_CHART_ENOUGH (69 * 8)             /* bytes of a chart */
 #define TIMED_NETWORK_REASON 3                          /* bytes of an edge's reason */
 #define TIMED_NETWORK_REASONS_ENOUGH (3 * 32)           /* bytes of a question's */
+#define TIMED_NETWORK_POSITION 3                        /* bytes of a pair's answer */
 #define TIMED_NETWORK_MAX_PLAN 414                      /* bytes of a plan: enough */
 #define TIMED_NETWORK_MAX_PROGRAM 24576                 /* bytes of a program: enough */
 #define TIMED_NETWORK_OBSERVATION 36                    /* bytes of an observation */
@@ -86,7 +87,8 @@ enum timed_network_number {
     TIMED_NETWORK_REFUSED_OFFSET = 20,
     TIMED_NETWORK_REFUSED_QUESTION = 21,
     TIMED_NETWORK_REFUSED_SEED = 22,
-    TIMED_NETWORK_REFUSED_SIMULATION = 23
+    TIMED_NETWORK_REFUSED_SIMULATION = 23,
+    TIMED_NETWORK_REFUSED_ORDER = 24
 };
 
 /* What the end of a run means; see timed_network_run_numbers. */
@@ -157,7 +159,7 @@ extern "C" {
  *
  * 15 to 17 stand in the place of 11 (document 02): they are asked after 10 and
  * before 12, and earlier versions of this library said 11 for all four. 13, 14
- * and 18 to 23 refuse a call and say nothing about a table.
+ * and 18 to 24 refuse a call and say nothing about a table.
  *
  * component: the number of the component concerned, counted from 0. For 4 to 6
  * the one that was being read, for 7 to 9 the one that was opening a passage,
@@ -436,6 +438,57 @@ typedef struct timed_network_reason_numbers {
 timed_network_reason_numbers
 timed_network_reasons(const uint8_t *table, size_t length, uint32_t component,
                       uint32_t tick, uint8_t *told, size_t told_length);
+
+/*
+ * The answer of timed_network_positions. 8 bytes.
+ *
+ * number, component: as in timed_network_call_numbers, with two numbers more, tried
+ * pair by pair, in this order at each; the first bad pair decides:
+ *
+ *  21  there is no such component, or the tick is not below the horizon;
+ *      component 255
+ *  24  the tick is below that of the pair before it; component 255
+ *
+ * read: how many passages of the schedule were read: those of all components whose
+ *       entry is at or before the last tick asked. 0 for no pairs, and after a
+ *       refusal.
+ */
+typedef struct timed_network_position_numbers {
+    uint8_t number;
+    uint8_t component;
+    uint32_t read;
+} timed_network_position_numbers;
+
+/*
+ * Tells where components are at ticks (document 02, wish 11), in one walk through the
+ * schedule.
+ *
+ * table, length:  as for timed_network_check.
+ * pairs:          the first of `pairs_length` numbers that can be read: a component
+ *                 and its tick in turn, the pairs sorted by tick. They are never
+ *                 written.
+ * pairs_length:   how many numbers there are, two a pair; one that is left over at
+ *                 the end is no pair and not looked at. There is no limit. It may be
+ *                 0; then the pointer is not read.
+ * answers:        the first of `answers_length` bytes that can be written.
+ * answers_length: how many bytes there are. It may be 0; then the pointer is not used.
+ *
+ * Each pair takes three bytes, in the order asked: the number of the passage that
+ * timed_network_reasons names too, the one whose entry is at or before the tick and
+ * whose end lies after it (two bytes, the highest first); then 0 if the tick lies
+ * before ready, or 1 if it lies in the window. At a tick that two passages of the
+ * component share the one just entered counts. The bytes past the answers stay as
+ * they were; after a refusal all of them do.
+ *
+ * Refused with 1 to 12 as timed_network_check refuses, then with 21 and 24, then with
+ * 13 where answers_length is below 3 x the number of pairs.
+ *
+ * The answers must overlap neither the table nor the pairs.
+ */
+timed_network_position_numbers
+timed_network_positions(const uint8_t *table, size_t length,
+                        const uint32_t *pairs, size_t pairs_length,
+                        uint8_t *answers, size_t answers_length);
 
 /*
  * Writes the program bytes of a table: the programs of all its nodes, laid

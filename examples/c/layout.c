@@ -80,6 +80,11 @@ AT(timed_network_reason_numbers, component, 1, 1);
 AT(timed_network_reason_numbers, passage, 4, 4);
 AT(timed_network_reason_numbers, size, 8, 4);
 
+SIZE(timed_network_position_numbers, 8);
+AT(timed_network_position_numbers, number, 0, 1);
+AT(timed_network_position_numbers, component, 1, 1);
+AT(timed_network_position_numbers, read, 4, 4);
+
 SIZE(timed_network_simulation_numbers, 44);
 AT(timed_network_simulation_numbers, number, 0, 1);
 AT(timed_network_simulation_numbers, component, 1, 1);
@@ -165,6 +170,7 @@ FACT(TIMED_NETWORK_REFUSED_OFFSET == 20);
 FACT(TIMED_NETWORK_REFUSED_QUESTION == 21);
 FACT(TIMED_NETWORK_REFUSED_SEED == 22);
 FACT(TIMED_NETWORK_REFUSED_SIMULATION == 23);
+FACT(TIMED_NETWORK_REFUSED_ORDER == 24 && TIMED_NETWORK_POSITION == 3);
 FACT(TIMED_NETWORK_TAKEN == 0 && TIMED_NETWORK_HIGHER_NUMBER == 4);
 FACT(TIMED_NETWORK_REASON == 3 && TIMED_NETWORK_REASONS_ENOUGH == 96);
 FACT(TIMED_NETWORK_END_NOT_ALLOWED == 3);

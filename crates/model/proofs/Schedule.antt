@@ -5,6 +5,8 @@
 -- `Answered.reasons-true` (both, of any bytes; the edge taken is told); `Replayed.Ahead` (clocks and variables found again along the passages of a component).
 -- Of budgets: `Budgets.no-budgets` and `same-choice-of` (versions 1 and 2 have none, and choose as they did), `Budgets.spanned` (every passage's window is as
 -- long as its edge's budget).
+-- Of a batch of questions: `Positioned.last-named` and `read-is` (one walk names the passages, and how far it reads); `Batched.batch-true` (what is answered,
+-- without the walk), `Batched.same-as-reasons` (the passages are those of the reasons).
 pub mod Soonest
 pub mod Messages
 pub mod Own
@@ -18,3 +20,5 @@ pub mod Replayed
 pub mod Reasoned
 pub mod Answered
 pub mod Budgets
+pub mod Positioned
+pub mod Batched

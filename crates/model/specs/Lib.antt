@@ -23,12 +23,14 @@ pub mod Observations
 pub mod Meetings
 pub mod Chart
 pub mod Reasons
+pub mod Positions
 pub mod Hearings
 pub mod Versions
 pub mod Build
 pub mod EdgeChoice
 pub mod ReasonCases
 pub mod Cases
+pub mod PositionCases
 pub mod RefusalCases
 pub mod DemandCases
 pub mod DemandWrongs

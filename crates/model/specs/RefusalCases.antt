@@ -1,5 +1,6 @@
 -- Every refusal of documents 01 and 02, computed: the number and the component concerned, by the call that gives it, with tables on both sides of the
--- boundary where there is one (18 is a case of `slot_plan`). Then runs of nodes that wake apart. One table with one theorem, as `Cases`.
+-- boundary where there is one (18 is a case of `slot_plan`, 21 of `ReasonCases`, 24 of `PositionCases`). Then runs of nodes that wake apart. One table with
+-- one theorem, as `Cases`.
 use mathlib.Core.Path.{_≡_, refl}
 use mathlib.Core.Bool.{true, false}
 use mathlib.Core.List.{List, [], _∷_, _++_}

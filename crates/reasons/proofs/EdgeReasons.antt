@@ -8,7 +8,7 @@ use native.Mathlib.Omega.{arith}
 use borrow.Author.Tests.{eq-eqb, ne-eqb, eqb-true, eqb-false}
 use lib.Dec.{ltb, eqb}
 use lib.ListN.{length, drop, length-append}
-use lib.Seq.{sets, sets-eq}
+use lib.Seq.{sets}
 use Rattle.model.specs.declared.Location.{Location}
 use Rattle.model.specs.declared.Reason.{Reason}
 use Rattle.model.specs.declared.Reason.the-variants.{Taken, DataBound, NoWindow, ReadyLater, HigherNumber}
@@ -18,11 +18,10 @@ use Rattle.model.specs.Window.{Entry, readyOf, pastOf, dataHolds, firstFailing,
 use Rattle.model.specs.Reasons.{reasonBy, edgesFrom, reasonNumber, reasonBound}
 use Rattle.model.proofs.Basics.Bools.{clash}
 use Rattle.model.proofs.Basics.Members.{only-append}
-use Rattle.model.proofs.Basics.Walk.{each-length}
 use Rattle.window.specs.declared.Standing.{Standing}
 use Rattle.window.specs.declared.Standing.the-variants.{Elsewhere, Blocked, Windowless, Candidate}
 use Rattle.window.specs.Views.{standingOf}
-use Rattle.schedule.proofs.Fields.{sets-append, each-snoc}
+use Rattle.schedule.proofs.Fields.{laid-more}
 use Rattle.reasons.specs.Telling.{isElsewhere, otherReason, reasonFrom, one, arcBytes, edgeBytes, EdgePut}
 
 -- ## One edge
@@ -129,18 +128,6 @@ module _ (C : Component) (here : ℕ) where
       let z : e + 1 + (n - (e + 1)) ≡ n = omega arith in
       omega (arith, before-grows (e + 1) (n - (e + 1)), ap (λ m. length (edgesBefore m)) z, ap length (before-in e s), length-append (edgesBefore e) (e ∷ []))
 
-  module _ (f : ℕ → List ℕ) (sized : (e : ℕ) → length (f e) ≡ 3) where
-    pub laid-more : (P : List ℕ) (e k : ℕ) (out out₁ out₂ : List ℕ) → k ≡ length P → out₁ ≡ sets out 0 (each f P) → out₂ ≡ sets out₁ (k * 3) (f e)
-        → out₂ ≡ sets out 0 (each f (snoc P e))
-    laid-more P e k out out₁ out₂ n p q =
-        let z : k * 3 ≡ 0 + length (each f P) = omega (arith, each-length f 3 sized P) in
-        q ∙ rw (p, z) (sym (sets-append (each f P) (f e) out 0)) ∙ ap (sets out 0) (sym (each-snoc f P e))
-
-    pub laid-all : (P : List ℕ) (out : List ℕ) → length P * 3 ≤ length out → sets out 0 (each f P) ≡ each f P ++ drop (length P * 3) out
-    laid-all P out h =
-        let z : 0 + length (each f P) ≡ length P * 3 = omega (arith, each-length f 3 sized P) in
-        sets-eq (each f P) out 0 (omega (arith, each-length f 3 sized P)) ∙ ap (λ m. each f P ++ drop m out) z
-
 -- one turn of the loop: edge e is written, or passed over
 pub turn : (C : Component) (l : Location) (at : Entry) (taken ready e : ℕ) (a : Arc) (k r : ℕ) (out out₁ out₂ : List ℕ) → l ≡ locationOf C (at .location) → a ≡ arcOf C e
     → EdgePut l at taken ready e a k out₁ r out₂ → k ≡ length (edgesBefore C (at .location) e)
@@ -158,7 +145,7 @@ turn C l at taken ready e a k r out out₁ out₂ q i w p s = go (eqb (arcOf C e
         let m = before-in C (at .location) e h in
         let d = w .told (src ∙ h) in
         let b : arcBytes l at taken ready e a ≡ edgeBytes C at taken ready e = rw (q, i) in
-        (omega (arith, d .0, p, ap length m, length-append (edgesBefore C (at .location) e) (e ∷ [])), rw m (laid-more C (at .location) (edgeBytes C at taken ready) (λ e. refl) (edgesBefore C (at .location) e) e k out out₁ out₂ p s (d .1 ∙ ap (sets out₁ (k * 3)) b)))
+        (omega (arith, d .0, p, ap length m, length-append (edgesBefore C (at .location) e) (e ∷ [])), rw m (laid-more (edgeBytes C at taken ready) 3 (λ e. refl) (edgesBefore C (at .location) e) e k out out₁ out₂ p s (d .1 ∙ ap (sets out₁ (k * 3)) b)))
     go false t =
         let n = eqb-false (arcOf C e .edge .source) (at .location) t in
         let m = before-out C (at .location) e n in

@@ -21,7 +21,6 @@ use Rattle.model.specs.Calls.{acceptedScheduleIn}
 use Rattle.model.specs.Reasons.{askable, askedIn, asked}
 use Rattle.model.proofs.Basics.Walk.{all-at}
 use Rattle.model.proofs.Reader.Located.{valid-read}
-use Rattle.table.proofs.Answered.{verdict-accepted}
 use Rattle.model.specs.Window.{Entry}
 use Rattle.window.specs.Views.{entryOf}
 use Rattle.schedule.specs.Going.{cut}
@@ -29,13 +28,13 @@ use Rattle.rows.specs.Rows.{num, messageOf, rowPassage, rowsOf}
 use Rattle.rows.proofs.Placed.{known-bytes}
 use Rattle.schedule.specs.declared.Scheduled.{Scheduled}
 use Rattle.schedule.specs.Filled as filled
+use Rattle.schedule.proofs.Accepted.{accepted-rows, row-is}
 use Rattle.schedule.proofs.Tables.{horizon-small, limits-of}
 use Rattle.calls.proofs.Answering.{planned}
 use Rattle.passages.proofs.Bounds.{all-small}
 use Rattle.reasons.specs.declared.Stay.{Stay}
 use Rattle.reasons.specs.declared.Asked.{Asked}
 use Rattle.reasons.specs.Stays.{Walked, Stayed, namedBy, Present, Answers}
-use Rattle.reasons.proofs.Staying.{from-at, light-at}
 
 module _ (bs : List ℕ) (c k : ℕ) where
   -- refused by 1 to 6
@@ -73,40 +72,25 @@ message-byte m = go (eqb m 255) refl
     go false e = refl
 
 module _ (bs : List ℕ) (b : (j : ℕ) → Fits w8 (getD bs j 0)) (v : Valid bs) (r : Scheduled) (l : List ℕ) (F : filled.Filled bs (filled.acceptedScheduleIn 0 bs) r l) (e : r .verdict ≡ Accepted) where
+  rows : filled.AcceptedRows bs l (r .count)
+  rows = accepted-rows bs l r F e
+
   pub S : List Passage
-  S = verdict-accepted (filled.acceptedScheduleIn 0 bs) (sym (F .verdict) ∙ e) .0
+  S = rows .passages
 
   pub is-accepted : acceptedScheduleOf (readOf bs) ≡ accepted S
   unfolding S
-  is-accepted = verdict-accepted (filled.acceptedScheduleIn 0 bs) (sym (F .verdict) ∙ e) .1
-
-  count : r .count ≡ length S
-  count = F .count S is-accepted
-
-  rows-are : rowsOf l (r .count) ≡ map light S
-  rows-are = ap (λ (n : ℕ). rowsOf l n) count ∙ F .rows S is-accepted
+  is-accepted = rows .acceptedSchedule
 
   -- a message has a byte
   small-message : (i : ℕ) → i < r .count → num l i 6 < 256
   small-message i h =
-      let z : 0 + i ≡ i = omega arith in
-      let is : rowPassage l i ≡ light (passageAt S i) = sym (from-at l 0 (r .count) i h ∙ ap (rowPassage l) z) ∙ ap (λ L. passageAt L i) rows-are ∙ light-at S i (omega (arith, count)) in
-      let m : messageOf (num l i 6) ≡ passageAt S i .message = ap (λ (p : Passage). p .message) is in
-      let small = all-at noPassage (all-small bs (known-bytes bs b) S (planned bs v ∙ is-accepted)) i (omega (arith, count)) .message in
+      let m : messageOf (num l i 6) ≡ passageAt (rows .passages) i .message = ap (λ (p : Passage). p .message) (row-is bs l (r .count) rows i h) in
+      let small = all-at noPassage (all-small bs (known-bytes bs b) (rows .passages) (planned bs v ∙ rows .acceptedSchedule)) i (omega (arith, rows .count)) .message in
       omega (arith, message-byte (num l i 6), ap (λ (o : Option ℕ). orElse o 255) m, small)
 
   pub walked : (c k : ℕ) → c < size (readOf bs .table) → k < readOf bs .horizon → Walked bs l (r .count) c k
-  walked c k hc hk =
-      record {
-        passages = S;
-        acceptedSchedule = is-accepted;
-        count = count;
-        listed = rows-are;
-        placed = rw count (F .placed S is-accepted);
-        messages = small-message;
-        present = hc;
-        below = hk;
-      }
+  walked c k hc hk = record { rows = rows; messages = small-message; present = hc; below = hk }
 
 -- ## The passage named
 
@@ -117,10 +101,10 @@ same-passage p component edge ready end at message a b c d e f = rw (a, b, c, d,
 
 module _ (bs l : List ℕ) (n c k : ℕ) (b : (j : ℕ) → Fits w8 (getD bs j 0)) (w : Walked bs l n c k) (s : Stay) (t : Stayed bs l n c k s) where
   pub edge-small : num l (s .row) 1 < 256
-  edge-small = let row = w .placed .row (s .row) (t .there) in omega (arith, row .there, limits-of bs b (w .placed .valid) (num l (s .row) 0) (row .present) .mostArcs)
+  edge-small = let row = w .rows .placed .row (s .row) (t .there) in omega (arith, row .there, limits-of bs b (w .rows .placed .valid) (num l (s .row) 0) (row .present) .mostArcs)
 
   pub row-fits : s .row * 9 + 9 ≤ length l
-  row-fits = omega (arith, w .placed .fits, t .there)
+  row-fits = omega (arith, w .rows .placed .fits, t .there)
 
   -- the fields of its row and its entry are the passage
   pub names : (r : Asked) → r .verdict ≡ Accepted → r .number ≡ s .row → r .start ≡ startOf bs c → r .component ≡ c → r .edge ≡ num l (s .row) 1 → r .message ≡ num l (s .row) 6
@@ -136,15 +120,15 @@ module _ (bs l : List ℕ) (n c k : ℕ) (b : (j : ℕ) → Fits w8 (getD bs j 0
       (component ∙ sym (t .own) ∙ ap (λ (x : Passage). x .component) (t .shown)) (edge ∙ ap (λ (x : Passage). x .edge) (t .shown)) entry
       (ready ∙ ap (λ (x : Passage). x .ready) (t .shown)) (end ∙ ap (λ (x : Passage). x .end) (t .shown))
       (ap messageOf message ∙ ap (λ (x : Passage). x .message) (t .shown)) in
-      rw (asked-read bs c k (w .placed .valid) (t .acceptedSchedule), here, below, ← t .row) (
+      rw (asked-read bs c k (w .rows .placed .valid) (t .acceptedSchedule), here, below, ← t .row) (
         v,
         rw (passage, component, number),
         record {
-          valid = w .placed .valid;
+          valid = w .rows .placed .valid;
           present = rw component (w .present);
           start = rw component start;
           location = rw (component, at) (t .location);
-          small = rw at (omega (arith, t .early, w .below, horizon-small bs b (w .placed .valid)));
-          few = omega (arith, number, t .there, w .placed .few);
+          small = rw at (omega (arith, t .early, w .below, horizon-small bs b (w .rows .placed .valid)));
+          few = omega (arith, number, t .there, w .rows .placed .few);
         },
       )

@@ -1,7 +1,7 @@
 -- The walk to the passage of a component at a tick: turn by turn. Assumes nothing.
 use mathlib.Core.Path.{_≡_, refl, sym, ap, ap₂, subst, _∙_}
 use mathlib.Core.Bool.{true}
-use mathlib.Core.List.{List, [], _∷_, map}
+use mathlib.Core.List.{List, [], _∷_}
 use mathlib.Core.Option.{Option}
 use Prim.Native.Nat.{ℕ, zero, suc, _+_, _≤_, _<_}
 use native.Mathlib.Omega.{arith}
@@ -19,59 +19,48 @@ use Rattle.model.specs.Schedule.{Passage, passageArc, light, startEntry}
 use Rattle.model.specs.Checks.{limit, noPassage, passageAt}
 use Rattle.model.specs.Chains.{IsSchedule}
 use Rattle.model.specs.Reasons.{passageNumber}
-use Rattle.model.proofs.Run.Tied.{schedule-at}
 use Rattle.model.proofs.Reader.Located.{valid-in}
 use Rattle.model.proofs.Schedule.Replayed.{Ahead, ahead-start, ahead-other, ahead-here, ahead-next, ahead-end}
 use Rattle.model.proofs.Schedule.Reasoned.{Named, named}
 use Rattle.window.specs.declared.Entry.{Entry}
 use Rattle.window.specs.Views.{entryOf}
-use Rattle.rows.specs.Rows.{num, messageOf, rowPassage, rowsFrom, rowsOf, RowsPlaced, RowKnown}
+use Rattle.rows.specs.Rows.{num, messageOf, rowPassage, RowKnown}
 use Rattle.rows.proofs.Placed.{known-bytes, row-known}
 use Rattle.schedule.specs.Going.{cut}
+use Rattle.schedule.proofs.Accepted.{row-is, is-schedule}
 use Rattle.schedule.proofs.Cut.{leaves-cut, start-cut, arc-in, leads-in}
 use Rattle.schedule.proofs.Tables.{initial-read, limits-of}
 use Rattle.reasons.specs.declared.Stay.{Stay}
 use Rattle.reasons.specs.Stays.{relocated, Grown, Walked, Stayed}
 
-pub from-at : (l : List ℕ) (i n k : ℕ) → k < n → passageAt (rowsFrom l i n) k ≡ rowPassage l (i + k)
-unfolding rowsFrom
-from-at l i zero k h = absurd (omega arith)
-from-at l i (suc n) zero h = let e : i ≡ i + 0 = omega arith in ap (rowPassage l) e
-from-at l i (suc n) (suc k) h = let e : suc i + k ≡ i + suc k = omega arith in from-at l (suc i) n k (omega arith) ∙ ap (rowPassage l) e
-
-pub light-at : (S : List Passage) (k : ℕ) → k < length S → passageAt (map light S) k ≡ light (passageAt S k)
-light-at [] k h = absurd (omega arith)
-light-at (v ∷ S) zero h = refl
-light-at (v ∷ S) (suc k) h = light-at S k (omega arith)
-
 -- before row i the walk carries the entry of the component's next passage, but for its location
 pub record On (bs l : List ℕ) (n c tick i : ℕ) (at : Entry) : Type 0 where
   pub walked : Walked bs l n c tick
   pub here : ℕ
-  pub ahead : Ahead (readOf bs .horizon) c (componentIn bs c) (walked .passages) i (cut (componentIn bs c) (relocated here (entryOf at)))
+  pub ahead : Ahead (readOf bs .horizon) c (componentIn bs c) (walked .rows .passages) i (cut (componentIn bs c) (relocated here (entryOf at)))
   pub young : All (λ x. x ≤ at .tick) (at .clocks)
   pub early : at .tick ≤ tick
   pub location : here < length (componentIn bs c .locations)
 
 module _ (bs l : List ℕ) (n c tick i : ℕ) (at : Entry) (o : On bs l n c tick i at) (h : i < n) where
   S : List Passage
-  S = o .walked .passages
+  S = o .walked .rows .passages
 
   here : i < length S
   unfolding S
-  here = omega (arith, o .walked .count)
+  here = omega (arith, o .walked .rows .count)
 
   -- row i is passage i
   is : rowPassage l i ≡ light (passageAt S i)
   unfolding S
-  is = let z : 0 + i ≡ i = omega arith in sym (from-at l 0 n i h ∙ ap (rowPassage l) z) ∙ ap (λ L. passageAt L i) (o .walked .listed) ∙ light-at (o .walked .passages) i (omega (arith, o .walked .count))
+  is = row-is bs l n (o .walked .rows) i h
 
   law : IsSchedule limit (readOf bs .table) (readOf bs .horizon) S
   unfolding S
-  law = schedule-at 0 (readOf bs .table) (readOf bs .horizon) limit (o .walked .passages) (o .walked .acceptedSchedule) .0
+  law = is-schedule bs l n (o .walked .rows)
 
   pub known : RowKnown bs l i
-  known = row-known bs l n i (o .walked .placed) h
+  known = row-known bs l n i (o .walked .rows .placed) h
 
   -- a row of another component
   pub on-other : (num l i 0 ≡ c → ⊥) → On bs l n c tick (suc i) at
@@ -103,7 +92,7 @@ module _ (bs l : List ℕ) (n c tick i : ℕ) (at : Entry) (o : On bs l n c tick
     located = ap (λ (v : Passage). v .entry .location) is ∙ ap (λ (e : Rattle.model.specs.Window.Entry). e .location) entry-is
 
     pub location-small : ((j : ℕ) → Fits w8 (getD bs j 0)) → num l i 2 < 256
-    location-small b = omega (arith, located, o .location, limits-of bs b (o .walked .placed .valid) c (o .walked .present) .mostLocations)
+    location-small b = omega (arith, located, o .location, limits-of bs b (o .walked .rows .placed .valid) c (o .walked .present) .mostLocations)
 
     -- the tick lies before its end: it is the passage
     pub found : tick < num l i 5 → (r : Stay) → r .row ≡ i → entryOf (r .at) ≡ relocated (num l i 2) (entryOf at) → Stayed bs l n c tick r
@@ -117,7 +106,7 @@ module _ (bs l : List ℕ) (n c tick i : ℕ) (at : Entry) (o : On bs l n c tick
         let then : r .at .tick ≡ at .tick = ap (λ (e : Rattle.model.specs.Window.Entry). e .tick) whole in
         record {
           passages = S;
-          acceptedSchedule = o .walked .acceptedSchedule;
+          acceptedSchedule = o .walked .rows .acceptedSchedule;
           row = row ∙ w .alone i here its (omega (arith, t, o .early)) (omega (arith, e));
           entry = ap (λ k. passageAt S k .entry) row ∙ entry-is ∙ ap (cut (componentIn bs c)) (sym whole);
           there = omega (arith, row, h);
@@ -140,9 +129,9 @@ module _ (bs l : List ℕ) (n c tick i : ℕ) (at : Entry) (o : On bs l n c tick
       -- the location that it leads to is one of the component
       leads-there : leadsTo arc (messageOf (num l i 6)) < length (componentIn bs c .locations)
       leads-there =
-          let row = o .walked .placed .row i h in
+          let row = o .walked .rows .placed .row i h in
           let C = componentIn bs (num l i 0) in
-          let k = limits-of bs b (o .walked .placed .valid) (num l i 0) (row .present) in
+          let k = limits-of bs b (o .walked .rows .placed .valid) (num l i 0) (row .present) in
           let header = headerOf (readOf bs) in
           let q = leads-in (sizesOf header C) (arcOf C (num l i 1)) (messageOf (num l i 6)) (arc-in header C k (num l i 1) (row .there)) in
           subst (λ (m : ℕ). leadsTo arc (messageOf (num l i 6)) < length (componentIn bs m .locations)) mine q
@@ -156,11 +145,11 @@ module _ (bs l : List ℕ) (n c tick i : ℕ) (at : Entry) (o : On bs l n c tick
           let end : num l i 5 ≡ v .end = ap (λ (v : Passage). v .end) is in
           let edge : num l i 1 ≡ v .edge = ap (λ (v : Passage). v .edge) is in
           let m : messageOf (num l i 6) ≡ v .message = ap (λ (v : Passage). v .message) is in
-          let row = o .walked .placed .row i h in
+          let row = o .walked .rows .placed .row i h in
           let from = relocated (o .here) (entryOf at) in
           let a = ahead-next H c C S i _ here (o .ahead) its (omega (arith, end, o .walked .below)) in
           let there : num l i 1 < length (C .arcs) = subst (λ k. num l i 1 < length (componentIn bs k .arcs)) mine (row .there) in
-          let cutting = leaves-cut (headerOf (readOf bs)) C (valid-in bs (known-bytes bs b) (o .walked .placed .valid) c (o .walked .present)) (v .edge) (subst (λ k. k < length (C .arcs)) edge there) (v .message) (v .end) from in
+          let cutting = leaves-cut (headerOf (readOf bs)) C (valid-in bs (known-bytes bs b) (o .walked .rows .placed .valid) c (o .walked .present)) (v .edge) (subst (λ k. k < length (C .arcs)) edge there) (v .message) (v .end) from in
           let is-arc : arc ≡ arcOf C (v .edge) = ap₂ (λ k e. arcOf (componentIn bs k) e) mine edge in
           let step : leaves (arcOf C (v .edge)) (v .message) (v .end) from ≡ relocated (leadsTo arc (messageOf (num l i 6))) (entryOf next) = rw (← is-arc, ← m, ← end) (sym (grown .leads (messageOf (num l i 6)))) in
           record {
@@ -174,7 +163,7 @@ module _ (bs l : List ℕ) (n c tick i : ℕ) (at : Entry) (o : On bs l n c tick
 
 -- behind the last row there is none
 pub on-end : (bs l : List ℕ) (n c tick i : ℕ) (at : Entry) → On bs l n c tick i at → i ≡ n → ⊥
-on-end bs l n c tick i at o e = ahead-end (readOf bs .horizon) c (componentIn bs c) (o .walked .passages) _ (subst (λ k. Ahead (readOf bs .horizon) c (componentIn bs c) (o .walked .passages) k (cut (componentIn bs c) (relocated (o .here) (entryOf at)))) (e ∙ o .walked .count) (o .ahead))
+on-end bs l n c tick i at o e = ahead-end (readOf bs .horizon) c (componentIn bs c) (o .walked .rows .passages) _ (subst (λ k. Ahead (readOf bs .horizon) c (componentIn bs c) (o .walked .rows .passages) k (cut (componentIn bs c) (relocated (o .here) (entryOf at)))) (e ∙ o .walked .rows .count) (o .ahead))
 
 -- before the first row the component is as it starts
 pub on-start : (bs l : List ℕ) (n c tick start : ℕ) → ((j : ℕ) → Fits w8 (getD bs j 0)) → Walked bs l n c tick → start ≡ startOf bs c → (at : Entry)
@@ -182,16 +171,16 @@ pub on-start : (bs l : List ℕ) (n c tick start : ℕ) → ((j : ℕ) → Fits 
     → On bs l n c tick 0 at
 on-start bs l n c tick start b w s at p q x y =
     let C = componentIn bs c in
-    let law = schedule-at 0 (readOf bs .table) (readOf bs .horizon) limit (w .passages) (w .acceptedSchedule) .0 in
-    let i = valid-in bs (known-bytes bs b) (w .placed .valid) c (w .present) in
-    let e : startEntry C ≡ cut C (entryOf at) = start-cut (headerOf (readOf bs)) C i (entryOf at) (initial-read bs b (w .placed .valid) c start (w .present) s p) q x y in
+    let law = is-schedule bs l n (w .rows) in
+    let i = valid-in bs (known-bytes bs b) (w .rows .placed .valid) c (w .present) in
+    let e : startEntry C ≡ cut C (entryOf at) = start-cut (headerOf (readOf bs)) C i (entryOf at) (initial-read bs b (w .rows .placed .valid) c start (w .present) s p) q x y in
     record {
       walked = w;
       here = at .location;
-      ahead = subst (Ahead (readOf bs .horizon) c C (w .passages) 0) e (ahead-start law c (w .present));
+      ahead = subst (Ahead (readOf bs .horizon) c C (w .rows .passages) 0) e (ahead-start law c (w .present));
       young = rw (q, x) zeros;
       early = omega (arith, q);
-      location = rw (initial-read bs b (w .placed .valid) c start (w .present) s p) (i .initial);
+      location = rw (initial-read bs b (w .rows .placed .valid) c start (w .present) s p) (i .initial);
     }
   where
     zeros : All (λ x. x ≤ 0) (0 ∷ 0 ∷ 0 ∷ 0 ∷ [])

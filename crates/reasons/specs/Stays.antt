@@ -1,6 +1,6 @@
 -- The passage of a component at a tick, what is known at its entry, and what a question names.
 use mathlib.Core.Path.{_≡_}
-use mathlib.Core.List.{List, map}
+use mathlib.Core.List.{List}
 use mathlib.Core.Option.{Option}
 use Prim.Native.Nat.{ℕ, _≤_, _<_}
 use lib.ListN.{length}
@@ -14,7 +14,8 @@ use Rattle.model.specs.Checks.{passageAt, acceptedScheduleOf}
 use Rattle.model.specs.Reasons.{passageNumber}
 use Rattle.window.specs.declared.Entry.{Entry}
 use Rattle.window.specs.Views.{entryOf}
-use Rattle.rows.specs.Rows.{num, messageOf, rowPassage, rowsOf, RowsPlaced}
+use Rattle.rows.specs.Rows.{num, messageOf, rowPassage}
+use Rattle.schedule.specs.Filled.{AcceptedRows}
 use Rattle.schedule.specs.Going.{cut}
 use Rattle.reasons.specs.declared.Stay.{Stay}
 use Rattle.reasons.specs.declared.Asked.{Asked}
@@ -30,11 +31,7 @@ pub record Grown (a : Arc) (end : ℕ) (at r : Entry) : Type 0 where
 
 -- n rows are the passages of an accepted table's schedule; the component is there, and the tick lies below the horizon
 pub record Walked (bs l : List ℕ) (n c tick : ℕ) : Type 0 where
-  pub passages : List Passage
-  pub acceptedSchedule : acceptedScheduleOf (readOf bs) ≡ accepted passages
-  pub count : n ≡ length passages
-  pub listed : rowsOf l n ≡ map light passages
-  pub placed : RowsPlaced bs l n
+  pub rows : AcceptedRows bs l n
   pub messages : (i : ℕ) → i < n → num l i 6 < 256
   pub present : c < size (readOf bs .table)
   pub below : tick < readOf bs .horizon

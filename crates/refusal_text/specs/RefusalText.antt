@@ -11,8 +11,9 @@ noQuestion = ascii "Does a question have this number?\n"
 
 -- "Checks, in this order": the questions by their numbers. "Check 10 now concerns sends on one band only" (document 02, wish 2). 11 and 15 to 17 are
 -- its question 11 in parts, as document 02's wish 3 tells them apart; 18 is of its wish 4, 19 and 20 of its wish 6: "A G above 1,000 is refused with 19
--- after 3, an offset above G with 20 after 14."; 21 of its wish 7: "An absent component or a tick from H on is refused with 21, after 12."; 22 and 23 of its wish 10: "seed 0 is refused with 22, and lo
--- above hi, hi above 60,000 or runs outside 1 to 10,000 with 23."
+-- after 3, an offset above G with 20 after 14."; 21 of its wish 7: "An absent component or a tick from H on is refused with 21, after 12."; 22 and 23 of its
+-- wish 10: "seed 0 is refused with 22, and lo above hi, hi above 60,000 or runs outside 1 to 10,000 with 23."; 24 of its wish 11: "21 as in Wish 7 comes
+-- first, then 24 for a tick below its predecessor's".
 abbrev pub questions : List (List ℕ)
 questions =
     noQuestion ∷ ascii "Is the first byte 1, 2 or 3?\n"
@@ -38,6 +39,7 @@ questions =
     ∷ ascii "Is the component there and the tick below the horizon?\n"
     ∷ ascii "Is the seed at least 1?\n"
     ∷ ascii "Is lo at most hi, hi at most 60,000, and are the runs 1 to 10,000?\n"
+    ∷ ascii "Is no tick below that of the pair before it?\n"
     ∷ []
 
 unfoldable pub question : ℕ → List ℕ

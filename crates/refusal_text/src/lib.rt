@@ -115,8 +115,8 @@ fn put_question_on_listener(out: &mut [u8], at: usize, number: u8) -> usize
     }
 }
 
-// The questions about numbers handed in: a plan's, the spread, the offsets, a component and a tick, the seed, ticks of work and runs. A number past
-// them has none.
+// The questions about numbers handed in: a plan's, the spread, the offsets, a component and a tick, the seed, ticks of work and runs, the order of pairs.
+// A number past them has none.
 fn put_question_on_numbers(out: &mut [u8], at: usize, number: u8) -> usize
     requires { ⌜ (at + 80 ≤ length (now out)) × (18 ≤ number) ⌝ }
     ensures { λ r. ⌜ Added (now (out .entry)) at (question number) (now (out .exit)) r × (r ≤ at + 80) ⌝ }
@@ -140,6 +140,7 @@ fn put_question_on_numbers(out: &mut [u8], at: usize, number: u8) -> usize
             at,
             b"Is lo at most hi, hi at most 60,000, and are the runs 1 to 10,000?\n",
         ),
+        24 => put(out, at, b"Is no tick below that of the pair before it?\n"),
         _ => put(out, at, b"Does a question have this number?\n"),
     }
 }

@@ -9,12 +9,13 @@ use native.Mathlib.Numerals.{towards-suc}
 use native.Mathlib.Omega.{arith}
 use borrow.Author.Tests.{eqb-true, le-leb, lt-leb}
 use lib.Dec.{eqb}
-use lib.ListN.{length, drop, set, length-append}
+use lib.ListN.{length, drop, set}
 use lib.Seq.{sets, sets-eq}
 use Rattle.model.specs.Lists.{each, snoc, orElse}
 use Rattle.model.specs.declared.Verdict.the-variants.{Accepted}
 use Rattle.model.specs.Schedule.{Passage, sevenOf, light}
 use Rattle.model.specs.Calls.{refusing, laid}
+use Rattle.model.proofs.Basics.Walk.{each-length}
 use Rattle.rows.specs.Rows.{num, messageOf, rowPassage, rowsOf}
 use Rattle.rows.proofs.Grown.{rows-snoc}
 use Rattle.schedule.proofs.Grown.{length-rows}
@@ -43,12 +44,28 @@ unfolding each
 each-snoc f [] x = append-nil (f x)
 each-snoc f (y ∷ xs) x = ap (λ l. f y ++ l) (each-snoc f xs x) ∙ sym (append-assoc (f y) (each f xs) (f x))
 
+-- ## Parts of one width
+
+module _ {A : Type 0} (f : A → List ℕ) (w : ℕ) (sized : (x : A) → length (f x) ≡ w) where
+  -- one part more
+  pub laid-more : (P : List A) (x : A) (k : ℕ) (out out₁ out₂ : List ℕ) → k ≡ length P → out₁ ≡ sets out 0 (each f P) → out₂ ≡ sets out₁ (k * w) (f x)
+      → out₂ ≡ sets out 0 (each f (snoc P x))
+  laid-more P x k out out₁ out₂ n p q =
+      let zero-add : length (each f P) ≡ 0 + length (each f P) = omega arith in
+      let place : k * w ≡ 0 + length (each f P) = ap (λ (m : ℕ). m * w) n ∙ sym (each-length f w sized P) ∙ zero-add in
+      q ∙ rw (p, place) (sym (sets-append (each f P) (f x) out 0)) ∙ ap (sets out 0) (sym (each-snoc f P x))
+
+  -- all of them: what lies past them stays
+  pub laid-all : (P : List A) (k : ℕ) (out : List ℕ) → k ≡ length P → k * w ≤ length out → sets out 0 (each f P) ≡ each f P ++ drop (k * w) out
+  laid-all P k out n h =
+      let long : length (each f P) ≡ k * w = each-length f w sized P ∙ ap (λ (m : ℕ). m * w) (sym n) in
+      let zero-add : 0 + length (each f P) ≡ length (each f P) = omega arith in
+      sets-eq (each f P) out 0 (rw (zero-add, long) h) ∙ ap (λ (m : ℕ). each f P ++ drop m out) (zero-add ∙ long)
+
 -- ## Seven numbers a passage
 
 pub fields-length : (P : List Passage) → length (each sevenOf P) ≡ length P * 7
-unfolding each
-fields-length [] = refl
-fields-length (v ∷ P) = simp length-append (omega (arith, fields-length P))
+fields-length P = each-length sevenOf 7 (λ v. refl) P
 
 -- they say nothing of clocks and variables at entry
 pub fields-light : (P : List Passage) → each sevenOf (map light P) ≡ each sevenOf P
@@ -56,18 +73,13 @@ unfolding each
 fields-light [] = refl
 fields-light (v ∷ P) = ap (λ (l : List ℕ). sevenOf v ++ l) (fields-light P)
 
--- one passage more
+-- one passage more, and all of them
 pub fields-more : (P : List Passage) (v : Passage) (k : ℕ) (out out₁ out₂ : List ℕ) → k ≡ length P → out₁ ≡ sets out 0 (each sevenOf P) → out₂ ≡ sets out₁ (k * 7) (sevenOf v)
     → out₂ ≡ sets out 0 (each sevenOf (snoc P v))
-fields-more P v k out out₁ out₂ n p q =
-    let e : k * 7 ≡ 0 + length (each sevenOf P) = omega (arith, fields-length P) in
-    q ∙ rw (p, e) (sym (sets-append (each sevenOf P) (sevenOf v) out 0)) ∙ ap (sets out 0) (sym (each-snoc sevenOf P v))
+fields-more P v k out out₁ out₂ n p q = laid-more sevenOf 7 (λ v. refl) P v k out out₁ out₂ n p q
 
--- all of them: what lies past them stays
 pub fields-laid : (P : List Passage) (k : ℕ) (out : List ℕ) → k ≡ length P → k * 7 ≤ length out → sets out 0 (each sevenOf P) ≡ each sevenOf P ++ drop (k * 7) out
-fields-laid P k out n h =
-    let z : 0 + length (each sevenOf P) ≡ k * 7 = omega (arith, fields-length P) in
-    sets-eq (each sevenOf P) out 0 (omega arith) ∙ ap (λ m. each sevenOf P ++ drop m out) z
+fields-laid P k out n h = laid-all sevenOf 7 (λ v. refl) P k out n h
 
 -- a result that fits is laid over the front, one that does not is refused
 pub laid-fits : (P : List Passage) (k : ℕ) (listed lent : List ℕ) → k ≡ length P → listed ≡ each sevenOf P → k * 7 ≤ length lent

@@ -10,4 +10,5 @@ pub mod Tables
 pub mod Told
 pub mod Turns
 pub mod Whole
+pub mod Accepted
 pub mod Edges

@@ -25,3 +25,11 @@ scheduleOf bs = schedule limit (readOf bs .table) (readOf bs .horizon)
 
 abbrev pub acceptedScheduleIn : ℕ → List ℕ → Answer (List Passage)
 acceptedScheduleIn G bs = acceptedSchedule limit G (readOf bs .table) (readOf bs .horizon)
+
+-- n rows are the passages of the table's schedule, and checks 10 to 12 accept it at the spread 0
+pub record AcceptedRows (bs l : List ℕ) (n : ℕ) : Type 0 where
+  pub passages : List Passage
+  pub acceptedSchedule : acceptedScheduleIn 0 bs ≡ accepted passages
+  pub count : n ≡ length passages
+  pub listed : rowsOf l n ≡ map light passages
+  pub placed : RowsPlaced bs l n

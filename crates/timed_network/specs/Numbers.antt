@@ -1,4 +1,5 @@
--- The answers of the exported calls `run`, `edge_choice`, `reasons`, `simulate`, `refusal_place` and `refused_opening`, held against their definitions.
+-- The answers of the exported calls `run`, `edge_choice`, `reasons`, `positions`, `simulate`, `refusal_place` and `refused_opening`, held against their
+-- definitions.
 use mathlib.Core.Path.{_≡_}
 use mathlib.Core.List.{List}
 use Prim.Native.Nat.{ℕ}
@@ -6,6 +7,7 @@ use Rattle.model.specs.Window.{Entry}
 use Rattle.model.specs.Calls.{RunCall, numberOf, concernedOf, endNumber, endNode}
 use Rattle.model.specs.EdgeChoice.{EdgeChoiceCall}
 use Rattle.model.specs.Reasons.{ReasonsCall}
+use Rattle.model.specs.Positions.{PositionsCall}
 use Rattle.simulation.specs.Simulated.{SimulateCall}
 use Rattle.refusal_place.specs.declared.Place.{Place}
 use Rattle.timed_network.specs.declared.RunNumbers.{RunNumbers}
@@ -15,6 +17,7 @@ use Rattle.opening_place.specs.declared.RefusedOpening.{RefusedOpening}
 use Rattle.timed_network.specs.declared.places.PlaceNumbers.{PlaceNumbers}
 use Rattle.timed_network.specs.declared.places.OpeningNumbers.{OpeningNumbers}
 use Rattle.timed_network.specs.declared.edge_reasons.ReasonNumbers.{ReasonNumbers}
+use Rattle.timed_network.specs.declared.component_positions.PositionNumbers.{PositionNumbers}
 use Rattle.timed_network.specs.declared.simulated.SimulationNumbers.{SimulationNumbers}
 
 -- every number of the answer, the verdict as two, and every lent byte afterwards
@@ -48,6 +51,13 @@ pub record ReasonNumbersOf (call : ReasonsCall) (r : ReasonNumbers) (later : Lis
   pub component : r .component ≡ concernedOf (call .verdict)
   pub passage : r .passage ≡ call .passage
   pub size : r .size ≡ call .size
+  pub lent : later ≡ call .lent
+
+-- every number of the answer, the verdict as two, and every lent byte afterwards
+pub record PositionNumbersOf (call : PositionsCall) (r : PositionNumbers) (later : List ℕ) : Type 0 where
+  pub number : r .number ≡ numberOf (call .verdict)
+  pub component : r .component ≡ concernedOf (call .verdict)
+  pub read : r .read ≡ call .read
   pub lent : later ≡ call .lent
 
 -- every number of the answer, the verdict as two

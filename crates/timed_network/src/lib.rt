@@ -1,5 +1,6 @@
 // The library for other languages: every exported call and nothing else. Each is a thin function over the call of the same
 // name in a crate below, with the answer written out as numbers.
+pub mod component_positions;
 pub mod edge_reasons;
 pub mod places;
 pub mod simulated;

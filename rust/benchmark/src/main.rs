@@ -7,6 +7,7 @@
 mod apart;
 mod clock;
 mod once;
+mod positions;
 mod processor;
 mod reasons;
 mod refused;
@@ -83,6 +84,7 @@ fn measure(effort: Effort) -> Result<(), String> {
     }
     time_plan(effort)?;
     reasons::time(effort)?;
+    positions::time(effort)?;
     simulation::time(effort)?;
     refused::time(effort)
 }
@@ -220,7 +222,7 @@ fn time_run(effort: Effort, row: &Row, choices: &[u8], each: &str) {
 
 #[cfg(test)]
 mod tests {
-    use super::{apart, demand_agreement, reasons, refused, simulation, tables};
+    use super::{apart, demand_agreement, positions, reasons, refused, simulation, tables};
 
     #[test]
     fn all_sides_agree_on_every_row() {
@@ -236,6 +238,10 @@ mod tests {
         }
         for (name, table, component) in &reasons::asked() {
             let agreed = reasons::demand_agreement(name, table, *component);
+            assert_eq!(agreed, Ok(()));
+        }
+        for (name, table, count) in &positions::asked() {
+            let agreed = positions::demand_agreement(name, table, *count);
             assert_eq!(agreed, Ok(()));
         }
         for (name, table, experiment) in &simulation::tried() {

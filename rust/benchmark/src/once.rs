@@ -3,7 +3,7 @@
 
 use crate::apart::{self, OFFSETS, SPREAD};
 use crate::tables::{apart_rows, rows, slow_rows, Row};
-use crate::{choices_to_the_horizon, last_node, reasons, refused, simulation, PLAN};
+use crate::{choices_to_the_horizon, last_node, positions, reasons, refused, simulation, PLAN};
 use comparison::runs::AMPLE;
 use reference::table::write_table;
 use std::hint::black_box;
@@ -38,6 +38,7 @@ fn all() -> Result<(), String> {
     let mut table = [0; MAX_PLAN];
     tell("a plan of seven probes", "plan", || plan(PLAN, &mut table));
     tell_reasons();
+    tell_positions();
     tell_simulations();
     tell_refused();
     Ok(())
@@ -121,6 +122,16 @@ fn tell_reasons() {
     }
 }
 
+/// Where components are at many ticks.
+fn tell_positions() {
+    for (name, table, count) in positions::asked() {
+        let (bytes, pairs) = (write_table(&table), positions::pairs(&table, count));
+        let mut answers = vec![0; POSITION * count];
+        let ask = || positions_of_numbers(&bytes, &pairs, &mut answers);
+        tell(name, "positions", ask);
+    }
+}
+
 /// Simulated runs.
 fn tell_simulations() {
     for (name, table, experiment) in simulation::tried() {
@@ -174,6 +185,9 @@ fn tell_early(name: &str, table: &[u8]) {
     })
     .ok();
     tell(name, "reasons", || reasons_into(table, 0, 0, &mut []));
+    tell(name, "positions", || {
+        positions_of_numbers(table, &[], &mut [])
+    });
     tell(name, "simulate", || {
         simulate_numbers(table, [0, 1], 1, None)
     });

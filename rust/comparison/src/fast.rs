@@ -7,7 +7,9 @@ use crate::readers::{
 };
 use crate::simulations::Experiment;
 use std::cell::RefCell;
-use timed_network::{Call, Meetings, RunNumbers, SimulationNumbers, Slots, Told, Verdict, NO_NODE};
+use timed_network::{
+    Call, Meetings, Positioned, RunNumbers, SimulationNumbers, Slots, Told, Verdict, NO_NODE,
+};
 use yardstick::{Place, Refusal, RefusedOpening, Run, Yardstick};
 
 thread_local! {
@@ -29,6 +31,7 @@ pub(crate) const READER: Reader = Reader {
     plan,
     edge_choice: second_edge_choice,
     reasons,
+    positions,
     part,
     run,
     simulate,
@@ -98,6 +101,19 @@ fn reasons(table: &[u8], component: u32, tick: u32, told: &mut [u8]) -> Told {
             verdict: verdict(refusal),
             passage: 0,
             size: 0,
+        },
+    }
+}
+
+fn positions(table: &[u8], numbers: &[u32], answers: &mut [u8]) -> Positioned {
+    match with(|yardstick| yardstick.positions(table, numbers, answers)) {
+        Ok(read) => Positioned {
+            verdict: Verdict::Accepted,
+            read,
+        },
+        Err(refusal) => Positioned {
+            verdict: verdict(refusal),
+            read: 0,
         },
     }
 }

@@ -4,13 +4,13 @@
 //! Both sides get the same tables, class after class, and are lent lists and bytes
 //! of the same lengths for schedules, charts, programs, plans and observations; at
 //! the entries of schedules and at others both are asked for the edge that is
-//! taken, and at ticks of accepted tables why it is. Of each table both are asked where it is refused by checks 4 to 9. At
-//! spreads both are asked for verdicts and for the windows that met, and run nodes
-//! that wake apart. Both count simulated runs, each of which is handed on as a list of
-//! choices. Of accepted tables random paths of the network within the
-//! schedule are drawn, and found again in runs. The first difference ends the
-//! comparison. Each run is also held to demand 3, with the finish ticks in its
-//! observations.
+//! taken, and at ticks of accepted tables why it is, and where components are. Of each
+//! table both are asked where it is refused by checks 4 to 9. At spreads both are asked
+//! for verdicts and for the windows that met, and run nodes that wake apart. Both count
+//! simulated runs, each of which is handed on as a list of choices. Of accepted tables
+//! random paths of the network within the schedule are drawn, and found again in runs.
+//! The first difference ends the comparison. Each run is also held to demand 3, with the
+//! finish ticks in its observations.
 //! [`tables`] makes well-formed tables, [`layout`] and [`bytes`] serve to
 //! damage them, [`runs`] draws choices, [`classes`] lists what is tried,
 //! [`trial`] tries it.
@@ -26,6 +26,7 @@ mod fast;
 pub mod layout;
 pub mod lists;
 pub mod places;
+pub mod positions;
 pub mod programs;
 pub mod random;
 pub mod readers;
@@ -121,10 +122,11 @@ pub struct Least {
 /// What the comparison should have tried and did not: a class without cases,
 /// an answer that never came, one of the faults of a send's hearing that came
 /// too rarely, lists or bytes that never came back in one of the ways, a kind of
-/// edge choice or a reason of an edge that never came, parts never found or never missed, a kind of run
-/// that is too rare, an answer at a spread or a kind of run of nodes that wake
-/// apart that is, a way in which checks 4 to 9 stop that is, a kind of path, of finish
-/// tick or of simulation that is, fewer cases or runs in all than demanded.
+/// edge choice, a reason of an edge or an answer to pairs that never came, parts never
+/// found or never missed, a kind of run that is too rare, an answer at a spread or a kind
+/// of run of nodes that wake apart that is, a way in which checks 4 to 9 stop that is, a
+/// kind of path, of finish tick or of simulation that is, fewer cases or runs in all than
+/// demanded.
 pub fn gaps(tallies: &[Tally], least: &Least) -> Vec<String> {
     let empty = tallies.iter().filter(|tally| tally.is_empty());
     let mut gaps: Vec<String> = empty
@@ -144,6 +146,7 @@ pub fn gaps(tallies: &[Tally], least: &Least) -> Vec<String> {
     gaps.extend(hearing_gaps(&sum, least.of_each_hearing));
     gaps.extend(list_gaps(&sum));
     gaps.extend(sum.asked.gaps());
+    gaps.extend(sum.located.gaps());
     gaps.extend(sum.runs.gaps(least.of_each_kind));
     gaps.extend(sum.spreads.gaps(least.of_each_apart));
     gaps.extend(sum.apart.gaps(least.of_each_apart));

@@ -1,7 +1,9 @@
 //! The implementations that are compared, two at a time.
 
 mod apart;
+mod last;
 mod places;
+mod positions;
 mod reasons;
 mod simulations;
 
@@ -11,6 +13,7 @@ pub use apart::{
 };
 use places::{library_opening, library_place};
 pub use places::{second_opening, second_place, OpeningNumbers, PlaceNumbers, NONE};
+pub use positions::second_positions;
 pub use reasons::second_reasons;
 use simulations::library_simulate;
 pub use simulations::{refused_simulation, second_simulate};
@@ -21,8 +24,8 @@ use reference::run::Outcome;
 use reference::table::Refusal;
 use reference::{calls, edge_choice, plan};
 use timed_network::{
-    Call, EdgeChoice, Entry, Meetings, RunNumbers, SimulationNumbers, Slots, TakenEdge, Told,
-    Verdict, FIELDS, NO_MESSAGE, NO_NODE,
+    Call, EdgeChoice, Entry, Meetings, Positioned, RunNumbers, SimulationNumbers, Slots, TakenEdge,
+    Told, Verdict, FIELDS, NO_MESSAGE, NO_NODE,
 };
 
 /// The numbers that `check` answers: 0 where it accepts, then those of the
@@ -46,6 +49,8 @@ pub const NO_QUESTION: u8 = 21;
 pub const NO_SEED: u8 = 22;
 /// The refusal of a simulation whose work times or runs are out of range.
 pub const NO_SIMULATION: u8 = 23;
+/// The refusal of a pair whose tick is below that of the pair before it.
+pub const UNSORTED: u8 = 24;
 
 /// A call that finds one node's part of a program.
 pub type Part = for<'a> fn(&'a [u8], u8) -> &'a [u8];
@@ -60,6 +65,8 @@ pub type Run = fn(&[u8], &[u8], &mut [u8]) -> RunNumbers;
 pub type Chooses = fn(&[u8], &Entry) -> Result<EdgeChoice, Verdict>;
 /// A call that tells why an edge is taken.
 pub type Reasons = fn(&[u8], u32, u32, &mut [u8]) -> Told;
+/// A call that tells where components are at ticks.
+pub type Positions = fn(&[u8], &[u32], &mut [u8]) -> Positioned;
 /// A call that judges a table at a spread.
 pub type ChecksSpread = fn(&[u8], u32) -> Verdict;
 /// A call that lists the windows that met at a spread.
@@ -90,6 +97,8 @@ pub struct Reader {
     pub edge_choice: Chooses,
     /// Why it says that an edge is taken at a tick, and writes.
     pub reasons: Reasons,
+    /// Where it says that components are at ticks, and writes.
+    pub positions: Positions,
     /// What it finds as one node's part of a program.
     pub part: Part,
     /// What it says of a table's run under choices, and writes.
@@ -134,6 +143,7 @@ impl Readers {
                 timed_network::edge_choice(table, entry).map_err(Verdict::from)
             },
             reasons: timed_network::reasons_into,
+            positions: timed_network::positions_of_numbers,
             part: timed_network::part,
             run: timed_network::run_numbers,
             simulate: library_simulate,
@@ -169,6 +179,7 @@ impl Reader {
             plan: second_plan,
             edge_choice: second_edge_choice,
             reasons: second_reasons,
+            positions: second_positions,
             part: second_part,
             run: second_run,
             simulate: second_simulate,

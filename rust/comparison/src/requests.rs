@@ -1,11 +1,14 @@
-//! The programs, parts, charts, plans, edge choices, reasons, verdicts at a spread, runs,
-//! simulated ones and places of refusals that the vectors keep, with their answers.
+//! The programs, parts, charts, plans, edge choices, reasons, positions, verdicts at a
+//! spread, runs, simulated ones and places of refusals that the vectors keep, with their
+//! answers.
 
 mod apart;
+mod positions;
 mod simulated;
 mod why;
 
 pub use apart::Apart;
+pub use positions::Where;
 pub use simulated::Simulated;
 pub use why::Why;
 
@@ -59,6 +62,8 @@ pub enum Request {
     },
     /// Why an edge is taken.
     Why(Why),
+    /// Where components are at ticks.
+    Where(Where),
     /// A run of a table.
     Run {
         /// The table.
@@ -148,6 +153,9 @@ fn request(line: &str) -> Option<Option<Request>> {
         (["plan", numbers @ ..], _) => plan(numbers, answer)?,
         (["looked", table], _) => looked(table, answer)?,
         (["why", ..] | ["lent", _, "why", ..], _) => Request::Why(why::read(&words, answer)?),
+        (["where", ..] | ["lent", _, "where", ..], _) => {
+            Request::Where(positions::read(&words, answer)?)
+        }
         (["sim", ..], _) => Request::Simulated(simulated::read(&words, answer)?),
         (["place", table], _) => Request::Place {
             table: unhex(table)?,

@@ -6,8 +6,8 @@ use crate::requests::located;
 use std::fs;
 use std::path::{Path, PathBuf};
 use table_text::corpus::{
-    names_with_runs, names_with_spreads, read_answers, read_questions, read_runs, read_schedule,
-    read_spreads, Answer, StoredRun,
+    names_with_pairs, names_with_runs, names_with_spreads, read_answers, read_pairs,
+    read_questions, read_runs, read_schedule, read_spreads, Answer, StoredPairs, StoredRun,
 };
 use table_text::schedule::{self, Passage};
 use timed_network::Verdict;
@@ -130,6 +130,19 @@ pub fn corpus_runs() -> Result<Vec<(Vec<u8>, StoredRun)>, String> {
         let bytes = fs::read(&file).map_err(|error| at(&file, &error.to_string()))?;
         let runs = read_runs(&folder, &name)?.into_iter();
         all.extend(runs.map(|run| (bytes.clone(), run)));
+    }
+    Ok(all)
+}
+
+/// The tables of the corpus that have pairs, with each list of them.
+pub fn corpus_pairs() -> Result<Vec<(Vec<u8>, StoredPairs)>, String> {
+    let folder = folder("corpus");
+    let mut all = Vec::new();
+    for name in names_with_pairs(&folder)? {
+        let file = folder.join(format!("{name}.bin"));
+        let bytes = fs::read(&file).map_err(|error| at(&file, &error.to_string()))?;
+        let lists = read_pairs(&folder, &name)?.into_iter();
+        all.extend(lists.map(|list| (bytes.clone(), list)));
     }
     Ok(all)
 }

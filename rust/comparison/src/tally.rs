@@ -2,6 +2,7 @@
 
 use crate::edge_choices::Chosen;
 use crate::places::Places;
+use crate::positions::Located;
 use crate::readers::{NUMBERS, TOO_SHORT};
 use crate::reasons::Asked;
 use crate::runs::apart::RunsApart;
@@ -34,6 +35,8 @@ pub struct Tally {
     pub edge_choices: EdgeChoices,
     /// The questions why edges are taken.
     pub asked: Asked,
+    /// The pairs that were asked for positions.
+    pub located: Located,
     /// The parts that were found in programs, and those that were not.
     pub parts: [u64; 2],
     /// The runs.
@@ -164,6 +167,7 @@ impl Tally {
             plans: Lists::default(),
             edge_choices: EdgeChoices::default(),
             asked: Asked::default(),
+            located: Located::default(),
             parts: [0; 2],
             runs: Runs::default(),
             simulated: Simulated::default(),
@@ -184,7 +188,7 @@ impl Tally {
         let lent = self.charts.all() + self.plans.all();
         let runs = self.runs.all() + self.simulated.all() + self.apart.all();
         let others = self.parts.iter().sum::<u64>() + self.spreads.all() + self.paths.all();
-        self.cases() + lent + runs + others == 0
+        self.cases() + lent + runs + others + self.located.all() == 0
     }
 
     /// Counts an answer, which must be one that there is.
@@ -217,6 +221,7 @@ impl Tally {
             sum.plans.add(&tally.plans);
             sum.edge_choices.add(&tally.edge_choices);
             sum.asked.add(&tally.asked);
+            sum.located.add(&tally.located);
             for (all, own) in sum.parts.iter_mut().zip(tally.parts) {
                 *all += own;
             }
@@ -232,8 +237,8 @@ impl Tally {
 }
 
 /// What was tried: the answers that were given, each with how often, then
-/// lists, programs, charts, plans, edge choices, questions, parts, runs, simulated ones,
-/// what there is of nodes that wake apart, where the tables were refused, and paths.
+/// lists, programs, charts, plans, edge choices, questions, pairs, parts, runs, simulated
+/// ones, what there is of nodes that wake apart, where the tables were refused, and paths.
 impl fmt::Display for Tally {
     fn fmt(&self, out: &mut fmt::Formatter<'_>) -> fmt::Result {
         let [accepted, refusals @ ..] = &self.answers;
@@ -262,6 +267,9 @@ impl fmt::Display for Tally {
         }
         if self.asked.all() > 0 {
             write!(out, "; {}", self.asked)?;
+        }
+        if self.located.all() > 0 {
+            write!(out, "; {}", self.located)?;
         }
         let [found, empty] = self.parts;
         let parts = found + empty;

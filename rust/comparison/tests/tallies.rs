@@ -1,6 +1,7 @@
 //! What was counted is told, and so is what was not tried.
 
 use comparison::places::Places;
+use comparison::positions::Located;
 use comparison::reasons::Asked;
 use comparison::runs::apart::RunsApart;
 use comparison::runs::paths::Paths;
@@ -40,6 +41,17 @@ fn tally(class: &'static str, answers: [u64; 16]) -> Tally {
             short: 2,
             absent: 1,
             refused: 1,
+        },
+        located: Located {
+            written: 9,
+            without: 2,
+            left_over: 1,
+            short: 3,
+            absent: 4,
+            unsorted: 5,
+            refused: 6,
+            pairs: [70, 80],
+            above_255: 7,
         },
         parts: [5, 4],
         runs: all_kinds(),
@@ -225,6 +237,15 @@ fn what_was_not_tried_is_told() {
         "no reasons were too long",
         "no question was refused with 21",
         "no refused table was asked for reasons",
+        "no list of no pairs was answered",
+        "no list had a number left over",
+        "no answers to pairs were too long",
+        "no pair was refused with 21",
+        "no pair was refused with 24",
+        "no refused table was asked for positions",
+        "no pair was before ready",
+        "no pair was in the window",
+        "no pair was in a passage above 255",
     ];
     assert_eq!(gaps(&[bare], &least(0, 0)), told);
     let no_runs = Tally {
@@ -280,6 +301,9 @@ fn a_line_tells_all_answers_that_were_given() {
                 7 questions: written 3, too short 2, refused 21: 1, table refused 1; \
                 edges: taken 9, data bound 8, no window 7, ready later 6, numbered higher 5 \
                 (4 data bounds behind another); \
+                27 lists of pairs: written 9 (2 without a pair, 1 with a number left over), \
+                too short 3, refused 21: 4, refused 24: 5, table refused 6; \
+                pairs: before ready 70, in the window 80 (7 above passage 255); \
                 9 parts: found 5, empty 4; 38 runs: 7 horizon, 7 used up, 7 late \
                 (5 at work, 4 for a sleep, 2 several nodes), 7 not allowed \
                 (1 no such node, 1 nothing kept, 1 early sleep, 2 early listen, \

@@ -3,6 +3,7 @@
 #![forbid(unsafe_code)]
 
 pub mod json;
+pub mod positions;
 pub mod refusals;
 pub mod run;
 pub mod simulate;

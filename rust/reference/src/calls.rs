@@ -1,4 +1,4 @@
-//! The exported calls over lent buffers, with checks 13, 14, 18 and 20 to 23.
+//! The exported calls over lent buffers, with checks 13, 14, 18 and 20 to 24.
 //!
 //! "Lent buffers keep their bytes; on success so do those past the result."
 
@@ -8,6 +8,7 @@ use crate::edge_choice::{self, EdgeChoice, Entry};
 use crate::opening::RefusedOpening;
 use crate::place::{self, Place};
 use crate::plan::{self, Slots};
+use crate::positions::{self, Question};
 use crate::program::{self, program_length, write_program};
 use crate::reasons;
 use crate::run::{run_apart_into, Outcome, OBSERVATION};
@@ -164,6 +165,38 @@ pub fn reasons_of(
         passage: reasons.passage,
         size: reasons.edges.len(),
     })
+}
+
+/// The bytes of a pair's answer: "3 bytes each".
+pub const POSITION: usize = 3;
+
+/// Writes where components are at ticks, [`POSITION`] bytes a pair, and gives the number
+/// of passages read. The pairs are lent as numbers, a component and its tick in turn; a
+/// number left over at the end is none. 21 and 24 are given for the first bad pair.
+/// "After them, 13 counts 3 bytes a pair."
+pub fn positions(table: &[u8], numbers: &[u32], bytes: &mut [u8]) -> Result<usize, Refusal> {
+    let (table, passages) = verdict(table)?;
+    positions_of(&table, &passages, numbers, bytes)
+}
+
+/// The same for an accepted table that was read, with its schedule.
+pub fn positions_of(
+    table: &Table,
+    passages: &[Passage],
+    numbers: &[u32],
+    bytes: &mut [u8],
+) -> Result<usize, Refusal> {
+    let pair = |numbers: &[u32]| Question {
+        component: numbers[0],
+        tick: numbers[1],
+    };
+    let pairs: Vec<Question> = numbers.chunks_exact(2).map(pair).collect();
+    let positions = positions::positions(table, passages, &pairs)?;
+    demand_room(bytes.len() / POSITION, pairs.len())?;
+    for (place, answer) in bytes.chunks_exact_mut(POSITION).zip(&positions.answers) {
+        place.copy_from_slice(&answer.bytes());
+    }
+    Ok(positions.read)
 }
 
 /// Simulated runs of a table: "the generator starts from its fixed seed 2463534242

@@ -1,12 +1,14 @@
 //! A folder of tables: for each name a source `NAME.txt` and its bytes
 //! `NAME.bin`, for each accepted one its schedule `NAME.schedule` and why edges are
 //! taken `NAME.why`, for some of them its chart `NAME.chart`, its verdicts at spreads
-//! `NAME.spread` or runs `NAME.runs`, and one file `answers.tsv` with the answers of
-//! checks 1 to 12.
+//! `NAME.spread`, runs `NAME.runs` or where components are at ticks `NAME.where`, and one
+//! file `answers.tsv` with the answers of checks 1 to 12.
 
+mod pairs;
 mod questions;
 mod runs;
 
+pub use pairs::{names_with_pairs, read as read_pairs, StoredPairs};
 pub use questions::{read as read_questions, Question};
 pub use runs::{names_with_runs, read as read_runs, StoredRun};
 
@@ -73,6 +75,7 @@ pub fn verify(folder: &Path) -> Result<usize, Vec<String>> {
     problems.extend(verify_schedules(folder, &answers).map_err(whole)?);
     problems.extend(questions::verify(folder, &accepted(&answers)).map_err(whole)?);
     problems.extend(runs::verify(folder, &accepted(&answers)).map_err(whole)?);
+    problems.extend(pairs::verify(folder, &accepted(&answers)).map_err(whole)?);
     problems.extend(verify_charts(folder).map_err(whole)?);
     problems.extend(verify_spreads(folder, &answers).map_err(whole)?);
     count_unless(problems, sources.len())

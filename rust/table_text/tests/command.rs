@@ -366,3 +366,46 @@ fn verify_reads_the_runs() {
     assert_eq!(call("verify", &folder), (Some(1), other));
     fs::remove_dir_all(folder).unwrap();
 }
+
+#[test]
+fn verify_reads_the_pairs() {
+    let folder = folder_with_one("pairs");
+    let file = |name: &str, text: &str| fs::write(folder.join(name), text).unwrap();
+    file("two.txt", GOOD);
+    file("two.schedule", SCHEDULE);
+    file("two.why", QUESTIONS);
+    file("answers.tsv", "one\trefused 3 255\ntwo\taccepted\n");
+    assert_eq!(call("build", &folder).0, Some(0));
+    let pairs = "- 0|-\n0:0,1:3 2|000000000101\n0:3,0:2 refused 24 255\n9:0 refused 21 255\n";
+    file("two.where", pairs);
+    let verified = "2 tables verified\n".to_string();
+    assert_eq!(call("verify", &folder), (Some(0), verified));
+
+    let form = "write: COMPONENT:TICK,.., then: READ|BYTES, or: refused N 255";
+    for bad in [
+        "0:0",
+        "0 1|000000",
+        "0:x 1|000000",
+        "0:0, 1|000000",
+        "0:0 1|0000",
+        "0:0 1|00000g",
+        "0:0 1|-",
+        "0:0 x|000000",
+        "- 0|",
+        "- 0",
+        "0:0 refused 13 255",
+        "0:0 accepted",
+    ] {
+        file("two.where", bad);
+        let told = format!("two.where: line 1: {form}\n");
+        assert_eq!(call("verify", &folder), (Some(1), told), "{bad}");
+    }
+    file("two.where", "");
+    let none = "two.where: is empty\n".to_string();
+    assert_eq!(call("verify", &folder), (Some(1), none));
+    file("two.where", pairs);
+    file("one.where", pairs);
+    let other = "one: has pairs and is not accepted\n".to_string();
+    assert_eq!(call("verify", &folder), (Some(1), other));
+    fs::remove_dir_all(folder).unwrap();
+}

@@ -11,8 +11,8 @@ use reference::schedule::print;
 use reference::table::read_table;
 use std::fs;
 use table_text::corpus::{
-    names_with_runs, names_with_spreads, read_answers, read_chart, read_questions, read_runs,
-    read_schedule, read_spreads, verify, Answer, StoredRun,
+    names_with_pairs, names_with_runs, names_with_spreads, read_answers, read_chart, read_pairs,
+    read_questions, read_runs, read_schedule, read_spreads, verify, Answer, StoredPairs, StoredRun,
 };
 
 fn stored() -> Vec<(String, Answer, Vec<u8>)> {
@@ -242,6 +242,40 @@ fn the_finish_ticks_of_one_message() {
             assert!(run.answer.contains(&second), "{offsets:?} {second}");
         }
     }
+}
+
+/// The second implementation's answer to stored pairs.
+fn located(table: &[u8], list: &StoredPairs) -> String {
+    let mut bytes = vec![0; 3 * list.pairs.len()];
+    match calls::positions(table, list.pairs.as_flattened(), &mut bytes) {
+        Ok(read) if bytes.is_empty() => format!("{read}|-"),
+        Ok(read) => {
+            let hex: String = bytes.iter().map(|byte| format!("{byte:02x}")).collect();
+            format!("{read}|{hex}")
+        }
+        Err(refusal) => format!("refused {} {}", refusal.number, refusal.component),
+    }
+}
+
+#[test]
+fn pairs_are_answered_as_in_document_02() {
+    let folder = corpus_folder();
+    let names = names_with_pairs(&folder).unwrap();
+    assert_eq!(names.len(), 3);
+    let mut kinds = [0; 3];
+    for name in names {
+        let table = fs::read(folder.join(format!("{name}.bin"))).unwrap();
+        for list in read_pairs(&folder, &name).unwrap() {
+            let given = located(&table, &list);
+            assert_eq!(given, list.answer, "{name}");
+            kinds[match &given[..] {
+                "refused 21 255" => 1,
+                "refused 24 255" => 2,
+                _ => 0,
+            }] += 1;
+        }
+    }
+    assert_eq!(kinds, [19, 7, 4]);
 }
 
 #[test]

@@ -1,7 +1,7 @@
 //! The library's own calls, as `include/timed_network.h` declares them. All
 //! code that the compiler cannot vouch for stands in this module, in
-//! `node::exported`, in `places::exported`, in `reasons::exported`, in
-//! `simulation::exported` and in `spread::exported`.
+//! `node::exported`, in `places::exported`, in `positions::exported`, in
+//! `reasons::exported`, in `simulation::exported` and in `spread::exported`.
 #![allow(unsafe_code)]
 
 /// A verdict as two numbers: 0 for accepted, else the number of the refusal;

@@ -7,7 +7,8 @@
 //! windows met where checks 10 to 12 refuse a table, [`refusal_place`] at which
 //! byte checks 4 to 6 stop, [`refused_opening`] at which opening of a passage
 //! checks 7 to 9 do, [`edge_choice`] which edge a component takes at an
-//! entry, [`reasons`] why it takes the one that it takes at a tick. [`plan`] writes the table of a cellar in which
+//! entry, [`reasons`] why it takes the one that it takes at a tick, [`positions`] where
+//! components are at many ticks. [`plan`] writes the table of a cellar in which
 //! each probe has a slot of its own. [`translate`] writes the
 //! program of an accepted table, [`program`] gives it as bytes of its own,
 //! [`part`] finds one node's part in it, [`run`] carries out choices and writes
@@ -15,7 +16,7 @@
 //! that wake apart there are [`check_spread`], [`largest_spread`],
 //! [`meetings_spread`] and [`run_apart`]. [`simulate`] counts the late ones of runs
 //! whose work times are drawn. [`node`] has one node whose registers
-//! the caller lends. The declarations of the library stand in six private
+//! the caller lends. The declarations of the library stand in seven private
 //! modules; each call gets its safe form.
 //!
 //! Every slice may be lent: an empty one, one of any length (a slice never
@@ -30,6 +31,7 @@ mod exported;
 pub mod node;
 mod observation;
 mod places;
+mod positions;
 mod reasons;
 mod refusal;
 mod running;
@@ -39,6 +41,7 @@ mod spread;
 pub use exported::{Entry, Passage, RunNumbers};
 pub use observation::{Observation, NO_WORK, OBSERVATION};
 pub use places::{refusal_place, refused_opening, Part, Place, RefusedOpening};
+pub use positions::{positions, positions_of_numbers, Position, Positioned, Positions, POSITION};
 pub use reasons::{reasons, reasons_into, Reason, Reasons, Told, REASON, REASONS_ENOUGH};
 pub use refusal::{Refusal, Refused, UnknownNumber, Verdict, NO_COMPONENT};
 pub use running::{

@@ -8,7 +8,7 @@ use std::fmt;
 pub const NO_COMPONENT: u8 = 255;
 
 /// Why a table or a call is refused: the question that is answered with no, by
-/// the numbers of document 01; 15 to 23 are those of document 02. Displayed as
+/// the numbers of document 01; 15 to 24 are those of document 02. Displayed as
 /// that question, in the words of the proved text (`crates/refusal_text`).
 ///
 /// ```
@@ -73,10 +73,12 @@ pub enum Refusal {
     Seed = 22,
     /// 23: the work times or the runs of a simulation are out of range.
     Simulation = 23,
+    /// 24: the tick of a pair is below that of the pair before it.
+    Order = 24,
 }
 
 /// The question of each refusal, in the order of their numbers.
-const QUESTIONS: [&str; 23] = [
+const QUESTIONS: [&str; 24] = [
     "Is the first byte 1, 2 or 3?",
     "Is the stated length the length handed in, from 7 to 8,192?",
     "Are components, channels, horizon and bands in range?",
@@ -100,11 +102,12 @@ const QUESTIONS: [&str; 23] = [
     "Is the component there and the tick below the horizon?",
     "Is the seed at least 1?",
     "Is lo at most hi, hi at most 60,000, and are the runs 1 to 10,000?",
+    "Is no tick below that of the pair before it?",
 ];
 
 impl Refusal {
     /// All refusals, in the order of their numbers, which start with 1.
-    pub const ALL: [Refusal; 23] = [
+    pub const ALL: [Refusal; 24] = [
         Refusal::Version,
         Refusal::Length,
         Refusal::Header,
@@ -128,9 +131,10 @@ impl Refusal {
         Refusal::Question,
         Refusal::Seed,
         Refusal::Simulation,
+        Refusal::Order,
     ];
 
-    /// Its number, 1 to 23.
+    /// Its number, 1 to 24.
     pub fn number(self) -> u8 {
         self as u8
     }

@@ -12,8 +12,8 @@
 //! all of them again where nodes wake apart. `translate` writes programs, `part`
 //! finds one node's part, `run` carries out choices, `chart` draws the schedule,
 //! `plan` writes the table of a plan, `reasons` tells why an edge is taken, `simulation`
-//! counts late runs with drawn work times. `place` and `refused` tell where a table is
-//! refused.
+//! counts late runs with drawn work times, `positions` tells where components are at
+//! ticks. `place` and `refused` tell where a table is refused.
 #![forbid(unsafe_code)]
 #![warn(missing_docs)]
 
@@ -23,6 +23,7 @@ mod opening;
 mod part;
 mod place;
 mod plan;
+mod positions;
 mod read;
 mod reasons;
 mod refused;
@@ -36,6 +37,7 @@ mod translate;
 pub use part::part;
 pub use place::Place;
 pub use plan::plan;
+pub use positions::POSITION;
 pub use reasons::{Told, REASON};
 pub use refused::RefusedOpening;
 pub use simulation::{Simulation, MAX_RUNS, MAX_WORK, SEED};
@@ -65,7 +67,7 @@ pub const MAX_SPREAD: u32 = 1000;
 #[derive(Clone, Copy, Debug, PartialEq, Eq)]
 pub struct Refusal {
     /// The number of the check that is not passed: 1 to 12 or 15
-    /// to 17, 13, 14, or 18 to 23.
+    /// to 17, 13, 14, or 18 to 24.
     pub number: u8,
     /// The component concerned, or [`NONE`].
     pub component: u8,

@@ -44,7 +44,7 @@ from-length : (i n : ℕ) → length (from i n) ≡ n
 from-length i zero = refl
 from-length i (suc n) = ap suc (from-length (suc i) n)
 
-only-few : {A : Type 0} (p : A → Bool) (xs : List A) → length (only p xs) ≤ length xs
+pub only-few : {A : Type 0} (p : A → Bool) (xs : List A) → length (only p xs) ≤ length xs
 only-few p [] = omega arith
 only-few p (x ∷ xs) = go (p x) (only-few p xs)
   where

@@ -19,7 +19,7 @@ abbrev μ-loop : tie.MeasureT-loop
 start-entry-requires : tie.Need-start-entry-requires Inv-loop μ-loop
 start-entry-requires c κs =
     let e = c .before .before in
-    omega (arith, start-fits (e .args .table .now) (c .before .shared-slice-known .given) (e .pre .0 .placed .valid) (e .args .c) (e .args .start) (e .pre .0 .present) (e .pre .1))
+    omega (arith, start-fits (e .args .table .now) (c .before .shared-slice-known .given) (e .pre .0 .rows .placed .valid) (e .args .c) (e .args .start) (e .pre .0 .present) (e .pre .1))
 
 loop-holds : tie.Need-loop-holds Inv-loop μ-loop
 loop-holds c =

@@ -17,6 +17,7 @@ mod openings;
 mod paths;
 mod places;
 mod planned;
+mod positions;
 mod programs;
 mod random_bytes;
 mod running;
@@ -75,7 +76,7 @@ const fn class(name: &'static str, run: fn(&mut Trial, &mut Random, &Extent) -> 
 }
 
 /// All classes, in the order in which they are tried.
-pub const CLASSES: [Class; 99] = [
+pub const CLASSES: [Class; 103] = [
     class("vectors", stored::vectors),
     class("corpus", stored::corpus),
     class("random bytes", random_bytes::anything),
@@ -187,4 +188,8 @@ pub const CLASSES: [Class; 99] = [
     class("simulations of windows close together", simulated::close),
     class("simulations with budgets", simulated::with_budgets),
     class("simulations of the longest work", simulated::longest_work),
+    class("positions: stored tables", positions::stored),
+    class("positions: planned tables", positions::planned),
+    class("positions: internal loops", positions::workers),
+    class("positions: windows close together", positions::close),
 ];

@@ -11,7 +11,7 @@ use crate::requests::{self, Apart, Request};
 use crate::runs::apart::Handed;
 use crate::stored::{self, Stored};
 use crate::trial::Trial;
-use timed_network::RunNumbers;
+use timed_network::{RunNumbers, POSITION};
 
 pub(super) fn vectors(trial: &mut Trial, _: &mut Random, _: &Extent) -> Outcome {
     expect_all(trial, stored::vectors())
@@ -33,6 +33,10 @@ pub(super) fn corpus(trial: &mut Trial, _: &mut Random, _: &Extent) -> Outcome {
     for (table, question, answer) in stored::corpus_questions().map_err(Stop::Unreadable)? {
         trial.expect_reasons(&table, &question, AMPLE, &answer)?;
     }
+    for (table, list) in stored::corpus_pairs().map_err(Stop::Unreadable)? {
+        let numbers = list.pairs.as_flattened();
+        trial.expect_positions(&table, numbers, POSITION * list.pairs.len(), &list.answer)?;
+    }
     for (table, answer, words) in stored::corpus_places().map_err(Stop::Unreadable)? {
         match refused_by(answer, &READ) {
             Some(_) => trial.expect_place(&table, &words)?,
@@ -52,8 +56,8 @@ fn expect_all(trial: &mut Trial, tables: Result<Vec<Stored>, String>) -> Outcome
     Ok(())
 }
 
-/// The programs, parts, charts, plans, edge choices, reasons, verdicts at a spread, runs,
-/// simulated ones and places of refusals of the vectors.
+/// The programs, parts, charts, plans, edge choices, reasons, positions, verdicts at a
+/// spread, runs, simulated ones and places of refusals of the vectors.
 pub(super) fn requests(trial: &mut Trial, _: &mut Random, _: &Extent) -> Outcome {
     for request in requests::requests().map_err(Stop::Unreadable)? {
         match &request {
@@ -82,6 +86,9 @@ pub(super) fn requests(trial: &mut Trial, _: &mut Random, _: &Extent) -> Outcome
             Request::Looked { table, answer } => trial.expect_looked(table, answer)?,
             Request::Why(why) => {
                 trial.expect_reasons(&why.table, &why.question, why.lent, &why.answer)?
+            }
+            Request::Where(asked) => {
+                trial.expect_positions(&asked.table, &asked.numbers, asked.lent, &asked.answer)?
             }
             Request::Run {
                 table,

@@ -5,6 +5,7 @@ mod asking;
 mod choosing;
 mod following;
 mod locating;
+mod positioning;
 mod running;
 mod simulating;
 mod spreading;
@@ -59,13 +60,13 @@ impl<'a> Trial<'a> {
         self.case(input, Expected::Past(number))
     }
 
-    /// A case that is accepted, with its schedule.
+    /// A case that is accepted, with its schedule, which is held to before what is asked
+    /// by it.
     pub fn expect_passages(&mut self, input: &[u8], passages: &[[u32; FIELDS]]) -> Outcome {
-        self.expect(input, Verdict::Accepted)?;
         let library = Lent::to(&self.readers.library, input, AMPLE);
         let second = Lent::to(&self.readers.second, input, AMPLE);
         if library.passages() == passages && second.passages() == passages {
-            return Ok(());
+            return self.expect(input, Verdict::Accepted);
         }
         let unlike = Unlike {
             library: format!("{:?}", library.passages()),
@@ -106,6 +107,7 @@ impl<'a> Trial<'a> {
         self.chart_accepted(input)?;
         self.choose_accepted(input)?;
         self.ask_accepted(input)?;
+        self.position_accepted(input)?;
         self.translate_accepted(input)
     }
 
@@ -121,6 +123,7 @@ impl<'a> Trial<'a> {
             self.translate_and_run_refused(input, count / every)?;
             self.choose_refused(input)?;
             self.ask_refused(input)?;
+            self.position_refused(input)?;
             self.simulate_refused(input)?;
         }
         Ok(())

@@ -182,6 +182,12 @@ pub fn vectors_of_simulations() -> Vec<Vector> {
     read_vectors(&["simulations.tsv"])
 }
 
+/// The cases of where components are at ticks: `where`, before it `lent` where it is
+/// said how many bytes are lent.
+pub fn vectors_of_positions() -> Vec<Vector> {
+    read_vectors(&["positions.tsv"])
+}
+
 fn read_vectors(files: &[&str]) -> Vec<Vector> {
     let mut all = Vec::new();
     for file in files {

@@ -12,8 +12,9 @@ use Rattle.decoder.proofs.Found.{found}
 use Rattle.window.specs.Views.{entryOf}
 use Rattle.window.proofs.Rests.{tail-long}
 use Rattle.window.proofs.Ready.{Entered, entered, first-place, first-within, edge-in, arc-head, arc-asked, arc-is, next-place, next-within}
+use Rattle.schedule.proofs.Fields.{laid-all}
 use Rattle.reasons.specs.Telling.{edgeBytes}
-use Rattle.reasons.proofs.EdgeReasons.{edgesBefore, before-few, has-room, laid-all, turn}
+use Rattle.reasons.proofs.EdgeReasons.{edgesBefore, before-few, has-room, turn}
 use borrow.Author.Needs.{needs}
 use Rattle.reasons.proofs.telling.put_reasons.Statement.{statement}
 use Rattle.reasons.proofs.telling.put_reasons.Tie as tie
@@ -194,7 +195,7 @@ returns c =
     let C = componentIn (a .table .now) (a .c) in
     let e : l .e ≡ length (C .arcs) = omega (arith, l .inv .0, c .loop-test .left, c .before .before .before .before .before .before .before .wide .ensures .0, (known (c .before .before .before .before .before .before .before .before .before .before)) .stands .arcs) in
     l .inv .4 ∙ ap (λ n. sets (a .told .now) 0 (each (edgeBytes C (entryOf (a .at)) (a .taken) (a .ready)) (edgesBefore C (a .at .location) n))) e
-    ∙ laid-all C (a .at .location) (edgeBytes C (entryOf (a .at)) (a .taken) (a .ready)) (λ e. refl) (edgesBefore C (a .at .location) (length (C .arcs))) (a .told .now) (s .pre .5)
+    ∙ laid-all (edgeBytes C (entryOf (a .at)) (a .taken) (a .ready)) 3 (λ e. refl) (edgesBefore C (a .at .location) (length (C .arcs))) (length (edgesBefore C (a .at .location) (length (C .arcs)))) (a .told .now) refl (s .pre .5)
 
 pub put-reasons-spec : {M : Type 1} → statement M
 put-reasons-spec =
