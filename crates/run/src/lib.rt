@@ -97,8 +97,12 @@ fn ticks_by_eight(choices: &[u8], from: usize, end: usize) -> usize
     requires { ⌜ (from ≤ end) × (end ≤ length (now choices)) ⌝ }
     ensures { λ at. ⌜ (from ≤ at) × (at ≤ end) × Ticks (now (choices .entry)) from at ⌝ }
 {
+    if end < 8 {
+        return from;
+    }
+    let last = end - 8;
     let mut at = from;
-    while 8 <= end - at {
+    while at <= last {
         if sum_of_four(choices, at) + sum_of_four(choices, at + 4) != 2040 {
             return at;
         }

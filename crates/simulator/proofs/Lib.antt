@@ -1,5 +1,6 @@
 pub mod Waiting
 pub mod Still
+pub mod Passing
 pub mod Attempts
 pub mod Ticking
 pub mod Turning

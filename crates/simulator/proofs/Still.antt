@@ -20,12 +20,13 @@ use Rattle.node.specs.Views.{opIn}
 use Rattle.node.proofs.Ops.{stand-op}
 use Rattle.registers.specs.Words.{placeIn, dueIn, keptIn, partIn, wakeTickIn}
 use Rattle.stand.specs.Stands.{dueTick}
-use Rattle.machine.specs.Running.{settingIn, viewIn}
+use Rattle.stand.proofs.ByOp.{sort-is, undue}
+use Rattle.machine.specs.Running.{settingIn, viewIn, NodeStands}
 use Rattle.machine.proofs.Alone.{offset-at}
 use Rattle.machine.proofs.Choices.{chosen-node, asleep-node, refused-sleep, refused-alone}
 use Rattle.machine.proofs.Hearing.{node-at, all-nodes}
 use Rattle.simulation.specs.Simulated.{Span, waits, Trying, untilOf, Stuck}
-use Rattle.simulator.specs.Tries.{Holds, waitsBy, StillBy, StillAt, early, works, unkept}
+use Rattle.simulator.specs.Tries.{Holds, waitsBy, EarlyAt, Placed, StillBy, StillAt, early, works, unkept}
 use Rattle.simulator.proofs.Waiting.{waits-at}
 
 module _ (program rows : List ℕ) (n H count tick c lo hi state : ℕ) (l : List ℕ) (v : List ℤ) (until : List ℕ) {y : Trying} (h : Holds program rows n count tick c state l v until y) (i : ℕ) (there : i < count) where
@@ -98,18 +99,6 @@ module _ (program rows : List ℕ) (n H count tick c lo hi state : ℕ) (l : Lis
 -- ## As the functions have it
 
 module _ (op : ℕ) (l until : List ℕ) (c tick : ℕ) where
-  -- it sleeps or listens
-  module _ (o : (op ≡ 0) ⊎ (op ≡ 5)) where
-    pub told-early : (word : ℕ) → word ≡ dueIn l c → not (eqb word tick) ≡ true → StillBy op l until c tick
-    told-early word is e = early o (λ q. eqb-false word tick (not-true (eqb word tick) e) (is ∙ sym q))
-
-    pub not-working : waitsBy op tick (getD until c 0) ≡ false
-    not-working = go o
-      where
-        go : (op ≡ 0) ⊎ (op ≡ 5) → waitsBy op tick (getD until c 0) ≡ false
-        go (inl e) = ap (λ (k : ℕ). waitsBy k tick (getD until c 0)) e
-        go (inr e) = ap (λ (k : ℕ). waitsBy k tick (getD until c 0)) e
-
   -- it works
   pub told-working : waitsBy op tick (getD until c 0) ≡ true → StillBy op l until c tick
   told-working e = go (leb 3 op && leb op 4) refl e
@@ -121,3 +110,24 @@ module _ (op : ℕ) (l until : List ℕ) (c tick : ℕ) where
           let high = leb-true op 4 (both .1) in
           works (by-cases (ℕ-discrete op 3) (λ z. inl z) (λ z. inr (omega (arith, low, high, z)))) (ltb-true tick (getD until c 0) t)
       go false q t = clash t
+
+-- ## The tick that is noted for it
+
+-- it is none at another statement than a sleep or a listen
+pub placed : {program rows : List ℕ} {n c m : ℕ} {l : List ℕ} {v : List ℤ} → NodeStands program rows n l v c m → Placed program l c
+placed {program} {c = c} {l = l} {v = v} stands =
+    record {
+      inside = record { inside = stands .inside; short = stands .short };
+      noted =
+          λ below.
+          by-cases (ℕ-discrete op 0) (λ a. inl a)
+          (λ a.
+          by-cases (ℕ-discrete op 5) (λ b. inr b)
+          (λ b. absurd (omega (arith, below, stands .due, undue (viewIn program l v c) (sort-is (partIn program l c) (placeIn l c) op refl) a b))));
+    }
+  where
+    op : ℕ
+    op = opIn (drop (placeIn l c) (partIn program l c))
+
+pub told-early : {program l : List ℕ} {c : ℕ} → Placed program l c → (until : List ℕ) (tick : ℕ) → EarlyAt l c tick → StillAt program l until c tick
+told-early P until tick e = early (P .noted (e .0)) (e .1)

@@ -10,7 +10,9 @@ use lib.ListN.{length, getD, drop}
 use Rattle.model.specs.Run.{Run, standOf, nodeOf, on, choose1}
 use Rattle.node.specs.Views.{opIn}
 use Rattle.registers.specs.Words.{placeIn, dueIn, keptIn, partIn}
+use Rattle.stand.specs.Stands.{never}
 use Rattle.machine.specs.Running.{settingIn, Running}
+use Rattle.machine.specs.Chosen.{Inside}
 use Rattle.run.specs.Ends.{Calm}
 use Rattle.simulation.specs.Simulated.{Trying, untilOf, waits, went, Stuck, startTrying}
 use Rattle.simulation.proofs.Turns.{result, drawn, Same}
@@ -71,6 +73,19 @@ pub record Going (program rows : List ℕ) (n H count lo hi seed : ℕ) (l₀ l 
       (startTrying (settingIn program H rows n l₀ count) (record { lo = lo; hi = hi }) seed) left trying
   pub used : trying .state .used + left ≤ 1000000000000
 
+-- ## Nodes that sleep or listen until later
+
+-- a tick is noted for node c, and it is another one
+abbrev pub EarlyAt : List ℕ → ℕ → ℕ → Type 0
+EarlyAt l c tick = (dueIn l c < never) × (tick ≡ dueIn l c → ⊥)
+
+-- from that turn on up to the first, fewer than are left, they are of such nodes
+pub record PassedTo (l : List ℕ) (count tick turn left first : ℕ) : Type 0 where
+  pub from : turn ≤ first
+  pub to : turn < first → first ≤ count
+  pub few : first < turn + left
+  pub early : (c : ℕ) → turn ≤ c → c < first → EarlyAt l c tick
+
 -- ## A node that does not move
 
 -- a node that stands at this op waits at that tick for its work, which is over then: ops 3 and 4 do
@@ -86,6 +101,11 @@ pub data StillBy (op : ℕ) (l until : List ℕ) (c t : ℕ) : Type 0 where
 
 abbrev pub StillAt : List ℕ → List ℕ → List ℕ → ℕ → ℕ → Type 0
 StillAt program l until c t = StillBy (opIn (drop (placeIn l c) (partIn program l c))) l until c t
+
+-- its part lies in the program, and a tick is noted for it only where it sleeps or listens
+pub record Placed (program l : List ℕ) (c : ℕ) : Type 0 where
+  pub inside : Inside program l c
+  pub noted : dueIn l c < never → (opIn (drop (placeIn l c) (partIn program l c)) ≡ 0) ⊎ (opIn (drop (placeIn l c) (partIn program l c)) ≡ 5)
 
 -- up to that tick it does not
 abbrev pub StillTo : List ℕ → List ℕ → List ℕ → ℕ → ℕ → Type 0

@@ -1,4 +1,5 @@
 // Simulated runs of a table's programs with drawn work times (document 02, wish 10). Here the turns of one run.
+pub mod early;
 pub mod idle;
 pub mod runs;
 
@@ -11,7 +12,7 @@ ghost use lib.ListN.{length, getD, set};
 ghost use Rattle.generator.specs.Xorshift.{nextOf};
 ghost use Rattle.machine.specs.Chosen.{opOf, Inside};
 ghost use Rattle.simulation.specs.Simulated.{workTicks, Trying};
-ghost use Rattle.simulator.specs.Tries.{Holds, Somewhere, Attempted, Turned, Few, waitsBy, StillBy};
+ghost use Rattle.simulator.specs.Tries.{Holds, Somewhere, Attempted, Turned, Few, waitsBy};
 use generator::Generator;
 use model::op;
 
@@ -65,17 +66,6 @@ fn waits_at(op: u8, tick: u64, until: u64) -> bool
     tick < until
 }
 
-// Whether node c, whose statement's op that is, does not move at that tick: its sleep or its listen is not due, or its work is not over.
-fn is_still(op: u8, words: &[u64], until: &[u64], c: usize, tick: u64) -> bool
-    requires { ⌜ (256 ≤ length (now words)) × (8 ≤ length (now until)) × (c < 8) ⌝ }
-    ensures { λ r. ⌜ (r ≡ true → StillBy op (now (words .entry)) (now (until .entry)) c tick) × (r ≡ false → waitsBy op tick (getD (now (until .entry)) c 0) ≡ false) ⌝ }
-{
-    if op == op::SLEEP || op == op::LISTEN {
-        return registers::word(words, c, registers::DUE) != tick;
-    }
-    waits_at(op, tick, until[c])
-}
-
 // Draws the ticks of node c's work, which begins at that tick. The generator afterwards.
 fn draw_work(until: &mut [u64], c: usize, tick: u64, lo: u32, hi: u32, state: u32) -> u32
     requires { ⌜ (8 ≤ length (now until)) × (c < 8) × (lo ≤ hi) × (hi ≤ 60000) × (tick ≤ 1000000000000) ⌝ }
@@ -105,7 +95,7 @@ pub fn attempt(
     ensures { λ r. ⌜ ((H : ℕ) → Attempted (now (program .entry)) (now (rows .entry)) passages H count tick c lo hi state (now (words .entry)) (now (values .entry)) (now (until .entry)) (r .moved) (r .state) (now (words .exit)) (now (values .exit)) (now (until .exit))) ⌝ }
 {
     let op = op_of(program, words, c);
-    if is_still(op, words, until, c, tick) {
+    if waits_at(op, tick, until[c]) {
         return Outcome {
             moved: false,
             state,
@@ -244,7 +234,7 @@ pub fn tick_turn(
 
 // One turn of a simulated run, of which so many are left: of the node whose turn it is; where all have had theirs, the round begins anew if one
 // moved, else the tick passes, and with it those up to the next at which a node may move.
-pub fn take_turn(
+fn one_turn(
     program: &[u8],
     rows: &[u32],
     passages: usize,
@@ -295,4 +285,48 @@ pub fn take_turn(
         state,
         left,
     )
+}
+
+// The turns of the nodes that sleep or listen until later, from the one whose turn it is on, and then one turn more.
+pub fn take_turn(
+    program: &[u8],
+    rows: &[u32],
+    passages: usize,
+    count: usize,
+    horizon: u64,
+    words: &mut [u64],
+    values: &mut [i16],
+    until: &mut [u64],
+    lo: u32,
+    hi: u32,
+    tick: u64,
+    turn: usize,
+    moved: bool,
+    state: u32,
+    left: u64,
+) -> Turn
+    requires { ⌜ Somewhere (now program) (now rows) passages count tick (now words) (now values) × (8 ≤ length (now until)) × (lo ≤ hi) × (hi ≤ 60000) × (tick ≤ 1000000000000) × (horizon ≤ 4294967295) × (1 ≤ left) ⌝ }
+    ensures { λ r. ⌜ ((y : Trying) → Holds (now (program .entry)) (now (rows .entry)) passages count tick turn state (now (words .entry)) (now (values .entry)) (now (until .entry)) y → y .moved ≡ moved → Turned (now (program .entry)) (now (rows .entry)) passages horizon count lo hi (now (words .entry)) y r (now (words .exit)) (now (values .exit)) (now (until .exit))) × Few tick left r ⌝ }
+{
+    let first = early::first_ready(words, count, tick, turn, left);
+    let passed = (first - turn) as u64;
+    let mut next = one_turn(
+        program,
+        rows,
+        passages,
+        count,
+        horizon,
+        words,
+        values,
+        until,
+        lo,
+        hi,
+        tick,
+        first,
+        moved,
+        state,
+        left - passed,
+    );
+    next.turns += passed;
+    next
 }
