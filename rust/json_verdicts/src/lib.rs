@@ -2,6 +2,7 @@
 
 #![forbid(unsafe_code)]
 
+pub mod asked;
 pub mod json;
 pub mod positions;
 pub mod refusals;

@@ -4,6 +4,7 @@
 mod pairs;
 mod told;
 
+use crate::asked::Form;
 use crate::json::object;
 use crate::refusals::{self, field, refuse};
 use pairs::{Columns, Fault};
@@ -12,13 +13,6 @@ use std::os::unix::ffi::OsStrExt;
 use timed_network::{positions, Refused};
 use verdicts::input::{self, number_of, Problem};
 use verdicts::output::{say, write_err, write_out, REFUSED};
-
-/// How the answers are told.
-#[derive(Clone, Copy, PartialEq, Eq)]
-enum Form {
-    Words,
-    Json,
-}
 
 /// What is asked about, and how it is told.
 pub struct Question<'a> {
@@ -34,11 +28,7 @@ impl<'a> Question<'a> {
         let [form, component, tick, table, pairs] = words else {
             return None;
         };
-        let form = match form.to_str()? {
-            "words" => Form::Words,
-            "json" => Form::Json,
-            _ => return None,
-        };
+        let form = Form::of(form)?;
         let column = |word| number_of(word).filter(|column| *column > 0);
         let columns = Columns {
             component: column(component)? as usize,

@@ -4,19 +4,13 @@
 mod json;
 mod printed;
 
+use crate::asked::Form;
 use printed::Printed;
 use std::ffi::{OsStr, OsString};
 use timed_network::{passages, run_apart, Observation, Refused, Run};
 use timed_network::{FIELDS, MAX_PASSAGES, OBSERVATION};
 use verdicts::input::number_of;
 use verdicts::output::{say, write_out, BROKEN};
-
-/// How the run is told.
-#[derive(Clone, Copy, PartialEq, Eq)]
-enum Form {
-    Words,
-    Json,
-}
 
 /// A run, what was written of it, and how it is told.
 pub struct Report<'a> {
@@ -72,11 +66,7 @@ impl<'a> Report<'a> {
         let [form, close, spread, offsets, table, choices, printed] = words else {
             return None;
         };
-        let form = match form.to_str()? {
-            "words" => Form::Words,
-            "json" => Form::Json,
-            _ => return None,
-        };
+        let form = Form::of(form)?;
         let close = match close.to_str()? {
             "-" => None,
             _ => Some(number_of(close)?),

@@ -7,6 +7,7 @@ mod json;
 mod progress;
 mod words;
 
+use crate::asked::Form;
 use crate::refusals::{field, refuse};
 use counted::{count, work_times, Counted};
 use progress::Progress;
@@ -15,13 +16,6 @@ use std::os::unix::ffi::OsStrExt;
 use timed_network::{simulate, Refused, MAX_RUNS, SEED};
 use verdicts::input::{self, number_of, Input, Problem};
 use verdicts::output::{say, write_out, BROKEN, REFUSED, WRONG};
-
-/// How the answer is told.
-#[derive(Clone, Copy, PartialEq, Eq)]
-enum Form {
-    Words,
-    Json,
-}
 
 /// What is told.
 #[derive(Clone, Copy, PartialEq, Eq)]
@@ -74,11 +68,7 @@ impl<'a> Question<'a> {
         let [answer, form, lo, hi, runs, seed, file] = words else {
             return None;
         };
-        let formed = match form.to_str()? {
-            "words" => Some(Form::Words),
-            "json" => Some(Form::Json),
-            _ => None,
-        };
+        let formed = Form::of(form);
         let answer = match answer.to_str()? {
             "counts" => Answer::Counts(formed?),
             "sweep" => Answer::Sweep(formed?),

@@ -4,6 +4,7 @@
 mod json;
 mod told;
 
+use crate::asked::Form;
 use std::ffi::{OsStr, OsString};
 use std::os::unix::ffi::OsStrExt;
 use table_text::{edge_start, statement};
@@ -11,13 +12,6 @@ use timed_network::{reasons, Reasons, Refused};
 use told::Printed;
 use verdicts::input::{self, number_of, Input, Problem};
 use verdicts::output::{say, write_err, write_out, BROKEN, REFUSED};
-
-/// How the answer is told.
-#[derive(Clone, Copy, PartialEq, Eq)]
-enum Form {
-    Words,
-    Json,
-}
 
 /// What is asked about, and how it is told.
 pub struct Question<'a> {
@@ -34,11 +28,7 @@ impl<'a> Question<'a> {
         let [form, printer, component, tick, file] = words else {
             return None;
         };
-        let form = match form.to_str()? {
-            "words" => Form::Words,
-            "json" => Form::Json,
-            _ => return None,
-        };
+        let form = Form::of(form)?;
         Some(Question {
             form,
             printer,

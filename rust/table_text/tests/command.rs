@@ -89,6 +89,42 @@ fn folder_with_one(test: &str) -> PathBuf {
     folder
 }
 
+/// The same with an accepted table beside it, its schedule and its questions; built.
+fn folder_with_two(test: &str) -> PathBuf {
+    let folder = folder_with_one(test);
+    for (name, text) in [
+        ("two.txt", GOOD),
+        ("two.schedule", SCHEDULE),
+        ("two.why", QUESTIONS),
+        ("answers.tsv", "one\trefused 3 255\ntwo\taccepted\n"),
+    ] {
+        fs::write(folder.join(name), text).unwrap();
+    }
+    assert_eq!(call("build", &folder).0, Some(0));
+    folder
+}
+
+/// Each of these, as the first line of a file, is refused with how it is written.
+fn refuses_lines(folder: &Path, name: &str, form: &str, lines: &[&str]) {
+    for line in lines {
+        fs::write(folder.join(name), line).unwrap();
+        let told = format!("{name}: line 1: {form}\n");
+        assert_eq!(call("verify", folder), (Some(1), told), "{line}");
+    }
+}
+
+/// An empty file is refused, and one beside a table that is not accepted.
+fn refuses_elsewhere(folder: &Path, kind: &str, what: &str, good: &str) {
+    let (two, one) = (format!("two.{kind}"), format!("one.{kind}"));
+    fs::write(folder.join(&two), "").unwrap();
+    let none = format!("{two}: is empty\n");
+    assert_eq!(call("verify", folder), (Some(1), none));
+    fs::write(folder.join(&two), good).unwrap();
+    fs::write(folder.join(&one), good).unwrap();
+    let other = format!("one: has {what} and is not accepted\n");
+    assert_eq!(call("verify", folder), (Some(1), other));
+}
+
 fn call(word: &str, folder: &Path) -> (Option<i32>, String) {
     let output = run(&[word, folder.to_str().unwrap()], b"");
     let said = String::from_utf8(output.stdout.clone()).unwrap() + &messages(&output);
@@ -219,7 +255,7 @@ fn verify_reads_the_questions() {
     assert_eq!(call("verify", &folder), (Some(0), verified));
 
     let form = "write: COMPONENT TICK, then: P|EDGE REASON.., or: refused N C";
-    for bad in [
+    let lines = [
         "0 0",
         "0 0 0",
         "0 0 0|0 window",
@@ -231,33 +267,19 @@ fn verify_reads_the_questions() {
         "0 -1 0|0 taken",
         "0 0 x|0 taken",
         "0 0 0|x taken",
-    ] {
-        file("two.why", bad);
-        let told = format!("two.why: line 1: {form}\n");
-        assert_eq!(call("verify", &folder), (Some(1), told), "{bad}");
-    }
+    ];
+    refuses_lines(&folder, "two.why", form, &lines);
     file("two.why", "0 1 0|0 taken\n0 0 0|0 taken\n");
     let rising = "two.why: line 2: components and their ticks must rise, each once\n";
     assert_eq!(call("verify", &folder), (Some(1), rising.to_string()));
-    file("two.why", "");
-    let none = "two.why: is empty\n".to_string();
-    assert_eq!(call("verify", &folder), (Some(1), none));
-    file("two.why", QUESTIONS);
-    file("one.why", QUESTIONS);
-    let other = "one: has questions and is not accepted\n".to_string();
-    assert_eq!(call("verify", &folder), (Some(1), other));
+    refuses_elsewhere(&folder, "why", "questions", QUESTIONS);
     fs::remove_dir_all(folder).unwrap();
 }
 
 #[test]
 fn verify_reads_the_charts() {
-    let folder = folder_with_one("charts");
+    let folder = folder_with_two("charts");
     let file = |name: &str, text: &str| fs::write(folder.join(name), text).unwrap();
-    file("two.txt", GOOD);
-    file("two.schedule", SCHEDULE);
-    file("two.why", QUESTIONS);
-    file("answers.tsv", "one\trefused 3 255\ntwo\taccepted\n");
-    assert_eq!(call("build", &folder).0, Some(0));
     let chart = format!("C0: {:>64}\n", "W");
     file("two.chart", &chart);
     let verified = "2 tables verified\n".to_string();
@@ -285,13 +307,8 @@ fn verify_reads_the_charts() {
 
 #[test]
 fn verify_reads_the_verdicts_at_spreads() {
-    let folder = folder_with_one("spreads");
+    let folder = folder_with_two("spreads");
     let file = |name: &str, text: &str| fs::write(folder.join(name), text).unwrap();
-    file("two.txt", GOOD);
-    file("two.schedule", SCHEDULE);
-    file("two.why", QUESTIONS);
-    file("answers.tsv", "one\trefused 3 255\ntwo\taccepted\n");
-    assert_eq!(call("build", &folder).0, Some(0));
     file(
         "two.spread",
         "0 accepted\n3 refused 16 0\n1001 refused 19 255\n",
@@ -301,17 +318,14 @@ fn verify_reads_the_verdicts_at_spreads() {
     assert_eq!(call("verify", &folder), (Some(0), verified));
 
     let form = "write: G, then: accepted, or: refused N C";
-    for bad in [
+    let lines = [
         "0",
         "0  accepted",
         "x accepted",
         "0 refused 3",
         "-1 accepted",
-    ] {
-        file("two.spread", bad);
-        let told = format!("two.spread: line 1: {form}\n");
-        assert_eq!(call("verify", &folder), (Some(1), told), "{bad}");
-    }
+    ];
+    refuses_lines(&folder, "two.spread", form, &lines);
     file("two.spread", "0 accepted\n1 accepted\n1 accepted\n");
     let rising = "two.spread: line 3: spreads must rise, each once\n".to_string();
     assert_eq!(call("verify", &folder), (Some(1), rising));
@@ -329,20 +343,15 @@ fn verify_reads_the_verdicts_at_spreads() {
 
 #[test]
 fn verify_reads_the_runs() {
-    let folder = folder_with_one("runs");
+    let folder = folder_with_two("runs");
     let file = |name: &str, text: &str| fs::write(folder.join(name), text).unwrap();
-    file("two.txt", GOOD);
-    file("two.schedule", SCHEDULE);
-    file("two.why", QUESTIONS);
-    file("answers.tsv", "one\trefused 3 255\ntwo\taccepted\n");
-    assert_eq!(call("build", &folder).0, Some(0));
     let runs = "0 - - 1 255 0 0\n3 1,0 00ff 1 255 1 2|0 4 -|1 9 5\n";
     file("two.runs", runs);
     let verified = "2 tables verified\n".to_string();
     assert_eq!(call("verify", &folder), (Some(0), verified));
 
     let form = "write: G OFFSETS CHOICES END NODE TICK USED|NODE TICK FINISH..";
-    for bad in [
+    let lines = [
         "0 - 00",
         "x - 00 1 255 0 0",
         "0 1, 00 1 255 0 0",
@@ -352,37 +361,23 @@ fn verify_reads_the_runs() {
         "0 - 00 1 255 0 0|0 4",
         "0 - 00 1 255 0 0|0 4 x",
         "0 - 00 1 255 0 0|",
-    ] {
-        file("two.runs", bad);
-        let told = format!("two.runs: line 1: {form}\n");
-        assert_eq!(call("verify", &folder), (Some(1), told), "{bad}");
-    }
-    file("two.runs", "");
-    let none = "two.runs: is empty\n".to_string();
-    assert_eq!(call("verify", &folder), (Some(1), none));
-    file("two.runs", runs);
-    file("one.runs", runs);
-    let other = "one: has runs and is not accepted\n".to_string();
-    assert_eq!(call("verify", &folder), (Some(1), other));
+    ];
+    refuses_lines(&folder, "two.runs", form, &lines);
+    refuses_elsewhere(&folder, "runs", "runs", runs);
     fs::remove_dir_all(folder).unwrap();
 }
 
 #[test]
 fn verify_reads_the_pairs() {
-    let folder = folder_with_one("pairs");
+    let folder = folder_with_two("pairs");
     let file = |name: &str, text: &str| fs::write(folder.join(name), text).unwrap();
-    file("two.txt", GOOD);
-    file("two.schedule", SCHEDULE);
-    file("two.why", QUESTIONS);
-    file("answers.tsv", "one\trefused 3 255\ntwo\taccepted\n");
-    assert_eq!(call("build", &folder).0, Some(0));
     let pairs = "- 0|-\n0:0,1:3 2|000000000101\n0:3,0:2 refused 24 255\n9:0 refused 21 255\n";
     file("two.where", pairs);
     let verified = "2 tables verified\n".to_string();
     assert_eq!(call("verify", &folder), (Some(0), verified));
 
     let form = "write: COMPONENT:TICK,.., then: READ|BYTES, or: refused N 255";
-    for bad in [
+    let lines = [
         "0:0",
         "0 1|000000",
         "0:x 1|000000",
@@ -395,17 +390,8 @@ fn verify_reads_the_pairs() {
         "- 0",
         "0:0 refused 13 255",
         "0:0 accepted",
-    ] {
-        file("two.where", bad);
-        let told = format!("two.where: line 1: {form}\n");
-        assert_eq!(call("verify", &folder), (Some(1), told), "{bad}");
-    }
-    file("two.where", "");
-    let none = "two.where: is empty\n".to_string();
-    assert_eq!(call("verify", &folder), (Some(1), none));
-    file("two.where", pairs);
-    file("one.where", pairs);
-    let other = "one: has pairs and is not accepted\n".to_string();
-    assert_eq!(call("verify", &folder), (Some(1), other));
+    ];
+    refuses_lines(&folder, "two.where", form, &lines);
+    refuses_elsewhere(&folder, "where", "pairs", pairs);
     fs::remove_dir_all(folder).unwrap();
 }

@@ -3,11 +3,9 @@
 
 #![forbid(unsafe_code)]
 
+use json_verdicts::asked::program;
 use json_verdicts::run::Report;
-use std::env;
-use std::ffi::OsString;
 use std::process::ExitCode;
-use verdicts::output::{say, BROKEN, WRONG};
 
 const USAGE: &str = "usage: run_observations words|json CLOSE SPREAD OFFSETS TABLE CHOICES PRINTED
   words     what the program trial_run has written
@@ -18,14 +16,6 @@ const USAGE: &str = "usage: run_observations words|json CLOSE SPREAD OFFSETS TAB
   OFFSETS   the ticks at which they wake, with commas between them, - for none
   PRINTED   the file with what trial_run has written of TABLE and CHOICES";
 
-/// A fault of this tool itself is none of the answers.
 fn main() -> ExitCode {
-    let answer = || {
-        let words: Vec<OsString> = env::args_os().skip(1).collect();
-        match Report::of(&words) {
-            Some(report) => report.tell(),
-            None => say(USAGE.as_bytes(), WRONG),
-        }
-    };
-    ExitCode::from(std::panic::catch_unwind(answer).unwrap_or(BROKEN))
+    program(USAGE, |words| Some(Report::of(words)?.tell()))
 }

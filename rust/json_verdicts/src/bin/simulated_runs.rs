@@ -3,11 +3,9 @@
 
 #![forbid(unsafe_code)]
 
+use json_verdicts::asked::program;
 use json_verdicts::simulate::Question;
-use std::env;
-use std::ffi::OsString;
 use std::process::ExitCode;
-use verdicts::output::{say, BROKEN, WRONG};
 
 const USAGE: &str = "usage: simulated_runs counts|sweep words|json LO HI RUNS SEED FILE
        simulated_runs choices RUN LO HI RUNS SEED FILE
@@ -17,14 +15,6 @@ const USAGE: &str = "usage: simulated_runs counts|sweep words|json LO HI RUNS SE
   SEED      where the generator starts, - for its fixed seed
   FILE      a table or its text, - for standard input";
 
-/// A fault of this tool itself is none of the answers.
 fn main() -> ExitCode {
-    let answer = || {
-        let words: Vec<OsString> = env::args_os().skip(1).collect();
-        match Question::of(&words) {
-            Some(question) => question.answer(),
-            None => say(USAGE.as_bytes(), WRONG),
-        }
-    };
-    ExitCode::from(std::panic::catch_unwind(answer).unwrap_or(BROKEN))
+    program(USAGE, |words| Some(Question::of(words)?.answer()))
 }
