@@ -265,12 +265,54 @@ static void write_simulation(const struct stored *stored, enum where where) {
     write_number("|state ", answer.state);
 }
 
+/* How many names stand in a line, with commas between them. */
+static unsigned long names_in(const char *line, const char *end) {
+    unsigned long names = 1;
+    for (const char *at = strchr(line, ' '); at < end; at++)
+        names += *at == ',';
+    return names;
+}
+
+/* A process: clocks, variables, locations, transitions alone, sends and receives. */
+static const char *write_process(const char *line) {
+    unsigned long counts[6] = {0, 0, 0, 0, 0, 0};
+    for (; *line != '}'; line = strchr(line, '\n') + 1) {
+        const char *end = strchr(line, '\n');
+        const char *arrow = strstr(line, " -> "), *sync = strstr(line, "; sync ");
+        if (strncmp(line, "clock ", 6) == 0)
+            counts[0] = names_in(line, end);
+        else if (strncmp(line, "int[", 4) == 0)
+            counts[1] = names_in(line, end);
+        else if (line[0] == ' ' && (arrow == NULL || arrow > end))
+            counts[2]++;
+        else if (line[0] == ' ' && (sync == NULL || sync > end))
+            counts[3]++;
+        else if (line[0] == ' ')
+            counts[strchr(sync + 2, ';')[-1] == '!' ? 4 : 5]++;
+    }
+    for (size_t i = 0; i < 6; i++)
+        write_number(i == 0 ? "|" : " ", counts[i]);
+    return line;
+}
+
+/* How many of each thing a text has: channels, then for each process what it has. */
+static void write_uppaal(const struct stored *stored, enum where where) {
+    timed_network_call_numbers answer = guarded_uppaal(where, stored->table, stored->lent);
+    if (write_refusal(answer.number, answer.component))
+        return;
+    const char *line = (const char *)network_text;
+    write_number("", *line == 'c' ? names_in(line, strchr(line, '\n')) : 0);
+    while ((line = strstr(line, "process ")) != NULL)
+        line = write_process(line);
+}
+
 void stored_try(const struct stored *stored, enum where where) {
     static void (*const writers[])(const struct stored *, enum where) = {
         write_check,        write_schedule,  write_chart, write_plan,
         write_looked,       write_program,   write_part,  write_run,
         write_check_spread, write_run_apart, write_place, write_opening,
-        write_reasons,      write_positions, write_simulation, write_simulation};
+        write_reasons,      write_positions, write_simulation, write_simulation,
+        write_uppaal};
     trying("a stored case", stored->name);
     used = 0;
     text[0] = 0;

@@ -3,12 +3,12 @@
 #include <string.h>
 
 const char *const call_names[CALLS] = {
-    "check",        "schedule",     "timing_chart",   "plan",
-    "edge_choice",  "translate",    "part",           "run",
-    "check_spread", "run_apart",    "refusal_place",  "refused_opening",
-    "reasons",      "positions",    "simulate",       "simulate_from",
-    "passages",     "meetings",     "largest_spread", "meetings_spread",
-    "start",        "step",         "take_message"};
+    "check",        "schedule",  "timing_chart",   "plan",
+    "edge_choice",  "translate", "part",           "run",
+    "check_spread", "run_apart", "refusal_place",  "refused_opening",
+    "reasons",      "positions", "simulate",       "simulate_from",
+    "uppaal",       "passages",  "meetings",       "largest_spread",
+    "meetings_spread", "start",  "step",           "take_message"};
 unsigned long made[CALLS];
 uint32_t list[MAX_LIST];
 uint8_t chart[MAX_CHART];
@@ -40,6 +40,7 @@ void calls_start(void) {
     reasons_start();
     positions_start();
     simulation_start();
+    uppaal_start();
 }
 
 void try_verdict(uint8_t number, uint8_t component, uint8_t most) {

@@ -19,6 +19,7 @@ enum {
     POSITION = 3,
     MAX_NUMBERS = 4096,
     MAX_ANSWERED = POSITION * MAX_NUMBERS / 2,
+    MAX_TEXT = TIMED_NETWORK_UPPAAL_ENOUGH,
     MAX_TABLE = 12288,
     MAX_PROGRAM = 24576,
     MAX_PART = 65535,
@@ -65,7 +66,7 @@ struct experiment {
     int seeded;
 };
 
-/* The exported calls; vectors ask for those up to SIMULATE_FROM. */
+/* The exported calls; vectors ask for those up to UPPAAL. */
 enum call {
     CHECK,
     SCHEDULE,
@@ -83,6 +84,7 @@ enum call {
     POSITIONS,
     SIMULATE,
     SIMULATE_FROM,
+    UPPAAL,
     PASSAGES,
     MEETINGS,
     LARGEST_SPREAD,
@@ -103,6 +105,7 @@ extern uint8_t chart[MAX_CHART];
 extern uint8_t plan[MAX_PLAN];
 extern uint8_t told[MAX_TOLD];
 extern uint8_t answered[MAX_ANSWERED];
+extern uint8_t network_text[MAX_TEXT + 1];
 extern uint8_t program[MAX_PROGRAM];
 extern uint8_t observations[MAX_OBSERVATIONS];
 extern timed_network_passage passages[MAX_PASSAGES];
@@ -115,6 +118,7 @@ void refused_start(void);
 void reasons_start(void);
 void positions_start(void);
 void simulation_start(void);
+void uppaal_start(void);
 
 /*
  * What holds for every verdict: 0 to `most`, the last number of the call, or,
@@ -156,6 +160,7 @@ timed_network_position_numbers guarded_positions(enum where where, struct bytes 
                                                  struct numbers pairs, size_t lent);
 timed_network_simulation_numbers guarded_simulate(enum where where, struct bytes table,
                                                   struct experiment experiment);
+timed_network_call_numbers guarded_uppaal(enum where where, struct bytes table, size_t lent);
 timed_network_node_registers guarded_start(enum where where, struct bytes part);
 void guarded_step(enum where where, timed_network_node_registers *node, struct bytes part,
                   uint8_t clocks, uint8_t variables);
@@ -173,5 +178,8 @@ void simulate_in_all_ways(enum where where, struct bytes table,
 /* The reasons with as many bytes lent as they need plus `more`. */
 void lend_for_reasons(enum where where, struct bytes table, struct question question,
                       long more);
+
+/* The text for UPPAAL with as many bytes lent as it needs plus `more`. */
+void lend_for_uppaal(enum where where, struct bytes table, long more);
 
 #endif

@@ -73,6 +73,7 @@ static void lend(enum where where, struct bytes table, struct bytes choices, lon
          "bytes for a chart are refused or taken wrongly");
     lend_for_reasons(where, table, any_question(table), more);
     lend_for_positions(where, table, random_pairs(table), more);
+    lend_for_uppaal(where, table, more);
 }
 
 static void stored_cases(void) {
@@ -232,6 +233,7 @@ static void all_calls(enum where where, struct bytes table, struct bytes choices
     guarded_reasons(where, table, any_question(table), lent % (MAX_TOLD + 1));
     guarded_positions(where, table, random_pairs(table), lent % (MAX_ANSWERED + 1));
     simulate_in_all_ways(where, table, random_experiment());
+    guarded_uppaal(where, table, lent);
     if (verdict.number != 0) {
         same(planned.number == verdict.number && translated.number == verdict.number &&
                  ran.number == verdict.number && charted.number == verdict.number,

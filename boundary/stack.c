@@ -114,6 +114,10 @@ __attribute__((noinline)) static void call_simulate_from(const struct lent *lent
                                     experiment->hi, experiment->runs, experiment->seed);
 }
 
+__attribute__((noinline)) static void call_uppaal(const uint8_t *bytes, size_t length) {
+    called = timed_network_uppaal(bytes, length, network_text, MAX_TEXT);
+}
+
 static void call(int request, const struct lent *lent) {
     const uint8_t *bytes = lent->bytes.at;
     size_t length = lent->bytes.length;
@@ -167,6 +171,9 @@ static void call(int request, const struct lent *lent) {
         break;
     case SIMULATE_FROM:
         call_simulate_from(lent);
+        break;
+    case UPPAAL:
+        call_uppaal(bytes, length);
         break;
     case PASSAGES:
         called = timed_network_passages(bytes, length, passages, MAX_PASSAGES);

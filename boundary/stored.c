@@ -140,6 +140,8 @@ static size_t request_of(const char *word, const char *words) {
         return REASONS;
     if (strcmp(word, "where") == 0)
         return POSITIONS;
+    if (strcmp(word, "uppaal") == 0)
+        return UPPAAL;
     if (strcmp(word, "sim") == 0) {
         int spaces = 0;
         for (const char *at = words; *at != 0; at++)
@@ -180,6 +182,8 @@ static void read_words(struct stored *stored, char *table) {
         stored->pairs = read_pairs(more);
     else if (request == SIMULATE || request == SIMULATE_FROM)
         stored->experiment = read_experiment(more);
+    else if (request == UPPAAL)
+        stored->lent = (size_t)atoi(more) > MAX_TEXT ? MAX_TEXT : (size_t)atoi(more);
     else if (request == PART)
         stored->node = (uint8_t)atoi(more);
     else if (request == TIMING_CHART)
@@ -193,6 +197,10 @@ static void read_vectors(const char *root, const char *path) {
         char *request = cut(line, '\t');
         char *answer = cut(request, '\t');
         size_t lent = MAX_OBSERVATIONS;
+        if (strncmp(request, "explore ", 8) == 0) { /* of the network, no call */
+            line = next;
+            continue;
+        }
         if (strncmp(request, "lent ", 5) == 0) {
             lent = strtoul(request + 5, &request, 10);
             request++;
@@ -339,6 +347,7 @@ void stored_read(const char *root) {
     read_vectors(root, "vectors/finishes.tsv");
     read_vectors(root, "vectors/simulations.tsv");
     read_vectors(root, "vectors/positions.tsv");
+    read_vectors(root, "vectors/uppaal.tsv");
     read_vectors(root, "vectors/places.tsv");
     read_corpus(root);
     read_places(root);

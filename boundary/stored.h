@@ -6,9 +6,9 @@
 
 struct stored {
     char *name;
-    enum call request;            /* CHECK to SIMULATE_FROM */
+    enum call request;            /* CHECK to UPPAAL */
     struct bytes table;           /* for PART the program */
-    size_t lent;                  /* for TIMING_CHART, PLAN, RUN, RUN_APART, REASONS, POSITIONS */
+    size_t lent;                  /* for TIMING_CHART, PLAN, RUN, RUN_APART, REASONS, POSITIONS, UPPAAL */
     struct slots slots;           /* for PLAN, which has no table */
     struct bytes choices;         /* for RUN and RUN_APART */
     struct waking waking;         /* for RUN_APART; for CHECK_SPREAD the spread */

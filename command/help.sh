@@ -24,6 +24,7 @@ usage: vanillatarn COMMAND ...
                                             choices that take a run to the horizon
   simulate --work LO..HI --runs N [--seed S] [--sweep] [--json] TABLE
                                             how many runs end late with such work times
+  uppaal TABLE [-o FILE.xta]                its network as a text for UPPAAL
   text TABLE                                a table as text
   table TEXTFILE [-o FILE]                  a text as a table
   install PREFIX                            the command and the library, in a folder
@@ -44,8 +45,8 @@ Exit status
   1  the answer is no: a table or a plan is refused, no edge is taken, a run ends
      late or with a choice that is not allowed, a spread or an offset is too large,
      a component or a tick that is asked about is not there, pairs are not sorted,
-     the numbers of a simulation are out of range, a program is damaged or has no
-     such part, a text has a fault
+     the numbers of a simulation are out of range, a network has budgets and so no
+     text, a program is damaged or has no such part, a text has a fault
   2  wrong use; a file that cannot be read or written, is empty or too long
   3  a tool is missing, could not be built or failed; standard output, standard
      error or the scratch folder cannot be written
@@ -274,6 +275,27 @@ On a terminal it is told how far a long simulation is.
 
 Exit status: 0 simulated, whatever came of it; 1 refused: the table, a seed of 0 with
 22, or with 23 LO above HI, HI above 60,000, or runs outside 1 to 10,000.
+TEXT
+        uppaal) cat <<'TEXT' ;;
+usage: vanillatarn uppaal TABLE [-o FILE.xta]
+
+Writes the network of the table as a text in UPPAAL's textual form, XTA. Component
+0 is process P0; its location 0 is L0, its clock 0 x0, its variable 0 v0; channel 0
+is c0. Each edge is two steps: into a waiting location, W0 or with a message on
+channel 1 W0_c1 for edge 0, anywhere in its window; and out of it at the window's
+end. At whole ticks the text has exactly the paths of the table's network that enter
+no location with its invariant already broken: that is proved. Bands and the horizon
+are not exported (docs/FORMATS.md).
+
+With -o a file of queries is written beside it: FILE.q, without the ending .xta of
+FILE.xta. It asks whether each location is reached and each edge taken, with what the
+schedule does as a comment, and whether the network is ever stuck; where a clock is
+never reset, also whether it is before the horizon. To try them all:
+
+  verifyta FILE.xta FILE.q
+
+Exit status: 0 written; 1 the table is refused, or with 25 an edge has a budget other
+than 0, which the network does not know. Then both files are left as they were.
 TEXT
         text) cat <<'TEXT' ;;
 usage: vanillatarn text TABLE

@@ -17,7 +17,7 @@ read_option() {
             exit 0
             ;;
         -o)
-            [[ $options == *v* ]] || has_option o -o
+            [[ $options == *[vx]* ]] || has_option o -o
             (($# > 1)) || misused '-o lacks its file'
             output=$2 taken=2
             ;;

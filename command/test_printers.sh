@@ -11,7 +11,7 @@ corpus="$root/corpus"
 work="$(mktemp -d)"
 trap 'rm -rf -- "$work"' EXIT
 cd "$root"
-rt check schedule_printer chart_printer verdict_printer spread_printer reason_printer plan_table translate_table program_listing trial_run >"$work/built" || { cat "$work/built"; exit 1; }
+rt check schedule_printer chart_printer verdict_printer spread_printer reason_printer plan_table translate_table program_listing trial_run uppaal_printer >"$work/built" || { cat "$work/built"; exit 1; }
 cd "$work"
 
 passed=0 failed=0
@@ -56,6 +56,13 @@ while IFS=$'\t' read -r name answer; do
         check "$name: the chart printed" cmp -s "$corpus/$name.chart" out
     elif [[ $answer != accepted ]]; then
         check "$name: the chart refused" cmp -s expected out
+    fi
+    check "$name: nothing on standard error" test ! -s err
+    "$programs/uppaal_printer" <"$corpus/$name.bin" >out 2>err
+    if [[ -e $corpus/$name.xta ]]; then
+        check "$name: the text for UPPAAL printed" cmp -s "$corpus/$name.xta" out
+    elif [[ $answer != accepted ]]; then
+        check "$name: the text for UPPAAL refused" cmp -s expected out
     fi
     check "$name: nothing on standard error" test ! -s err
     "$programs/verdict_printer" <"$corpus/$name.bin" >out 2>err

@@ -30,8 +30,8 @@
  * The version of this header and its archive, as words and as a number that
  * grows: 10,000 x major + 100 x minor + patch.
  */
-#define TIMED_NETWORK_VERSION "0.11.0"
-#define TIMED_NETWORK_VERSION_NUMBER 1100
+#define TIMED_NETWORK_VERSION "0.12.0"
+#define TIMED_NETWORK_VERSION_NUMBER 1200
 
 /*
  * Limits and sizes. "Enough" is what a buffer needs for any table.
@@ -48,6 +48,7 @@
 #define TIMED_NETWORK_REASON 3                          /* bytes of an edge's reason */
 #define TIMED_NETWORK_REASONS_ENOUGH (3 * 32)           /* bytes of a question's */
 #define TIMED_NETWORK_POSITION 3                        /* bytes of a pair's answer */
+#define TIMED_NETWORK_UPPAAL_ENOUGH 2436116             /* bytes of a text for UPPAAL */
 #define TIMED_NETWORK_MAX_PLAN 414                      /* bytes of a plan: enough */
 #define TIMED_NETWORK_MAX_PROGRAM 24576                 /* bytes of a program: enough */
 #define TIMED_NETWORK_OBSERVATION 36                    /* bytes of an observation */
@@ -88,7 +89,8 @@ enum timed_network_number {
     TIMED_NETWORK_REFUSED_QUESTION = 21,
     TIMED_NETWORK_REFUSED_SEED = 22,
     TIMED_NETWORK_REFUSED_SIMULATION = 23,
-    TIMED_NETWORK_REFUSED_ORDER = 24
+    TIMED_NETWORK_REFUSED_ORDER = 24,
+    TIMED_NETWORK_REFUSED_BUDGETS = 25
 };
 
 /* What the end of a run means; see timed_network_run_numbers. */
@@ -159,7 +161,7 @@ extern "C" {
  *
  * 15 to 17 stand in the place of 11 (document 02): they are asked after 10 and
  * before 12, and earlier versions of this library said 11 for all four. 13, 14
- * and 18 to 24 refuse a call and say nothing about a table.
+ * and 18 to 25 refuse a call and say nothing about a table.
  *
  * component: the number of the component concerned, counted from 0. For 4 to 6
  * the one that was being read, for 7 to 9 the one that was opening a passage,
@@ -240,8 +242,8 @@ timed_network_largest_spread(const uint8_t *table, size_t length);
  *
  *  13  the lent memory does not hold the result; component 255
  *
- * size: how many passages, or bytes of a chart, a table or a program, were
- * written; 0 after a refusal.
+ * size: how many passages, or bytes of a chart, a text, a table or a program,
+ * were written; 0 after a refusal.
  */
 typedef struct timed_network_call_numbers {
     uint8_t number;
@@ -296,6 +298,41 @@ timed_network_schedule(const uint8_t *table, size_t length,
 timed_network_call_numbers
 timed_network_timing_chart(const uint8_t *table, size_t length,
                            uint8_t *chart, size_t chart_length);
+
+/*
+ * Writes the network of a table as a text in the textual form of UPPAAL, XTA
+ * (document 02, wish 12), for `verifyta` and the tool's own window.
+ *
+ * table, length: as for timed_network_check.
+ * text:          the first of `text_length` bytes that can be written.
+ * text_length:   how many bytes there are. 2,436,116 are always enough. It may
+ *                be 0; then the pointer is not used.
+ *
+ * Component 0 is process P0, and so on; its location 0 is L0, its clock 0 x0,
+ * its variable 0 v0; channel 0 is c0. Each edge is two steps: from its location
+ * to a waiting location, anywhere in its window, and from there to its
+ * destination, exactly at the window's end. The waiting location of edge 0 is
+ * W0, or W0_c1 with a message on channel 1. docs/FORMATS.md has all of it. At
+ * whole ticks the network of the text has exactly the paths of the table's
+ * network that enter no location with its invariant already broken. Bands,
+ * horizon and version leave no trace.
+ *
+ * The text is ASCII, its lines end with a line feed, and no zero byte stands
+ * behind it. The size of the answer is its length. The bytes past it stay as
+ * they were; after a refusal all of them do.
+ *
+ * Refused with 1 to 12 as timed_network_check refuses, then with one number
+ * more, component 255:
+ *
+ *  25  an edge has a budget other than 0, also one that is never taken
+ *
+ * then with 13 where text_length is below the length of the text.
+ *
+ * The text must not overlap the table.
+ */
+timed_network_call_numbers
+timed_network_uppaal(const uint8_t *table, size_t length,
+                     uint8_t *text, size_t text_length);
 
 /*
  * Writes the table of a plan: a cellar with one hub and `probes` probes, in

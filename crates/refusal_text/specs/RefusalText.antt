@@ -13,7 +13,8 @@ noQuestion = ascii "Does a question have this number?\n"
 -- its question 11 in parts, as document 02's wish 3 tells them apart; 18 is of its wish 4, 19 and 20 of its wish 6: "A G above 1,000 is refused with 19
 -- after 3, an offset above G with 20 after 14."; 21 of its wish 7: "An absent component or a tick from H on is refused with 21, after 12."; 22 and 23 of its
 -- wish 10: "seed 0 is refused with 22, and lo above hi, hi above 60,000 or runs outside 1 to 10,000 with 23."; 24 of its wish 11: "21 as in Wish 7 comes
--- first, then 24 for a tick below its predecessor's".
+-- first, then 24 for a tick below its predecessor's"; 25 of its wish 12: "Tables with budgets are exported without them only if all are 0; any other is
+-- refused with 25".
 abbrev pub questions : List (List ℕ)
 questions =
     noQuestion ∷ ascii "Is the first byte 1, 2 or 3?\n"
@@ -40,6 +41,7 @@ questions =
     ∷ ascii "Is the seed at least 1?\n"
     ∷ ascii "Is lo at most hi, hi at most 60,000, and are the runs 1 to 10,000?\n"
     ∷ ascii "Is no tick below that of the pair before it?\n"
+    ∷ ascii "Are all budgets 0?\n"
     ∷ []
 
 unfoldable pub question : ℕ → List ℕ

@@ -115,10 +115,9 @@ fn put_question_on_listener(out: &mut [u8], at: usize, number: u8) -> usize
     }
 }
 
-// The questions about numbers handed in: a plan's, the spread, the offsets, a component and a tick, the seed, ticks of work and runs, the order of pairs.
-// A number past them has none.
+// The questions about numbers handed in: a plan's, the spread, the offsets, a component and a tick, the seed, ticks of work and runs.
 fn put_question_on_numbers(out: &mut [u8], at: usize, number: u8) -> usize
-    requires { ⌜ (at + 80 ≤ length (now out)) × (18 ≤ number) ⌝ }
+    requires { ⌜ (at + 80 ≤ length (now out)) × (18 ≤ number) × (number < 24) ⌝ }
     ensures { λ r. ⌜ Added (now (out .entry)) at (question number) (now (out .exit)) r × (r ≤ at + 80) ⌝ }
 {
     match number {
@@ -135,12 +134,22 @@ fn put_question_on_numbers(out: &mut [u8], at: usize, number: u8) -> usize
             b"Is the component there and the tick below the horizon?\n",
         ),
         22 => put(out, at, b"Is the seed at least 1?\n"),
-        23 => put(
+        _ => put(
             out,
             at,
             b"Is lo at most hi, hi at most 60,000, and are the runs 1 to 10,000?\n",
         ),
+    }
+}
+
+// The questions of further calls: about the order of pairs, and about a table that is exported. A number past them has none.
+fn put_question_on_further_calls(out: &mut [u8], at: usize, number: u8) -> usize
+    requires { ⌜ (at + 80 ≤ length (now out)) × (24 ≤ number) ⌝ }
+    ensures { λ r. ⌜ Added (now (out .entry)) at (question number) (now (out .exit)) r × (r ≤ at + 80) ⌝ }
+{
+    match number {
         24 => put(out, at, b"Is no tick below that of the pair before it?\n"),
+        25 => put(out, at, b"Are all budgets 0?\n"),
         _ => put(out, at, b"Does a question have this number?\n"),
     }
 }
@@ -157,8 +166,10 @@ fn put_question(out: &mut [u8], at: usize, number: u8) -> usize
         put_question_on_call(out, at, number)
     } else if number < 18 {
         put_question_on_listener(out, at, number)
-    } else {
+    } else if number < 24 {
         put_question_on_numbers(out, at, number)
+    } else {
+        put_question_on_further_calls(out, at, number)
     }
 }
 

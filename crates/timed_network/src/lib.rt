@@ -5,6 +5,7 @@ pub mod edge_reasons;
 pub mod places;
 pub mod simulated;
 pub mod spread;
+pub mod uppaal_export;
 
 ghost use mathlib.Core.Path.{_≡_};
 ghost use mathlib.Core.Logic.{_↔_};

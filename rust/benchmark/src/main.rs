@@ -6,6 +6,7 @@
 
 mod apart;
 mod clock;
+mod export;
 mod once;
 mod positions;
 mod processor;
@@ -86,6 +87,7 @@ fn measure(effort: Effort) -> Result<(), String> {
     reasons::time(effort)?;
     positions::time(effort)?;
     simulation::time(effort)?;
+    export::time(effort)?;
     refused::time(effort)
 }
 
@@ -222,7 +224,7 @@ fn time_run(effort: Effort, row: &Row, choices: &[u8], each: &str) {
 
 #[cfg(test)]
 mod tests {
-    use super::{apart, demand_agreement, positions, reasons, refused, simulation, tables};
+    use super::{apart, demand_agreement, export, positions, reasons, refused, simulation, tables};
 
     #[test]
     fn all_sides_agree_on_every_row() {
@@ -246,6 +248,10 @@ mod tests {
         }
         for (name, table, experiment) in &simulation::tried() {
             let agreed = simulation::demand_agreement(name, table, experiment);
+            assert_eq!(agreed, Ok(()));
+        }
+        for (name, table, length) in &export::written() {
+            let agreed = export::demand_agreement(name, table, *length);
             assert_eq!(agreed, Ok(()));
         }
         for (number, table) in refused::read().iter().chain(&refused::opened()) {

@@ -3,7 +3,9 @@
 
 use crate::apart::{self, OFFSETS, SPREAD};
 use crate::tables::{apart_rows, rows, slow_rows, Row};
-use crate::{choices_to_the_horizon, last_node, positions, reasons, refused, simulation, PLAN};
+use crate::{
+    choices_to_the_horizon, export, last_node, positions, reasons, refused, simulation, PLAN,
+};
 use comparison::runs::AMPLE;
 use reference::table::write_table;
 use std::hint::black_box;
@@ -40,6 +42,7 @@ fn all() -> Result<(), String> {
     tell_reasons();
     tell_positions();
     tell_simulations();
+    tell_texts();
     tell_refused();
     Ok(())
 }
@@ -142,6 +145,14 @@ fn tell_simulations() {
     }
 }
 
+/// Texts for UPPAAL.
+fn tell_texts() {
+    for (name, table, _) in export::written() {
+        let (bytes, mut text) = (write_table(&table), vec![0; UPPAAL_ENOUGH]);
+        tell(name, "uppaal", || uppaal_into(&bytes, &mut text));
+    }
+}
+
 /// A run has to come to the horizon, or another one is counted than the row's.
 fn demand_end(name: &str, answer: RunNumbers) -> Result<(), String> {
     if (answer.number, answer.end) == (0, 0) {
@@ -191,6 +202,7 @@ fn tell_early(name: &str, table: &[u8]) {
     tell(name, "simulate", || {
         simulate_numbers(table, [0, 1], 1, None)
     });
+    tell(name, "uppaal", || uppaal_into(table, &mut []));
     tell(name, "refusal_place", || refusal_place(table));
     tell(name, "refused_opening", || refused_opening(table));
 }

@@ -28,6 +28,7 @@ pub(crate) const READER: Reader = Reader {
     schedule,
     translate,
     timing_chart,
+    uppaal,
     plan,
     edge_choice: second_edge_choice,
     reasons,
@@ -79,6 +80,10 @@ fn translate(table: &[u8], program: &mut [u8]) -> Call {
 
 fn timing_chart(table: &[u8], chart: &mut [u8]) -> Call {
     answer(with(|yardstick| yardstick.timing_chart(table, chart)))
+}
+
+fn uppaal(table: &[u8], text: &mut [u8]) -> Call {
+    answer(with(|yardstick| yardstick.uppaal(table, text)))
 }
 
 fn plan(slots: Slots, table: &mut [u8]) -> Call {

@@ -7,7 +7,9 @@
 //! taken, and at ticks of accepted tables why it is, and where components are. Of each
 //! table both are asked where it is refused by checks 4 to 9. At spreads both are asked
 //! for verdicts and for the windows that met, and run nodes that wake apart. Both count
-//! simulated runs, each of which is handed on as a list of choices. Of accepted tables
+//! simulated runs, each of which is handed on as a list of choices. Both write texts for
+//! UPPAAL, which are read back, and whose networks are explored beside those of the
+//! tables. Of accepted tables
 //! random paths of the network within the schedule are drawn, and found again in runs.
 //! The first difference ends the comparison. Each run is also held to demand 3, with the
 //! finish ticks in its observations.
@@ -22,6 +24,7 @@ pub mod bytes;
 pub mod classes;
 pub mod difference;
 pub mod edge_choices;
+pub mod exports;
 mod fast;
 pub mod layout;
 pub mod lists;
@@ -117,6 +120,8 @@ pub struct Least {
     pub of_each_finish: u64,
     /// Simulations and simulated runs of each kind.
     pub of_each_simulation: u64,
+    /// Texts for UPPAAL of each kind, and of what their networks have.
+    pub of_each_export: u64,
 }
 
 /// What the comparison should have tried and did not: a class without cases,
@@ -125,7 +130,7 @@ pub struct Least {
 /// edge choice, a reason of an edge or an answer to pairs that never came, parts never
 /// found or never missed, a kind of run that is too rare, an answer at a spread or a kind
 /// of run of nodes that wake apart that is, a way in which checks 4 to 9 stop that is, a
-/// kind of path, of finish tick or of simulation that is, fewer cases or runs in all than
+/// kind of path, of finish tick, of simulation or of text that is, fewer cases or runs in all than
 /// demanded.
 pub fn gaps(tallies: &[Tally], least: &Least) -> Vec<String> {
     let empty = tallies.iter().filter(|tally| tally.is_empty());
@@ -156,6 +161,7 @@ pub fn gaps(tallies: &[Tally], least: &Least) -> Vec<String> {
         gaps.extend(noted::gaps(runs, &tally.noted, least.of_each_finish));
     }
     gaps.extend(sum.simulated.gaps(least.of_each_simulation));
+    gaps.extend(sum.exports.gaps(least.of_each_export));
     let (cases, runs) = (sum.cases(), sum.runs.ran());
     for (count, least, what) in [(cases, least.cases, "cases"), (runs, least.runs, "runs")] {
         if count < least {

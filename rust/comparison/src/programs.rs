@@ -83,7 +83,7 @@ pub fn compare_plan(
 }
 
 /// The same for any two calls that write bytes.
-fn compare_written(
+pub(crate) fn compare_written(
     calls: [impl Fn(&mut [u8]) -> Call; 2],
     length: usize,
 ) -> Result<(Verdict, Vec<u8>), Unlike> {

@@ -51,6 +51,8 @@ pub const NO_SEED: u8 = 22;
 pub const NO_SIMULATION: u8 = 23;
 /// The refusal of a pair whose tick is below that of the pair before it.
 pub const UNSORTED: u8 = 24;
+/// The refusal of a text of a table with budgets.
+pub const WITH_BUDGETS: u8 = 25;
 
 /// A call that finds one node's part of a program.
 pub type Part = for<'a> fn(&'a [u8], u8) -> &'a [u8];
@@ -91,6 +93,8 @@ pub struct Reader {
     pub translate: Writes,
     /// What it writes as a table's chart.
     pub timing_chart: Writes,
+    /// What it writes as a table's text for UPPAAL.
+    pub uppaal: Writes,
     /// What it writes as the table of a plan.
     pub plan: Plans,
     /// Which edge it takes at an entry, and how many it looks at.
@@ -138,6 +142,7 @@ impl Readers {
             schedule: timed_network::schedule,
             translate: timed_network::translate,
             timing_chart: timed_network::timing_chart,
+            uppaal: timed_network::uppaal_into,
             plan: timed_network::plan,
             edge_choice: |table, entry| {
                 timed_network::edge_choice(table, entry).map_err(Verdict::from)
@@ -176,6 +181,7 @@ impl Reader {
             schedule: second_schedule,
             translate: second_translate,
             timing_chart: second_chart,
+            uppaal: second_uppaal,
             plan: second_plan,
             edge_choice: second_edge_choice,
             reasons: second_reasons,
@@ -241,6 +247,11 @@ pub fn second_translate(table: &[u8], program: &mut [u8]) -> Call {
 /// The second implementation's chart.
 pub fn second_chart(table: &[u8], chart: &mut [u8]) -> Call {
     written(calls::timing_chart(table, chart))
+}
+
+/// The second implementation's text for UPPAAL.
+pub fn second_uppaal(table: &[u8], text: &mut [u8]) -> Call {
+    written(calls::uppaal(table, text))
 }
 
 /// The second implementation's plan.

@@ -1,13 +1,15 @@
 //! The programs, parts, charts, plans, edge choices, reasons, positions, verdicts at a
-//! spread, runs, simulated ones and places of refusals that the vectors keep, with their
+//! spread, runs, simulated ones, texts and places of refusals that the vectors keep, with their
 //! answers.
 
 mod apart;
+mod exported;
 mod positions;
 mod simulated;
 mod why;
 
 pub use apart::Apart;
+pub use exported::{Asked, Exported};
 pub use positions::Where;
 pub use simulated::Simulated;
 pub use why::Why;
@@ -77,6 +79,8 @@ pub enum Request {
     },
     /// Simulated runs of a table.
     Simulated(Simulated),
+    /// The text of a table for UPPAAL.
+    Exported(Exported),
     /// The verdict on a table at a spread.
     Spread {
         /// The table.
@@ -157,6 +161,7 @@ fn request(line: &str) -> Option<Option<Request>> {
             Request::Where(positions::read(&words, answer)?)
         }
         (["sim", ..], _) => Request::Simulated(simulated::read(&words, answer)?),
+        (["uppaal" | "explore", ..], _) => Request::Exported(exported::read(&words, answer)?),
         (["place", table], _) => Request::Place {
             table: unhex(table)?,
             answer: located(answer)?,

@@ -1,6 +1,7 @@
 //! What was counted.
 
 use crate::edge_choices::Chosen;
+use crate::exports::Exports;
 use crate::places::Places;
 use crate::positions::Located;
 use crate::readers::{NUMBERS, TOO_SHORT};
@@ -43,6 +44,8 @@ pub struct Tally {
     pub runs: Runs,
     /// The simulated runs.
     pub simulated: Simulated,
+    /// The texts for UPPAAL.
+    pub exports: Exports,
     /// Verdicts at a spread, and what belongs to them.
     pub spreads: Spreads,
     /// The runs of nodes that wake apart.
@@ -171,6 +174,7 @@ impl Tally {
             parts: [0; 2],
             runs: Runs::default(),
             simulated: Simulated::default(),
+            exports: Exports::default(),
             spreads: Spreads::default(),
             apart: RunsApart::default(),
             places: Places::default(),
@@ -185,7 +189,7 @@ impl Tally {
 
     /// Whether nothing was tried.
     pub fn is_empty(&self) -> bool {
-        let lent = self.charts.all() + self.plans.all();
+        let lent = self.charts.all() + self.plans.all() + self.exports.all();
         let runs = self.runs.all() + self.simulated.all() + self.apart.all();
         let others = self.parts.iter().sum::<u64>() + self.spreads.all() + self.paths.all();
         self.cases() + lent + runs + others + self.located.all() == 0
@@ -227,6 +231,7 @@ impl Tally {
             }
             sum.runs.add(&tally.runs);
             sum.simulated.add(&tally.simulated);
+            sum.exports.add(&tally.exports);
             sum.spreads.add(&tally.spreads);
             sum.apart.add(&tally.apart);
             sum.places.add(&tally.places);
@@ -238,7 +243,7 @@ impl Tally {
 
 /// What was tried: the answers that were given, each with how often, then
 /// lists, programs, charts, plans, edge choices, questions, pairs, parts, runs, simulated
-/// ones, what there is of nodes that wake apart, where the tables were refused, and paths.
+/// ones, texts, what there is of nodes that wake apart, where the tables were refused, and paths.
 impl fmt::Display for Tally {
     fn fmt(&self, out: &mut fmt::Formatter<'_>) -> fmt::Result {
         let [accepted, refusals @ ..] = &self.answers;
@@ -281,6 +286,9 @@ impl fmt::Display for Tally {
         }
         if self.simulated.all() > 0 {
             write!(out, "; {}", self.simulated)?;
+        }
+        if self.exports.all() > 0 {
+            write!(out, "; {}", self.exports)?;
         }
         if self.spreads.all() > 0 {
             write!(out, "; {}", self.spreads)?;

@@ -19,6 +19,7 @@ const LEAST: Least = Least {
     of_each_path: 1,
     of_each_finish: 1,
     of_each_simulation: 1,
+    of_each_export: 1,
 };
 
 fn short(readers: &Readers, seed: u64) -> Result<Vec<Tally>, Stop> {

@@ -1,5 +1,6 @@
 //! What was counted is told, and so is what was not tried.
 
+use comparison::exports::Exports;
 use comparison::places::Places;
 use comparison::positions::Located;
 use comparison::reasons::Asked;
@@ -56,6 +57,7 @@ fn tally(class: &'static str, answers: [u64; 16]) -> Tally {
         parts: [5, 4],
         runs: all_kinds(),
         simulated: all_simulated(),
+        exports: all_exports(),
         spreads: all_spreads(),
         apart: all_apart(),
         places: all_places(),
@@ -77,6 +79,21 @@ fn all_simulated() -> Simulated {
         runs: 90,
         handed: 80,
         handed_late: 30,
+    }
+}
+
+/// A text of each kind.
+fn all_exports() -> Exports {
+    Exports {
+        written: 9,
+        short: 3,
+        budgeted: 2,
+        refused: 1,
+        same: 4,
+        read: 5,
+        states: 60,
+        moves: [40, 10],
+        broken: 2,
     }
 }
 
@@ -176,6 +193,7 @@ fn least(cases: u64, runs: u64) -> Least {
         of_each_path: 1,
         of_each_finish: 1,
         of_each_simulation: 1,
+        of_each_export: 1,
     }
 }
 
@@ -203,6 +221,7 @@ fn what_was_not_tried_is_told() {
         answers: FULL,
         runs: all_kinds(),
         simulated: all_simulated(),
+        exports: all_exports(),
         spreads: all_spreads(),
         apart: all_apart(),
         places: all_places(),
@@ -269,6 +288,11 @@ fn what_was_not_tried_is_told() {
         ..full.clone()
     };
     assert_eq!(gaps(&[no_paths], &least(0, 0)).len(), 7);
+    let unwritten = Tally {
+        exports: Exports::default(),
+        ..full.clone()
+    };
+    assert_eq!(gaps(&[unwritten], &least(0, 0)).len(), 10);
     let unsimulated = Tally {
         simulated: Simulated::default(),
         ..full
@@ -315,6 +339,9 @@ fn a_line_tells_all_answers_that_were_given() {
                 21 simulations: in time 6, some late 5, all late 4 (3 of several nodes), \
                 refused 22: 1, refused 23: 2, table refused 3, nothing drawn 2; \
                 90 simulated runs, 80 of them handed on as choices, 30 late; \
+                15 texts: written 9, too short 3, refused 25: 2, table refused 1; \
+                4 equal those of another version, 5 read back: 60 states, 40 moves of one, \
+                10 of two, 2 broken entries; \
                 17 verdicts at a spread: accepted 1, refused 1: 1, refused 2: 1, refused 3: 1, \
                 refused 4: 1, refused 5: 1, refused 6: 1, refused 7: 1, refused 8: 1, \
                 refused 9: 1, refused 10: 1, refused 11: 1, refused 12: 1, refused 15: 1, \

@@ -3,6 +3,7 @@
 #![forbid(unsafe_code)]
 
 pub mod asked;
+pub mod export;
 pub mod json;
 pub mod positions;
 pub mod refusals;

@@ -1,4 +1,4 @@
-//! The exported calls over lent buffers, with checks 13, 14, 18 and 20 to 24.
+//! The exported calls over lent buffers, with checks 13, 14, 18 and 20 to 25.
 //!
 //! "Lent buffers keep their bytes; on success so do those past the result."
 
@@ -15,6 +15,7 @@ use crate::run::{run_apart_into, Outcome, OBSERVATION};
 use crate::schedule::{schedule_or_fault, Passage};
 use crate::simulation::{self, Simulation, WorkTimes};
 use crate::table::{read_table, write_table, Refusal, Table};
+use crate::uppaal;
 
 /// "14. Are there at most 1,000,000 choices? Else 14."
 pub const MAX_CHOICES: usize = 1_000_000;
@@ -210,6 +211,20 @@ pub fn simulate(
 ) -> Result<Simulation, Refusal> {
     let (table, passages) = verdict(table)?;
     simulation::simulate(&table, &passages, work, runs, seed)
+}
+
+/// Writes the network of a table as a text for UPPAAL and gives the count of its bytes.
+/// "Tables with budgets are exported without them only if all are 0; any other is
+/// refused with 25 before 13."
+pub fn uppaal(table: &[u8], bytes: &mut [u8]) -> Result<usize, Refusal> {
+    let (table, _) = verdict(table)?;
+    if uppaal::has_budgets(&table) {
+        return Err(Refusal::whole(25));
+    }
+    let text = uppaal::text(&table);
+    demand_room(bytes.len(), text.len())?;
+    bytes[..text.len()].copy_from_slice(text.as_bytes());
+    Ok(text.len())
 }
 
 /// "The part of the program bytes that belongs to one node can be had by its

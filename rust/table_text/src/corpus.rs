@@ -1,7 +1,8 @@
 //! A folder of tables: for each name a source `NAME.txt` and its bytes
 //! `NAME.bin`, for each accepted one its schedule `NAME.schedule` and why edges are
 //! taken `NAME.why`, for some of them its chart `NAME.chart`, its verdicts at spreads
-//! `NAME.spread`, runs `NAME.runs` or where components are at ticks `NAME.where`, and one
+//! `NAME.spread`, runs `NAME.runs`, where components are at ticks `NAME.where` or text for
+//! UPPAAL `NAME.xta`, and one
 //! file `answers.tsv` with the answers of checks 1 to 12.
 
 mod pairs;

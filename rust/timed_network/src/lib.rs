@@ -15,8 +15,9 @@
 //! observations, which an [`Observation`] reads. For nodes
 //! that wake apart there are [`check_spread`], [`largest_spread`],
 //! [`meetings_spread`] and [`run_apart`]. [`simulate`] counts the late ones of runs
-//! whose work times are drawn. [`node`] has one node whose registers
-//! the caller lends. The declarations of the library stand in seven private
+//! whose work times are drawn. [`uppaal`] writes the network of a table as a text for
+//! UPPAAL. [`node`] has one node whose registers
+//! the caller lends. The declarations of the library stand in eight private
 //! modules; each call gets its safe form.
 //!
 //! Every slice may be lent: an empty one, one of any length (a slice never
@@ -37,6 +38,7 @@ mod refusal;
 mod running;
 mod simulation;
 mod spread;
+mod uppaal;
 
 pub use exported::{Entry, Passage, RunNumbers};
 pub use observation::{Observation, NO_WORK, OBSERVATION};
@@ -53,6 +55,7 @@ pub use simulation::{
 pub use spread::{
     check_spread, largest_spread, meetings_spread, run_apart, run_apart_numbers, MAX_SPREAD,
 };
+pub use uppaal::{uppaal, uppaal_into, UPPAAL_ENOUGH};
 
 /// The numbers that a passage takes in a list: component, edge, location,
 /// entry, ready, end, message.
@@ -71,12 +74,13 @@ pub const MAX_BUDGET: u16 = 60_000;
 /// The most bytes that the table of a plan has.
 pub const MAX_PLAN: usize = 414;
 
-/// The answer of a call that writes a schedule, a chart, a program or a plan.
+/// The answer of a call that writes a schedule, a chart, a program, a plan or a text.
 #[derive(Clone, Copy, Debug, PartialEq, Eq)]
 pub struct Call {
-    /// Checks 1 to 12, or 18 for a plan, then 13 where too little is lent.
+    /// Checks 1 to 12, or 18 for a plan, and 25 for a text, then 13 where too little is
+    /// lent.
     pub verdict: Verdict,
-    /// How many passages, or bytes of a chart, a program or a table, were
+    /// How many passages, or bytes of a chart, a program, a table or a text, were
     /// written; 0 after a refusal.
     pub size: usize,
 }

@@ -8,7 +8,7 @@ use std::fmt;
 pub const NO_COMPONENT: u8 = 255;
 
 /// Why a table or a call is refused: the question that is answered with no, by
-/// the numbers of document 01; 15 to 24 are those of document 02. Displayed as
+/// the numbers of document 01; 15 to 25 are those of document 02. Displayed as
 /// that question, in the words of the proved text (`crates/refusal_text`).
 ///
 /// ```
@@ -75,10 +75,12 @@ pub enum Refusal {
     Simulation = 23,
     /// 24: the tick of a pair is below that of the pair before it.
     Order = 24,
+    /// 25: an edge of a table that is to be exported has a budget other than 0.
+    Budgets = 25,
 }
 
 /// The question of each refusal, in the order of their numbers.
-const QUESTIONS: [&str; 24] = [
+const QUESTIONS: [&str; 25] = [
     "Is the first byte 1, 2 or 3?",
     "Is the stated length the length handed in, from 7 to 8,192?",
     "Are components, channels, horizon and bands in range?",
@@ -103,11 +105,12 @@ const QUESTIONS: [&str; 24] = [
     "Is the seed at least 1?",
     "Is lo at most hi, hi at most 60,000, and are the runs 1 to 10,000?",
     "Is no tick below that of the pair before it?",
+    "Are all budgets 0?",
 ];
 
 impl Refusal {
     /// All refusals, in the order of their numbers, which start with 1.
-    pub const ALL: [Refusal; 24] = [
+    pub const ALL: [Refusal; 25] = [
         Refusal::Version,
         Refusal::Length,
         Refusal::Header,
@@ -132,9 +135,10 @@ impl Refusal {
         Refusal::Seed,
         Refusal::Simulation,
         Refusal::Order,
+        Refusal::Budgets,
     ];
 
-    /// Its number, 1 to 24.
+    /// Its number, 1 to 25.
     pub fn number(self) -> u8 {
         self as u8
     }

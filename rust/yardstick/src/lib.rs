@@ -13,7 +13,7 @@
 //! finds one node's part, `run` carries out choices, `chart` draws the schedule,
 //! `plan` writes the table of a plan, `reasons` tells why an edge is taken, `simulation`
 //! counts late runs with drawn work times, `positions` tells where components are at
-//! ticks. `place` and `refused` tell where a table is refused.
+//! ticks, `uppaal` writes the network as a text. `place` and `refused` tell where a table is refused.
 #![forbid(unsafe_code)]
 #![warn(missing_docs)]
 
@@ -33,6 +33,7 @@ mod simulation;
 mod spread;
 mod table;
 mod translate;
+mod uppaal;
 
 pub use part::part;
 pub use place::Place;
@@ -67,7 +68,7 @@ pub const MAX_SPREAD: u32 = 1000;
 #[derive(Clone, Copy, Debug, PartialEq, Eq)]
 pub struct Refusal {
     /// The number of the check that is not passed: 1 to 12 or 15
-    /// to 17, 13, 14, or 18 to 24.
+    /// to 17, 13, 14, or 18 to 25.
     pub number: u8,
     /// The component concerned, or [`NONE`].
     pub component: u8,
@@ -132,6 +133,7 @@ pub struct Yardstick {
     schedule: Schedule,
     windows: Vec<spread::Window>,
     machine: Machine,
+    export: uppaal::Export,
 }
 
 impl Yardstick {

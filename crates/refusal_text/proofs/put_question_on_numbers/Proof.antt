@@ -2,7 +2,7 @@
 use mathlib.Core.Path.{_≡_}
 use native.Mathlib.Omega.{arith}
 use Rattle.refusal_text.specs.RefusalText.{question}
-use Rattle.refusal_text.proofs.Questions.{asked, past, not-asked}
+use Rattle.refusal_text.proofs.Questions.{asked}
 use borrow.Author.Needs.{needs}
 use Rattle.refusal_text.proofs.put_question_on_numbers.Statement.{statement}
 use Rattle.refusal_text.proofs.put_question_on_numbers.Tie as tie
@@ -42,18 +42,6 @@ slice-aggregate-put-6 c = search needs
 
 put-requires-6 : tie.Need-put-requires-6
 put-requires-6 c κs = search needs
-
-slice-aggregate-put-7 : tie.Need-slice-aggregate-put-7
-slice-aggregate-put-7 c = search needs
-
-put-requires-7 : tie.Need-put-requires-7
-put-requires-7 c κs = search needs
-
-slice-aggregate-put-8 : tie.Need-slice-aggregate-put-8
-slice-aggregate-put-8 c = search needs
-
-put-requires-8 : tie.Need-put-requires-8
-put-requires-8 c κs = search needs
 
 same-length : tie.Need-same-length
 same-length c = search needs
@@ -107,27 +95,9 @@ returns-6 : tie.Need-returns-6
 unfolding question
 returns-6 c =
     let p = c .before .before .put6 in
-    (asked (c .before .before .before .before .before .before .before .args .number) 23 (c .before .before .before .before .before .match .keys6) (p .ensures .0), omega (arith, p .ensures .1))
-
-same-length-7 : tie.Need-same-length-7
-same-length-7 c = search needs
-
-returns-7 : tie.Need-returns-7
-unfolding question
-returns-7 c =
-    let p = c .before .before .put7 in
-    (asked (c .before .before .before .before .before .before .before .args .number) 24 (c .before .before .before .before .before .match .keys7) (p .ensures .0), omega (arith, p .ensures .1))
-
-same-length-8 : tie.Need-same-length-8
-same-length-8 c = search needs
-
-returns-8 : tie.Need-returns-8
-returns-8 c =
-    let p = c .before .before .put8 in
-    let s = c .before .before .before .before .before .before .before in
-    let r = c .before .before .before .before .before .match .rest in
-    let later = past (past (past (past (past (past (past (s .pre .1) (r .0 .0 .0 .0 .0 .0 .1)) (r .0 .0 .0 .0 .0 .1)) (r .0 .0 .0 .0 .1)) (r .0 .0 .0 .1)) (r .0 .0 .1)) (r .0 .1)) (r .1) in
-    (not-asked (s .args .number) later (p .ensures .0), omega (arith, p .ensures .1))
+    let rest = c .before .before .before .before .before .match .rest in
+    let known : c .before .before .before .before .before .before .before .args .number ≡ 23 = omega (arith, c .before .before .before .before .before .before .before .pre, rest .0, rest .1) in
+    (asked (c .before .before .before .before .before .before .before .args .number) 23 known (p .ensures .0), omega (arith, p .ensures .1))
 
 pub put-question-on-numbers-spec : {M : Type 1} → statement M
 put-question-on-numbers-spec =
@@ -145,10 +115,6 @@ put-question-on-numbers-spec =
     put-requires-5
     slice-aggregate-put-6
     put-requires-6
-    slice-aggregate-put-7
-    put-requires-7
-    slice-aggregate-put-8
-    put-requires-8
     same-length
     returns
     same-length-2
@@ -160,8 +126,4 @@ put-question-on-numbers-spec =
     same-length-5
     returns-5
     same-length-6
-    returns-6
-    same-length-7
-    returns-7
-    same-length-8
-    returns-8)
+    returns-6)

@@ -7,6 +7,7 @@ mod budgets;
 mod charts;
 mod close;
 mod cuts;
+mod exported;
 mod finishes;
 mod generated;
 mod limits;
@@ -76,7 +77,7 @@ const fn class(name: &'static str, run: fn(&mut Trial, &mut Random, &Extent) -> 
 }
 
 /// All classes, in the order in which they are tried.
-pub const CLASSES: [Class; 103] = [
+pub const CLASSES: [Class; 108] = [
     class("vectors", stored::vectors),
     class("corpus", stored::corpus),
     class("random bytes", random_bytes::anything),
@@ -192,4 +193,9 @@ pub const CLASSES: [Class; 103] = [
     class("positions: planned tables", positions::planned),
     class("positions: internal loops", positions::workers),
     class("positions: windows close together", positions::close),
+    class("texts of stored tables", exported::stored),
+    class("texts of planned tables", exported::planned),
+    class("texts of any table", exported::at_rest),
+    class("texts of large tables", exported::large),
+    class("texts of tables with budgets", exported::with_budgets),
 ];

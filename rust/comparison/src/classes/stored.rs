@@ -7,7 +7,7 @@ use crate::difference::{Outcome, Stop};
 use crate::places::{refused_by, READ};
 use crate::random::Random;
 use crate::reasons::AMPLE;
-use crate::requests::{self, Apart, Request};
+use crate::requests::{self, Apart, Asked, Exported, Request};
 use crate::runs::apart::Handed;
 use crate::stored::{self, Stored};
 use crate::trial::Trial;
@@ -57,7 +57,7 @@ fn expect_all(trial: &mut Trial, tables: Result<Vec<Stored>, String>) -> Outcome
 }
 
 /// The programs, parts, charts, plans, edge choices, reasons, positions, verdicts at a
-/// spread, runs, simulated ones and places of refusals of the vectors.
+/// spread, runs, simulated ones, texts and places of refusals of the vectors.
 pub(super) fn requests(trial: &mut Trial, _: &mut Random, _: &Extent) -> Outcome {
     for request in requests::requests().map_err(Stop::Unreadable)? {
         match &request {
@@ -102,6 +102,7 @@ pub(super) fn requests(trial: &mut Trial, _: &mut Random, _: &Extent) -> Outcome
             Request::Simulated(request) => {
                 trial.expect_simulation(&request.table, &request.experiment, &request.answer)?
             }
+            Request::Exported(request) => expect_exported(trial, request)?,
             Request::Spread {
                 table,
                 spread,
@@ -118,6 +119,19 @@ pub(super) fn requests(trial: &mut Trial, _: &mut Random, _: &Extent) -> Outcome
         }
     }
     Ok(())
+}
+
+/// A text, or what its network has.
+fn expect_exported(trial: &mut Trial, request: &Exported) -> Outcome {
+    let Exported {
+        table,
+        asked,
+        answer,
+    } = request;
+    match *asked {
+        Asked::Counts(lent) => trial.expect_text(table, lent, answer),
+        Asked::States(ticks) => trial.expect_explored(table, ticks, answer),
+    }
 }
 
 /// A run of nodes that wake apart.

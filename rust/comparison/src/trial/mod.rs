@@ -3,6 +3,7 @@
 
 mod asking;
 mod choosing;
+mod exporting;
 mod following;
 mod locating;
 mod positioning;
@@ -108,6 +109,7 @@ impl<'a> Trial<'a> {
         self.choose_accepted(input)?;
         self.ask_accepted(input)?;
         self.position_accepted(input)?;
+        self.export_some(input)?;
         self.translate_accepted(input)
     }
 
@@ -125,6 +127,7 @@ impl<'a> Trial<'a> {
             self.ask_refused(input)?;
             self.position_refused(input)?;
             self.simulate_refused(input)?;
+            self.export_refused(input)?;
         }
         Ok(())
     }

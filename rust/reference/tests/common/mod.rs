@@ -188,6 +188,12 @@ pub fn vectors_of_positions() -> Vec<Vector> {
     read_vectors(&["positions.tsv"])
 }
 
+/// The cases of texts for UPPAAL: `uppaal` with how many bytes are lent, and `explore`
+/// with how many ticks.
+pub fn vectors_of_uppaal() -> Vec<Vector> {
+    read_vectors(&["uppaal.tsv"])
+}
+
 fn read_vectors(files: &[&str]) -> Vec<Vector> {
     let mut all = Vec::new();
     for file in files {

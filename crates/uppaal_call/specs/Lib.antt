@@ -1,0 +1,2 @@
+pub mod LaidText
+pub mod CallCases

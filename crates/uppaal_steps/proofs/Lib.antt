@@ -1,0 +1,3 @@
+pub mod Naming
+pub mod Guarding
+pub mod Stepping

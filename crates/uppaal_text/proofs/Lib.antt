@@ -1,0 +1,4 @@
+pub mod Over
+pub mod Named
+pub mod Edges
+pub mod Processes
