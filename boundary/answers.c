@@ -1,3 +1,4 @@
+#include "site.h"
 #include "stored.h"
 
 #include <stdio.h>
@@ -306,13 +307,37 @@ static void write_uppaal(const struct stored *stored, enum where where) {
         line = write_process(line);
 }
 
+static void write_airtime(const struct stored *stored, enum where where) {
+    timed_network_airtime_numbers answer = guarded_airtime(where, stored->table);
+    if (!write_refusal(answer.number, answer.component))
+        write_number("", answer.airtime);
+}
+
+/* The airtime in use after each call of a site, or its refusal, with | between them. */
+static void write_sequence(const struct stored *stored, enum where where) {
+    timed_network_networks site = guarded_site(stored->limit);
+    for (size_t i = 0; i < stored->count; i++) {
+        const struct site_call *call = &stored->calls[i];
+        if (call->puts)
+            guarded_site_put(where, &site, call->table, call->place);
+        else
+            guarded_site_take(where, &site, call->place);
+        if (i > 0)
+            write_text("|");
+        if (!write_refusal(site.number, site.component))
+            write_number("", site.in_use);
+    }
+    if (stored->count == 0)
+        write_text("-");
+}
+
 void stored_try(const struct stored *stored, enum where where) {
     static void (*const writers[])(const struct stored *, enum where) = {
         write_check,        write_schedule,  write_chart, write_plan,
         write_looked,       write_program,   write_part,  write_run,
         write_check_spread, write_run_apart, write_place, write_opening,
         write_reasons,      write_positions, write_simulation, write_simulation,
-        write_uppaal};
+        write_uppaal,       write_airtime,   write_sequence};
     trying("a stored case", stored->name);
     used = 0;
     text[0] = 0;

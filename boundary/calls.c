@@ -2,12 +2,15 @@
 
 #include <string.h>
 
+#include "site.h"
+
 const char *const call_names[CALLS] = {
     "check",        "schedule",  "timing_chart",   "plan",
     "edge_choice",  "translate", "part",           "run",
     "check_spread", "run_apart", "refusal_place",  "refused_opening",
     "reasons",      "positions", "simulate",       "simulate_from",
-    "uppaal",       "passages",  "meetings",       "largest_spread",
+    "uppaal",       "airtime",   "site",           "site_put",
+    "site_take",    "passages",  "meetings",       "largest_spread",
     "meetings_spread", "start",  "step",           "take_message"};
 unsigned long made[CALLS];
 uint32_t list[MAX_LIST];
@@ -41,6 +44,7 @@ void calls_start(void) {
     positions_start();
     simulation_start();
     uppaal_start();
+    site_start();
 }
 
 void try_verdict(uint8_t number, uint8_t component, uint8_t most) {

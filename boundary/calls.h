@@ -66,7 +66,7 @@ struct experiment {
     int seeded;
 };
 
-/* The exported calls; vectors ask for those up to UPPAAL. */
+/* The exported calls; vectors ask for those up to SITE. */
 enum call {
     CHECK,
     SCHEDULE,
@@ -85,6 +85,10 @@ enum call {
     SIMULATE,
     SIMULATE_FROM,
     UPPAAL,
+    AIRTIME,
+    SITE,
+    SITE_PUT,
+    SITE_TAKE,
     PASSAGES,
     MEETINGS,
     LARGEST_SPREAD,

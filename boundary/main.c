@@ -7,14 +7,15 @@
  * First the cases of vectors/ and corpus/ with their answers, each run also
  * with its nodes driven one at a time; then lent memory of every length about
  * the one needed, plans of all counts of probes among them; then tables cut at
- * every length; then random rounds from the seed. Ends at the first fault, with
- * status 1.
+ * every length; then random rounds from the seed, sites of random bytes among
+ * them. Ends at the first fault, with status 1.
  */
 #include <stdio.h>
 #include <stdlib.h>
 #include <string.h>
 
 #include "nodes.h"
+#include "site.h"
 
 static const struct stored *find(const char *name, enum call request) {
     for (size_t i = 0; i < case_count; i++)
@@ -234,6 +235,7 @@ static void all_calls(enum where where, struct bytes table, struct bytes choices
     guarded_positions(where, table, random_pairs(table), lent % (MAX_ANSWERED + 1));
     simulate_in_all_ways(where, table, random_experiment());
     guarded_uppaal(where, table, lent);
+    guarded_airtime(where, table);
     if (verdict.number != 0) {
         same(planned.number == verdict.number && translated.number == verdict.number &&
                  ran.number == verdict.number && charted.number == verdict.number,
@@ -341,6 +343,7 @@ static void rounds(unsigned long count) {
         }
         lend_for_meetings(where, table, (long)random_below(5) - 2);
         random_plan(where);
+        sites_random(where, table);
         struct bytes bytes = random_program(length);
         timed_network_part_numbers part = guarded_part(where, bytes, random_node());
         nodes_random(where, of(bytes.at + part.start, part.length));

@@ -53,6 +53,8 @@ static timed_network_opening_numbers refused_opening;
 static timed_network_reason_numbers reasons;
 static timed_network_position_numbers positions;
 static timed_network_simulation_numbers simulation;
+static timed_network_airtime_numbers airtime;
+static timed_network_networks networks;
 
 /* What is lent to a call. For a node's calls `bytes` is its part. */
 struct lent {
@@ -118,6 +120,10 @@ __attribute__((noinline)) static void call_uppaal(const uint8_t *bytes, size_t l
     called = timed_network_uppaal(bytes, length, network_text, MAX_TEXT);
 }
 
+__attribute__((noinline)) static void call_site(uint32_t limit) {
+    networks = timed_network_site(limit);
+}
+
 static void call(int request, const struct lent *lent) {
     const uint8_t *bytes = lent->bytes.at;
     size_t length = lent->bytes.length;
@@ -174,6 +180,20 @@ static void call(int request, const struct lent *lent) {
         break;
     case UPPAAL:
         call_uppaal(bytes, length);
+        break;
+    case AIRTIME:
+        airtime = timed_network_airtime(bytes, length);
+        break;
+    case SITE:
+        call_site(UINT32_MAX);
+        break;
+    case SITE_PUT:
+        networks.horizons[0] = 0;
+        timed_network_site_put(&networks, bytes, length, 0);
+        break;
+    case SITE_TAKE:
+        networks.horizons[0] = 1;
+        timed_network_site_take(&networks, 0);
         break;
     case PASSAGES:
         called = timed_network_passages(bytes, length, passages, MAX_PASSAGES);

@@ -124,6 +124,31 @@ static struct experiment read_experiment(const char *words) {
     return experiment;
 }
 
+/* A call of a site: put:PLACE:TABLE or take:PLACE. */
+static struct site_call read_call(char *word) {
+    struct site_call call = {strncmp(word, "put:", 4) == 0, {NULL, 0}, 0};
+    char *place = cut(word, ':');
+    if (call.puts)
+        call.table = from_hex(cut(place, ':'));
+    call.place = (uint8_t)atoi(place);
+    return call;
+}
+
+/* A site's limit, and its calls. */
+static void read_sequence(struct stored *stored, char *words) {
+    char *next = strchr(words, ' ');
+    stored->limit = (uint32_t)strtoul(words, NULL, 10);
+    while (next != NULL) {
+        char *word = next + 1;
+        next = strchr(word, ' ');
+        if (next != NULL)
+            *next = 0;
+        size_t size = (stored->count + 1) * sizeof stored->calls[0];
+        stored->calls = demand(realloc(stored->calls, size));
+        stored->calls[stored->count++] = read_call(word);
+    }
+}
+
 /*
  * The request of a word. A check and a run that say a spread, behind the table
  * and behind the choices, are those at a spread; a simulation that says a seed,
@@ -142,6 +167,10 @@ static size_t request_of(const char *word, const char *words) {
         return POSITIONS;
     if (strcmp(word, "uppaal") == 0)
         return UPPAAL;
+    if (strcmp(word, "air") == 0)
+        return AIRTIME;
+    if (strcmp(word, "ledger") == 0)
+        return SITE;
     if (strcmp(word, "sim") == 0) {
         int spaces = 0;
         for (const char *at = words; *at != 0; at++)
@@ -166,6 +195,10 @@ static void read_words(struct stored *stored, char *table) {
     size_t request = stored->request;
     if (request == PLAN) {
         read_slots(stored, table);
+        return;
+    }
+    if (request == SITE) {
+        read_sequence(stored, table);
         return;
     }
     char *more = strchr(table, ' ') != NULL ? cut(table, ' ') : NULL;
@@ -348,6 +381,7 @@ void stored_read(const char *root) {
     read_vectors(root, "vectors/simulations.tsv");
     read_vectors(root, "vectors/positions.tsv");
     read_vectors(root, "vectors/uppaal.tsv");
+    read_vectors(root, "vectors/sites.tsv");
     read_vectors(root, "vectors/places.tsv");
     read_corpus(root);
     read_places(root);

@@ -4,9 +4,16 @@
 
 #include "calls.h"
 
+/* A call of a site in a stored sequence. */
+struct site_call {
+    int puts;
+    struct bytes table; /* where it puts one in */
+    uint8_t place;
+};
+
 struct stored {
     char *name;
-    enum call request;            /* CHECK to UPPAAL */
+    enum call request;            /* CHECK to SITE */
     struct bytes table;           /* for PART the program */
     size_t lent;                  /* for TIMING_CHART, PLAN, RUN, RUN_APART, REASONS, POSITIONS, UPPAAL */
     struct slots slots;           /* for PLAN, which has no table */
@@ -16,6 +23,9 @@ struct stored {
     struct numbers pairs;         /* for POSITIONS */
     struct experiment experiment; /* for SIMULATE and SIMULATE_FROM */
     uint8_t node;                 /* for PART */
+    uint32_t limit;               /* for SITE, which has no table */
+    struct site_call *calls;      /* for SITE */
+    size_t count;                 /* of them */
     char *answer;
 };
 

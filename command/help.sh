@@ -25,6 +25,8 @@ usage: vanillatarn COMMAND ...
   simulate --work LO..HI --runs N [--seed S] [--sweep] [--json] TABLE
                                             how many runs end late with such work times
   uppaal TABLE [-o FILE.xta]                its network as a text for UPPAAL
+  airtime [--json] TABLE                    how many ticks of its horizon it may send
+  site [--json] LIMIT TABLE...              up to four tables under one airtime limit
   text TABLE                                a table as text
   table TEXTFILE [-o FILE]                  a text as a table
   install PREFIX                            the command and the library, in a folder
@@ -46,7 +48,8 @@ Exit status
      late or with a choice that is not allowed, a spread or an offset is too large,
      a component or a tick that is asked about is not there, pairs are not sorted,
      the numbers of a simulation are out of range, a network has budgets and so no
-     text, a program is damaged or has no such part, a text has a fault
+     text, a table does not go into a site, a program is damaged or has no such
+     part, a text has a fault
   2  wrong use; a file that cannot be read or written, is empty or too long
   3  a tool is missing, could not be built or failed; standard output, standard
      error or the scratch folder cannot be written
@@ -296,6 +299,38 @@ never reset, also whether it is before the horizon. To try them all:
 
 Exit status: 0 written; 1 the table is refused, or with 25 an edge has a budget other
 than 0, which the network does not know. Then both files are left as they were.
+TEXT
+        airtime) cat <<'TEXT' ;;
+usage: vanillatarn airtime [--json] TABLE
+
+Prints the airtime of an accepted table: the sum of end - ready + 1 over the sends of
+its schedule that are ready before the horizon; then the horizon, and the share. Each
+window counts whole, also the ticks of it behind the horizon, so that the share may be
+above 100 %. Windows that touch, and windows on two bands at one tick, count twice.
+
+--json: an object (docs/FORMATS.md)
+
+Exit status: 0 told; 1 refused: the table.
+TEXT
+        site) cat <<'TEXT' ;;
+usage: vanillatarn site [--json] LIMIT TABLE...
+
+Puts the tables into places 0 upward of an empty site on which LIMIT send ticks in
+each horizon are allowed (at most 4,294,967,295), and prints after each its place, its
+airtime (vanillatarn airtime), how much is in use and how much is left. A table that
+does not go in leaves its place empty; why is told in words, and the others are tried
+all the same. That what is in use is the sum over those put in, and never above the
+limit, is proved.
+
+All tables of a site have one horizon. There are four places: a fifth table is refused.
+Nothing is kept from one use to the next; a program that puts networks in and takes
+them out keeps a site of its own (docs/LINKING.md).
+
+--json: an object a line and table (docs/FORMATS.md)
+
+Exit status: 0 all went in; 1 one did not: its table is refused, or with 26 there is no
+such place, with 27 it has another horizon than those present, with 28 the airtime
+would be above the limit.
 TEXT
         text) cat <<'TEXT' ;;
 usage: vanillatarn text TABLE

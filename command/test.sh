@@ -72,6 +72,7 @@ head -c 65536 /dev/zero >longer
 "$root/vanillatarn" where cellar.bin /dev/null >out
 "$root/vanillatarn" simulate --work 0..1 --runs 1 cellar.bin >out
 "$root/vanillatarn" uppaal cellar.bin >out
+"$root/vanillatarn" airtime cellar.bin >out
 "$root/vanillatarn" chart cellar.bin --svg out
 "$root/vanillatarn" translate cellar.bin -o program.bin
 "$root/vanillatarn" list program.bin >out
@@ -89,7 +90,7 @@ starts 'usage: vanillatarn COMMAND ...'
 cp out help
 call -h
 gives help
-for command in verdict spread schedule chart plan edge why where translate list part run choices simulate uppaal text table install; do
+for command in verdict spread schedule chart plan edge why where translate list part run choices simulate uppaal airtime site text table install; do
     call --help
     check "the help names $command" grep -q "^  $command " out
     call "$command" --help
@@ -413,7 +414,7 @@ chart cellar.bin -o file|'chart' has no option -o
 translate --late cellar.bin|'translate' has no option --late
 TEXT
 
-for part in build kinds numbers why where spread finishes simulate uppaal verdict places svg install words; do
+for part in build kinds numbers why where spread finishes simulate uppaal site verdict places svg install words; do
     # shellcheck source=/dev/null # build first: others use its root
     source "$root/command/test_$part.sh"
 done

@@ -10,12 +10,14 @@
  * What holds for every call here: it always returns, whatever the bytes are,
  * and it keeps nothing from one call to the next. Memory that is lent is
  * written only where the call says so. After a refusal it is as it was; so are
- * a node's registers where a statement or a message is not taken.
+ * a node's registers where a statement or a message is not taken, and so is a
+ * site but for what it says of the last call.
  *
  * What the caller sees to: a pointer leads to as many bytes or numbers as its
  * length says (2^63 - 1 bytes at most); what is lent to be written overlaps
- * nothing else that is lent; a list of uint32_t or of passages, and a node's
- * registers, are aligned as their type is, what is not aligned is not allowed.
+ * nothing else that is lent; a list of uint32_t or of passages, a node's
+ * registers and a site are aligned as their type is, what is not aligned is not
+ * allowed.
  * Bytes may start anywhere. The stack that a call takes stands in
  * docs/LINKING.md.
  */
@@ -30,8 +32,8 @@
  * The version of this header and its archive, as words and as a number that
  * grows: 10,000 x major + 100 x minor + patch.
  */
-#define TIMED_NETWORK_VERSION "0.12.0"
-#define TIMED_NETWORK_VERSION_NUMBER 1200
+#define TIMED_NETWORK_VERSION "0.13.0"
+#define TIMED_NETWORK_VERSION_NUMBER 1300
 
 /*
  * Limits and sizes. "Enough" is what a buffer needs for any table.
@@ -60,6 +62,7 @@
 #define TIMED_NETWORK_MAX_RUNS 10000                    /* runs of a simulation */
 #define TIMED_NETWORK_MAX_WORK 60000                    /* ticks of work in one */
 #define TIMED_NETWORK_SEED 2463534242u                  /* where its generator starts */
+#define TIMED_NETWORK_PLACES 4                          /* places of a site */
 #define TIMED_NETWORK_TICK 255                          /* the choice that is a tick */
 #define TIMED_NETWORK_NONE 255                          /* no component, message, node */
 
@@ -90,7 +93,10 @@ enum timed_network_number {
     TIMED_NETWORK_REFUSED_SEED = 22,
     TIMED_NETWORK_REFUSED_SIMULATION = 23,
     TIMED_NETWORK_REFUSED_ORDER = 24,
-    TIMED_NETWORK_REFUSED_BUDGETS = 25
+    TIMED_NETWORK_REFUSED_BUDGETS = 25,
+    TIMED_NETWORK_REFUSED_SITE_PLACE = 26,
+    TIMED_NETWORK_REFUSED_HORIZON = 27,
+    TIMED_NETWORK_REFUSED_AIRTIME = 28
 };
 
 /* What the end of a run means; see timed_network_run_numbers. */
@@ -161,7 +167,7 @@ extern "C" {
  *
  * 15 to 17 stand in the place of 11 (document 02): they are asked after 10 and
  * before 12, and earlier versions of this library said 11 for all four. 13, 14
- * and 18 to 25 refuse a call and say nothing about a table.
+ * and 18 to 28 refuse a call and say nothing about a table.
  *
  * component: the number of the component concerned, counted from 0. For 4 to 6
  * the one that was being read, for 7 to 9 the one that was opening a passage,
@@ -745,6 +751,103 @@ timed_network_simulation_numbers
 timed_network_simulate_from(const uint8_t *table, size_t length,
                             uint32_t lo, uint32_t hi, uint32_t runs,
                             uint32_t seed);
+
+/*
+ * The answer of timed_network_airtime. 8 bytes.
+ *
+ * number, component: the verdict on the table, as timed_network_check gives it.
+ * horizon:           the table's, 1 to 60,000; 0 after a refusal.
+ * airtime:           the sum of end - ready + 1 over the sends of its schedule that
+ *                    are ready before the horizon, the last tick of each window
+ *                    included, also where it lies behind the horizon. 0 after a
+ *                    refusal.
+ */
+typedef struct timed_network_airtime_numbers {
+    uint8_t number;
+    uint8_t component;
+    uint16_t horizon;
+    uint32_t airtime;
+} timed_network_airtime_numbers;
+
+/*
+ * The airtime of a table (document 02, wish 13): how many ticks of each horizon its
+ * components may send.
+ *
+ * table, length: as for timed_network_check. Nothing is written.
+ */
+timed_network_airtime_numbers
+timed_network_airtime(const uint8_t *table, size_t length);
+
+/*
+ * A site (document 02, wish 13): up to four networks, accepted at spread 0 and with
+ * one horizon, under one limit on the send ticks in each horizon. The caller keeps it;
+ * timed_network_site makes it, and only timed_network_site_put and
+ * timed_network_site_take write it. 48 bytes, aligned to 8. Its fields are for
+ * reading.
+ *
+ * limit:     as it was handed to timed_network_site.
+ * horizons:  of the network in each place, 0 to 3; 0 where there is none.
+ * airtimes:  likewise; 0 where there is none.
+ *
+ * What the last call said:
+ *
+ * in_use:    the airtime in use after it: the sum over the networks that were put in
+ *            and not taken out since. Never above the limit.
+ * number:    0 if it was carried out, else the number of its refusal; then nothing
+ *            but these three fields was written.
+ * component: the component that a refusal concerns, 255 for none.
+ *
+ * That in_use is this sum, and at most the limit, is proved over any sequence of
+ * calls, refused ones among them, of a site that nothing else wrote. A struct with
+ * any other bytes is answered too, by its fields limit, horizons and airtimes: each
+ * call sums up anew, and in_use, number and component are never read. A copy is a
+ * site of its own. Two threads must not use one site at the same time.
+ */
+typedef struct timed_network_networks {
+    uint32_t limit;
+    uint16_t horizons[4];
+    uint32_t airtimes[4];
+    uint64_t in_use;
+    uint8_t number;
+    uint8_t component;
+} timed_network_networks;
+
+/*
+ * An empty site with its limit, any number of four bytes: in_use 0, number 0,
+ * component 255.
+ */
+timed_network_networks timed_network_site(uint32_t limit);
+
+/*
+ * Puts the network of a table into a place of a site: its horizon and its airtime are
+ * kept there, its bytes are not.
+ *
+ * networks:      the site. It must not overlap the table.
+ * table, length: as for timed_network_check.
+ * place:         0 to 3.
+ *
+ * Refused, which networks->number tells, in this order:
+ *
+ *   1 to 12, 15 to 17  as timed_network_check refuses the table
+ *  26  the place is above 3, or a network is there; component 255
+ *  27  a network is present and has another horizon; component 255
+ *  28  the airtime in use with that of the table is above the limit; component 255
+ *
+ * No other place is changed; after a refusal none is, nor the limit.
+ */
+void timed_network_site_put(timed_network_networks *networks,
+                            const uint8_t *table, size_t length,
+                            uint8_t place);
+
+/*
+ * Takes the network out of a place of a site.
+ *
+ * networks, place: as for timed_network_site_put.
+ *
+ * Refused with 26 where the place is above 3, or no network is there; component 255.
+ * No other place is changed; after a refusal none is, nor the limit.
+ */
+void timed_network_site_take(timed_network_networks *networks, uint8_t place);
 
 /*
  * A passage of a schedule: one stay in a location, with the window of the edge

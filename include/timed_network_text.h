@@ -19,7 +19,7 @@
  * 3?" for 1. The component that is concerned is not told; docs/REFUSALS.md has
  * what to look at.
  *
- * number: the number of an answer, 1 to 25. For 0, which is no refusal, and
+ * number: the number of an answer, 1 to 28. For 0, which is no refusal, and
  *         for any other it is "Does a question have this number?".
  */
 static inline const char *timed_network_refusal_text(unsigned int number) {
@@ -49,7 +49,10 @@ static inline const char *timed_network_refusal_text(unsigned int number) {
         "Is the seed at least 1?",
         "Is lo at most hi, hi at most 60,000, and are the runs 1 to 10,000?",
         "Is no tick below that of the pair before it?",
-        "Are all budgets 0?"};
+        "Are all budgets 0?",
+        "Is it a place 0 to 3, empty when putting, filled when taking?",
+        "Is the horizon that of the networks present?",
+        "Is the airtime in use with this network at most the limit?"};
     return questions[number < sizeof questions / sizeof questions[0] ? number : 0];
 }
 

@@ -92,6 +92,20 @@ AT(timed_network_simulation_numbers, late, 4, 4);
 AT(timed_network_simulation_numbers, nodes, 8, 32);
 AT(timed_network_simulation_numbers, state, 40, 4);
 
+SIZE(timed_network_airtime_numbers, 8);
+AT(timed_network_airtime_numbers, number, 0, 1);
+AT(timed_network_airtime_numbers, component, 1, 1);
+AT(timed_network_airtime_numbers, horizon, 2, 2);
+AT(timed_network_airtime_numbers, airtime, 4, 4);
+
+SIZE(timed_network_networks, 48);
+AT(timed_network_networks, limit, 0, 4);
+AT(timed_network_networks, horizons, 4, 8);
+AT(timed_network_networks, airtimes, 12, 16);
+AT(timed_network_networks, in_use, 32, 8);
+AT(timed_network_networks, number, 40, 1);
+AT(timed_network_networks, component, 41, 1);
+
 SIZE(timed_network_place_numbers, 32);
 AT(timed_network_place_numbers, number, 0, 1);
 AT(timed_network_place_numbers, component, 1, 1);
@@ -173,6 +187,10 @@ FACT(TIMED_NETWORK_REFUSED_SIMULATION == 23);
 FACT(TIMED_NETWORK_REFUSED_ORDER == 24 && TIMED_NETWORK_POSITION == 3);
 FACT(TIMED_NETWORK_REFUSED_BUDGETS == 25);
 FACT(TIMED_NETWORK_UPPAAL_ENOUGH == 8 * (500 + 32 * 9500) + 116);
+FACT(TIMED_NETWORK_REFUSED_SITE_PLACE == 26);
+FACT(TIMED_NETWORK_REFUSED_HORIZON == 27);
+FACT(TIMED_NETWORK_REFUSED_AIRTIME == 28);
+FACT(TIMED_NETWORK_PLACES == 4);
 FACT(TIMED_NETWORK_TAKEN == 0 && TIMED_NETWORK_HIGHER_NUMBER == 4);
 FACT(TIMED_NETWORK_REASON == 3 && TIMED_NETWORK_REASONS_ENOUGH == 96);
 FACT(TIMED_NETWORK_END_NOT_ALLOWED == 3);

@@ -142,7 +142,7 @@ fn put_question_on_numbers(out: &mut [u8], at: usize, number: u8) -> usize
     }
 }
 
-// The questions of further calls: about the order of pairs, and about a table that is exported. A number past them has none.
+// The questions of further calls: about the order of pairs, about a table that is exported, about a site. A number past them has none.
 fn put_question_on_further_calls(out: &mut [u8], at: usize, number: u8) -> usize
     requires { ⌜ (at + 80 ≤ length (now out)) × (24 ≤ number) ⌝ }
     ensures { λ r. ⌜ Added (now (out .entry)) at (question number) (now (out .exit)) r × (r ≤ at + 80) ⌝ }
@@ -150,6 +150,17 @@ fn put_question_on_further_calls(out: &mut [u8], at: usize, number: u8) -> usize
     match number {
         24 => put(out, at, b"Is no tick below that of the pair before it?\n"),
         25 => put(out, at, b"Are all budgets 0?\n"),
+        26 => put(
+            out,
+            at,
+            b"Is it a place 0 to 3, empty when putting, filled when taking?\n",
+        ),
+        27 => put(out, at, b"Is the horizon that of the networks present?\n"),
+        28 => put(
+            out,
+            at,
+            b"Is the airtime in use with this network at most the limit?\n",
+        ),
         _ => put(out, at, b"Does a question have this number?\n"),
     }
 }

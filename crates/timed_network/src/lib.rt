@@ -4,6 +4,7 @@ pub mod component_positions;
 pub mod edge_reasons;
 pub mod places;
 pub mod simulated;
+pub mod sites;
 pub mod spread;
 pub mod uppaal_export;
 

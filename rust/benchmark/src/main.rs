@@ -14,6 +14,7 @@ mod reasons;
 mod refused;
 mod report;
 mod simulation;
+mod site;
 mod tables;
 
 use clock::{in_turns, Effort};
@@ -88,6 +89,7 @@ fn measure(effort: Effort) -> Result<(), String> {
     positions::time(effort)?;
     simulation::time(effort)?;
     export::time(effort)?;
+    site::time(effort)?;
     refused::time(effort)
 }
 
@@ -224,7 +226,9 @@ fn time_run(effort: Effort, row: &Row, choices: &[u8], each: &str) {
 
 #[cfg(test)]
 mod tests {
-    use super::{apart, demand_agreement, export, positions, reasons, refused, simulation, tables};
+    use super::{
+        apart, demand_agreement, export, positions, reasons, refused, simulation, site, tables,
+    };
 
     #[test]
     fn all_sides_agree_on_every_row() {
@@ -253,6 +257,9 @@ mod tests {
         for (name, table, length) in &export::written() {
             let agreed = export::demand_agreement(name, table, *length);
             assert_eq!(agreed, Ok(()));
+        }
+        for (name, table) in &site::tried() {
+            assert_eq!(site::demand_agreement(name, table), Ok(()));
         }
         for (number, table) in refused::read().iter().chain(&refused::opened()) {
             assert_eq!(refused::demand_agreement(*number, table), Ok(()));

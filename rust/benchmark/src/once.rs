@@ -4,7 +4,7 @@
 use crate::apart::{self, OFFSETS, SPREAD};
 use crate::tables::{apart_rows, rows, slow_rows, Row};
 use crate::{
-    choices_to_the_horizon, export, last_node, positions, reasons, refused, simulation, PLAN,
+    choices_to_the_horizon, export, last_node, positions, reasons, refused, simulation, site, PLAN,
 };
 use comparison::runs::AMPLE;
 use reference::table::write_table;
@@ -43,6 +43,7 @@ fn all() -> Result<(), String> {
     tell_positions();
     tell_simulations();
     tell_texts();
+    tell_sites();
     tell_refused();
     Ok(())
 }
@@ -153,6 +154,16 @@ fn tell_texts() {
     }
 }
 
+/// Airtimes, and a network put into a site and taken out.
+fn tell_sites() {
+    for (name, table) in site::tried() {
+        tell(name, "airtime", || airtime(&table).is_ok());
+        let mut site = tell(name, "site", || Site::new(u32::MAX));
+        tell(name, "site_put", || site.put(&table, 3).is_ok());
+        tell(name, "site_take", || site.take(3).is_ok());
+    }
+}
+
 /// A run has to come to the horizon, or another one is counted than the row's.
 fn demand_end(name: &str, answer: RunNumbers) -> Result<(), String> {
     if (answer.number, answer.end) == (0, 0) {
@@ -203,6 +214,7 @@ fn tell_early(name: &str, table: &[u8]) {
         simulate_numbers(table, [0, 1], 1, None)
     });
     tell(name, "uppaal", || uppaal_into(table, &mut []));
+    tell(name, "airtime", || airtime(table).is_ok());
     tell(name, "refusal_place", || refusal_place(table));
     tell(name, "refused_opening", || refused_opening(table));
 }

@@ -2,6 +2,8 @@
 //! a thread answers all calls, so that what a call leaves in its buffers is
 //! there when the next one is made.
 
+mod sites;
+
 use crate::readers::{
     refused, refused_simulation, second_edge_choice, OpeningNumbers, PlaceNumbers, Reader,
 };
@@ -36,6 +38,8 @@ pub(crate) const READER: Reader = Reader {
     part,
     run,
     simulate,
+    airtime: sites::airtime,
+    site: sites::site,
     meetings,
     check_spread,
     largest_spread,

@@ -9,7 +9,8 @@
 //! for verdicts and for the windows that met, and run nodes that wake apart. Both count
 //! simulated runs, each of which is handed on as a list of choices. Both write texts for
 //! UPPAAL, which are read back, and whose networks are explored beside those of the
-//! tables. Of accepted tables
+//! tables. Both put networks into sites and take them out, in sequences of calls, and
+//! the sites are compared after each. Of accepted tables
 //! random paths of the network within the schedule are drawn, and found again in runs.
 //! The first difference ends the comparison. Each run is also held to demand 3, with the
 //! finish ticks in its observations.
@@ -37,6 +38,7 @@ pub mod reasons;
 pub mod requests;
 pub mod runs;
 pub mod simulations;
+pub mod sites;
 pub mod spreads;
 pub mod stored;
 pub mod tables;
@@ -122,6 +124,8 @@ pub struct Least {
     pub of_each_simulation: u64,
     /// Texts for UPPAAL of each kind, and of what their networks have.
     pub of_each_export: u64,
+    /// Calls of sites of each kind.
+    pub of_each_site: u64,
 }
 
 /// What the comparison should have tried and did not: a class without cases,
@@ -130,8 +134,8 @@ pub struct Least {
 /// edge choice, a reason of an edge or an answer to pairs that never came, parts never
 /// found or never missed, a kind of run that is too rare, an answer at a spread or a kind
 /// of run of nodes that wake apart that is, a way in which checks 4 to 9 stop that is, a
-/// kind of path, of finish tick, of simulation or of text that is, fewer cases or runs in all than
-/// demanded.
+/// kind of path, of finish tick, of simulation, of text or of a site's call that is, fewer
+/// cases or runs in all than demanded.
 pub fn gaps(tallies: &[Tally], least: &Least) -> Vec<String> {
     let empty = tallies.iter().filter(|tally| tally.is_empty());
     let mut gaps: Vec<String> = empty
@@ -162,6 +166,7 @@ pub fn gaps(tallies: &[Tally], least: &Least) -> Vec<String> {
     }
     gaps.extend(sum.simulated.gaps(least.of_each_simulation));
     gaps.extend(sum.exports.gaps(least.of_each_export));
+    gaps.extend(sum.sites.gaps(least.of_each_site));
     let (cases, runs) = (sum.cases(), sum.runs.ran());
     for (count, least, what) in [(cases, least.cases, "cases"), (runs, least.runs, "runs")] {
         if count < least {

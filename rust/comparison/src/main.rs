@@ -29,6 +29,7 @@ const LEAST: Least = Least {
     of_each_finish: 2_000,
     of_each_simulation: 400,
     of_each_export: 400,
+    of_each_site: 1_000,
 };
 /// The comparison with the yardstick has to try at least so much.
 const LEAST_SHARE: Least = Least {
@@ -42,6 +43,7 @@ const LEAST_SHARE: Least = Least {
     of_each_finish: 300,
     of_each_simulation: 60,
     of_each_export: 60,
+    of_each_site: 150,
 };
 
 fn main() -> ExitCode {

@@ -6,6 +6,7 @@ mod places;
 mod positions;
 mod reasons;
 mod simulations;
+mod sites;
 
 pub use apart::{
     second_check_spread, second_largest_spread, second_meetings, second_meetings_spread,
@@ -17,15 +18,18 @@ pub use positions::second_positions;
 pub use reasons::second_reasons;
 use simulations::library_simulate;
 pub use simulations::{refused_simulation, second_simulate};
+use sites::{library_airtime, library_site};
+pub use sites::{second_airtime, second_site};
 
 use crate::fast;
 use crate::simulations::Experiment;
+use crate::sites::Asked;
 use reference::run::Outcome;
 use reference::table::Refusal;
 use reference::{calls, edge_choice, plan};
 use timed_network::{
-    Call, EdgeChoice, Entry, Meetings, Positioned, RunNumbers, SimulationNumbers, Slots, TakenEdge,
-    Told, Verdict, FIELDS, NO_MESSAGE, NO_NODE,
+    Call, EdgeChoice, Entry, Meetings, Network, Positioned, RunNumbers, SimulationNumbers,
+    SiteNumbers, Slots, TakenEdge, Told, Verdict, FIELDS, NO_MESSAGE, NO_NODE,
 };
 
 /// The numbers that `check` answers: 0 where it accepts, then those of the
@@ -53,6 +57,12 @@ pub const NO_SIMULATION: u8 = 23;
 pub const UNSORTED: u8 = 24;
 /// The refusal of a text of a table with budgets.
 pub const WITH_BUDGETS: u8 = 25;
+/// The refusal of a place of a site.
+pub const NO_PLACE: u8 = 26;
+/// The refusal of a network with another horizon than those present.
+pub const OTHER_HORIZON: u8 = 27;
+/// The refusal of a network whose airtime is too much for a site.
+pub const NO_AIRTIME: u8 = 28;
 
 /// A call that finds one node's part of a program.
 pub type Part = for<'a> fn(&'a [u8], u8) -> &'a [u8];
@@ -79,6 +89,10 @@ pub type Locates = fn(&[u8]) -> Option<PlaceNumbers>;
 pub type LocatesOpening = fn(&[u8]) -> Option<OpeningNumbers>;
 /// A call that counts late runs with drawn work times.
 pub type Simulates = fn(&[u8], &Experiment) -> SimulationNumbers;
+/// A call that sums up a table's airtime.
+pub type Airtimes = fn(&[u8]) -> Result<Network, Verdict>;
+/// Calls of a site with a limit: the empty site, and the site after each of them.
+pub type Shares = fn(u32, &[Asked]) -> Vec<SiteNumbers>;
 /// A call that runs a table under choices, at a spread, with offsets.
 pub type RunApart = fn(&[u8], &[u8], u32, &[u32], &mut [u8]) -> RunNumbers;
 
@@ -109,6 +123,10 @@ pub struct Reader {
     pub run: Run,
     /// What it says of simulated runs.
     pub simulate: Simulates,
+    /// What it says is the airtime of a table.
+    pub airtime: Airtimes,
+    /// What its sites are after each of several calls.
+    pub site: Shares,
     /// Which windows it says have met.
     pub meetings: fn(&[u8], &mut [u32]) -> Meetings,
     /// What it says of a table at a spread.
@@ -152,6 +170,8 @@ impl Readers {
             part: timed_network::part,
             run: timed_network::run_numbers,
             simulate: library_simulate,
+            airtime: library_airtime,
+            site: library_site,
             meetings: timed_network::meetings,
             check_spread: timed_network::check_spread,
             largest_spread: |table| timed_network::largest_spread(table).map_err(Verdict::from),
@@ -189,6 +209,8 @@ impl Reader {
             part: second_part,
             run: second_run,
             simulate: second_simulate,
+            airtime: second_airtime,
+            site: second_site,
             meetings: second_meetings,
             check_spread: second_check_spread,
             largest_spread: second_largest_spread,

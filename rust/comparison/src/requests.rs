@@ -1,17 +1,19 @@
 //! The programs, parts, charts, plans, edge choices, reasons, positions, verdicts at a
-//! spread, runs, simulated ones, texts and places of refusals that the vectors keep, with their
-//! answers.
+//! spread, runs, simulated ones, texts, sites and places of refusals that the vectors
+//! keep, with their answers.
 
 mod apart;
 mod exported;
 mod positions;
 mod simulated;
+mod site;
 mod why;
 
 pub use apart::Apart;
 pub use exported::{Asked, Exported};
 pub use positions::Where;
 pub use simulated::Simulated;
+pub use site::{calls, Sited};
 pub use why::Why;
 
 use crate::bytes::unhex;
@@ -81,6 +83,8 @@ pub enum Request {
     Simulated(Simulated),
     /// The text of a table for UPPAAL.
     Exported(Exported),
+    /// An airtime, or calls of a site.
+    Site(Sited),
     /// The verdict on a table at a spread.
     Spread {
         /// The table.
@@ -162,6 +166,7 @@ fn request(line: &str) -> Option<Option<Request>> {
         }
         (["sim", ..], _) => Request::Simulated(simulated::read(&words, answer)?),
         (["uppaal" | "explore", ..], _) => Request::Exported(exported::read(&words, answer)?),
+        (["air" | "ledger", ..], _) => Request::Site(site::read(&words, answer)?),
         (["place", table], _) => Request::Place {
             table: unhex(table)?,
             answer: located(answer)?,

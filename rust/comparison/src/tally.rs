@@ -10,6 +10,7 @@ use crate::runs::apart::RunsApart;
 use crate::runs::paths::Paths;
 use crate::runs::Runs;
 use crate::simulations::Simulated;
+use crate::sites::Sites;
 use crate::spreads::Spreads;
 use std::fmt;
 use timed_network::Verdict;
@@ -46,6 +47,8 @@ pub struct Tally {
     pub simulated: Simulated,
     /// The texts for UPPAAL.
     pub exports: Exports,
+    /// Airtimes, and the calls of sites.
+    pub sites: Sites,
     /// Verdicts at a spread, and what belongs to them.
     pub spreads: Spreads,
     /// The runs of nodes that wake apart.
@@ -175,6 +178,7 @@ impl Tally {
             runs: Runs::default(),
             simulated: Simulated::default(),
             exports: Exports::default(),
+            sites: Sites::default(),
             spreads: Spreads::default(),
             apart: RunsApart::default(),
             places: Places::default(),
@@ -190,7 +194,7 @@ impl Tally {
     /// Whether nothing was tried.
     pub fn is_empty(&self) -> bool {
         let lent = self.charts.all() + self.plans.all() + self.exports.all();
-        let runs = self.runs.all() + self.simulated.all() + self.apart.all();
+        let runs = self.runs.all() + self.simulated.all() + self.sites.all() + self.apart.all();
         let others = self.parts.iter().sum::<u64>() + self.spreads.all() + self.paths.all();
         self.cases() + lent + runs + others + self.located.all() == 0
     }
@@ -232,6 +236,7 @@ impl Tally {
             sum.runs.add(&tally.runs);
             sum.simulated.add(&tally.simulated);
             sum.exports.add(&tally.exports);
+            sum.sites.add(&tally.sites);
             sum.spreads.add(&tally.spreads);
             sum.apart.add(&tally.apart);
             sum.places.add(&tally.places);
@@ -243,7 +248,8 @@ impl Tally {
 
 /// What was tried: the answers that were given, each with how often, then
 /// lists, programs, charts, plans, edge choices, questions, pairs, parts, runs, simulated
-/// ones, texts, what there is of nodes that wake apart, where the tables were refused, and paths.
+/// ones, texts, sites, what there is of nodes that wake apart, where the tables were
+/// refused, and paths.
 impl fmt::Display for Tally {
     fn fmt(&self, out: &mut fmt::Formatter<'_>) -> fmt::Result {
         let [accepted, refusals @ ..] = &self.answers;
@@ -289,6 +295,9 @@ impl fmt::Display for Tally {
         }
         if self.exports.all() > 0 {
             write!(out, "; {}", self.exports)?;
+        }
+        if self.sites.all() > 0 {
+            write!(out, "; {}", self.sites)?;
         }
         if self.spreads.all() > 0 {
             write!(out, "; {}", self.spreads)?;

@@ -20,6 +20,7 @@ const LEAST: Least = Least {
     of_each_finish: 1,
     of_each_simulation: 1,
     of_each_export: 1,
+    of_each_site: 1,
 };
 
 fn short(readers: &Readers, seed: u64) -> Result<Vec<Tally>, Stop> {

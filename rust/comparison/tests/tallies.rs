@@ -8,14 +8,15 @@ use comparison::runs::apart::RunsApart;
 use comparison::runs::paths::Paths;
 use comparison::runs::Runs;
 use comparison::simulations::Simulated;
+use comparison::sites::Sites;
 use comparison::spreads::Spreads;
 use comparison::tally::{EdgeChoices, Lists, Tally};
 use comparison::{cases, gaps, Least};
 use demand::finishes::Noted;
 
 /// A class with these answers, and lists, programs, charts, plans, edge choices,
-/// questions, parts, runs and simulations of all kinds, also of nodes that wake apart, and
-/// refusals at all places.
+/// questions, parts, runs, simulations and sites of all kinds, also of nodes that wake
+/// apart, and refusals at all places.
 fn tally(class: &'static str, answers: [u64; 16]) -> Tally {
     let lists = Lists {
         written: 3,
@@ -58,10 +59,31 @@ fn tally(class: &'static str, answers: [u64; 16]) -> Tally {
         runs: all_kinds(),
         simulated: all_simulated(),
         exports: all_exports(),
+        sites: all_sites(),
         spreads: all_spreads(),
         apart: all_apart(),
         places: all_places(),
         paths: all_paths(),
+    }
+}
+
+/// A call of a site of each kind.
+fn all_sites() -> Sites {
+    Sites {
+        sequences: 2,
+        put: 9,
+        silent: 3,
+        taken: 8,
+        absent: 7,
+        filled: 6,
+        empty: 5,
+        horizons: 4,
+        above: 3,
+        refused: 2,
+        full: 2,
+        at_limit: 4,
+        renewed: 1,
+        airtimes: 11,
     }
 }
 
@@ -194,6 +216,7 @@ fn least(cases: u64, runs: u64) -> Least {
         of_each_finish: 1,
         of_each_simulation: 1,
         of_each_export: 1,
+        of_each_site: 1,
     }
 }
 
@@ -222,6 +245,7 @@ fn what_was_not_tried_is_told() {
         runs: all_kinds(),
         simulated: all_simulated(),
         exports: all_exports(),
+        sites: all_sites(),
         spreads: all_spreads(),
         apart: all_apart(),
         places: all_places(),
@@ -293,6 +317,13 @@ fn what_was_not_tried_is_told() {
         ..full.clone()
     };
     assert_eq!(gaps(&[unwritten], &least(0, 0)).len(), 10);
+    let siteless = Tally {
+        sites: Sites::default(),
+        ..full.clone()
+    };
+    let told = gaps(&[siteless], &least(0, 0));
+    assert_eq!(told.len(), 14);
+    assert!(told.contains(&"0 networks refused with 28 are fewer than 1".to_string()));
     let unsimulated = Tally {
         simulated: Simulated::default(),
         ..full
@@ -342,6 +373,10 @@ fn a_line_tells_all_answers_that_were_given() {
                 15 texts: written 9, too short 3, refused 25: 2, table refused 1; \
                 4 equal those of another version, 5 read back: 60 states, 40 moves of one, \
                 10 of two, 2 broken entries; \
+                11 airtimes; 44 calls of 2 sites: put in 9 (3 without airtime), taken out 8, \
+                refused 26: 7 no such place, 6 filled, 5 empty, refused 27: 4, \
+                refused 28: 3, table refused 2; 2 times full, 4 at the limit, \
+                1 emptied for another horizon; \
                 17 verdicts at a spread: accepted 1, refused 1: 1, refused 2: 1, refused 3: 1, \
                 refused 4: 1, refused 5: 1, refused 6: 1, refused 7: 1, refused 8: 1, \
                 refused 9: 1, refused 10: 1, refused 11: 1, refused 12: 1, refused 15: 1, \

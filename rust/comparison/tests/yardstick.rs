@@ -18,6 +18,7 @@ const LEAST: Least = Least {
     of_each_finish: 1,
     of_each_simulation: 1,
     of_each_export: 1,
+    of_each_site: 1,
 };
 
 /// The classes that hold both sides to stored answers.

@@ -9,5 +9,6 @@ pub mod positions;
 pub mod refusals;
 pub mod run;
 pub mod simulate;
+pub mod site;
 pub mod stop;
 pub mod why;

@@ -16,8 +16,9 @@
 //! that wake apart there are [`check_spread`], [`largest_spread`],
 //! [`meetings_spread`] and [`run_apart`]. [`simulate`] counts the late ones of runs
 //! whose work times are drawn. [`uppaal`] writes the network of a table as a text for
-//! UPPAAL. [`node`] has one node whose registers
-//! the caller lends. The declarations of the library stand in eight private
+//! UPPAAL. [`airtime`] sums up a table's send windows, and a [`Site`]
+//! keeps up to four networks under one limit. [`node`] has one node whose registers
+//! the caller lends. The declarations of the library stand in nine private
 //! modules; each call gets its safe form.
 //!
 //! Every slice may be lent: an empty one, one of any length (a slice never
@@ -37,6 +38,7 @@ mod reasons;
 mod refusal;
 mod running;
 mod simulation;
+mod site;
 mod spread;
 mod uppaal;
 
@@ -52,6 +54,7 @@ pub use running::{
 pub use simulation::{
     simulate, simulate_numbers, Simulation, SimulationNumbers, MAX_RUNS, MAX_WORK, SEED,
 };
+pub use site::{airtime, Network, Site, SiteNumbers, PLACES};
 pub use spread::{
     check_spread, largest_spread, meetings_spread, run_apart, run_apart_numbers, MAX_SPREAD,
 };

@@ -8,7 +8,7 @@ use std::fmt;
 pub const NO_COMPONENT: u8 = 255;
 
 /// Why a table or a call is refused: the question that is answered with no, by
-/// the numbers of document 01; 15 to 25 are those of document 02. Displayed as
+/// the numbers of document 01; 15 to 28 are those of document 02. Displayed as
 /// that question, in the words of the proved text (`crates/refusal_text`).
 ///
 /// ```
@@ -77,10 +77,16 @@ pub enum Refusal {
     Order = 24,
     /// 25: an edge of a table that is to be exported has a budget other than 0.
     Budgets = 25,
+    /// 26: a place of a site is none, filled when putting or empty when taking.
+    SitePlace = 26,
+    /// 27: a network present on a site has another horizon.
+    Horizon = 27,
+    /// 28: the airtime in use would be above the limit of a site.
+    Airtime = 28,
 }
 
 /// The question of each refusal, in the order of their numbers.
-const QUESTIONS: [&str; 25] = [
+const QUESTIONS: [&str; 28] = [
     "Is the first byte 1, 2 or 3?",
     "Is the stated length the length handed in, from 7 to 8,192?",
     "Are components, channels, horizon and bands in range?",
@@ -106,11 +112,14 @@ const QUESTIONS: [&str; 25] = [
     "Is lo at most hi, hi at most 60,000, and are the runs 1 to 10,000?",
     "Is no tick below that of the pair before it?",
     "Are all budgets 0?",
+    "Is it a place 0 to 3, empty when putting, filled when taking?",
+    "Is the horizon that of the networks present?",
+    "Is the airtime in use with this network at most the limit?",
 ];
 
 impl Refusal {
     /// All refusals, in the order of their numbers, which start with 1.
-    pub const ALL: [Refusal; 25] = [
+    pub const ALL: [Refusal; 28] = [
         Refusal::Version,
         Refusal::Length,
         Refusal::Header,
@@ -136,9 +145,12 @@ impl Refusal {
         Refusal::Simulation,
         Refusal::Order,
         Refusal::Budgets,
+        Refusal::SitePlace,
+        Refusal::Horizon,
+        Refusal::Airtime,
     ];
 
-    /// Its number, 1 to 25.
+    /// Its number, 1 to 28.
     pub fn number(self) -> u8 {
         self as u8
     }

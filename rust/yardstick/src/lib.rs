@@ -13,7 +13,8 @@
 //! finds one node's part, `run` carries out choices, `chart` draws the schedule,
 //! `plan` writes the table of a plan, `reasons` tells why an edge is taken, `simulation`
 //! counts late runs with drawn work times, `positions` tells where components are at
-//! ticks, `uppaal` writes the network as a text. `place` and `refused` tell where a table is refused.
+//! ticks, `uppaal` writes the network as a text, `site` sums up airtimes. `place` and
+//! `refused` tell where a table is refused.
 #![forbid(unsafe_code)]
 #![warn(missing_docs)]
 
@@ -30,6 +31,7 @@ mod refused;
 mod run;
 mod schedule;
 mod simulation;
+mod site;
 mod spread;
 mod table;
 mod translate;
@@ -42,6 +44,7 @@ pub use positions::POSITION;
 pub use reasons::{Told, REASON};
 pub use refused::RefusedOpening;
 pub use simulation::{Simulation, MAX_RUNS, MAX_WORK, SEED};
+pub use site::{Network, Site};
 
 use run::Machine;
 use schedule::Schedule;
@@ -68,7 +71,7 @@ pub const MAX_SPREAD: u32 = 1000;
 #[derive(Clone, Copy, Debug, PartialEq, Eq)]
 pub struct Refusal {
     /// The number of the check that is not passed: 1 to 12 or 15
-    /// to 17, 13, 14, or 18 to 25.
+    /// to 17, 13, 14, or 18 to 28.
     pub number: u8,
     /// The component concerned, or [`NONE`].
     pub component: u8,

@@ -25,6 +25,24 @@ slice-aggregate-put-3 c = search needs
 put-requires-3 : tie.Need-put-requires-3
 put-requires-3 c κs = search needs
 
+slice-aggregate-put-4 : tie.Need-slice-aggregate-put-4
+slice-aggregate-put-4 c = search needs
+
+put-requires-4 : tie.Need-put-requires-4
+put-requires-4 c κs = search needs
+
+slice-aggregate-put-5 : tie.Need-slice-aggregate-put-5
+slice-aggregate-put-5 c = search needs
+
+put-requires-5 : tie.Need-put-requires-5
+put-requires-5 c κs = search needs
+
+slice-aggregate-put-6 : tie.Need-slice-aggregate-put-6
+slice-aggregate-put-6 c = search needs
+
+put-requires-6 : tie.Need-put-requires-6
+put-requires-6 c κs = search needs
+
 same-length : tie.Need-same-length
 same-length c = search needs
 
@@ -47,8 +65,35 @@ same-length-3 : tie.Need-same-length-3
 same-length-3 c = search needs
 
 returns-3 : tie.Need-returns-3
+unfolding question
 returns-3 c =
     let p = c .before .before .put3 in
+    (asked (c .before .before .before .before .before .before .before .args .number) 26 (c .before .before .before .before .before .match .keys3) (p .ensures .0), omega (arith, p .ensures .1))
+
+same-length-4 : tie.Need-same-length-4
+same-length-4 c = search needs
+
+returns-4 : tie.Need-returns-4
+unfolding question
+returns-4 c =
+    let p = c .before .before .put4 in
+    (asked (c .before .before .before .before .before .before .before .args .number) 27 (c .before .before .before .before .before .match .keys4) (p .ensures .0), omega (arith, p .ensures .1))
+
+same-length-5 : tie.Need-same-length-5
+same-length-5 c = search needs
+
+returns-5 : tie.Need-returns-5
+unfolding question
+returns-5 c =
+    let p = c .before .before .put5 in
+    (asked (c .before .before .before .before .before .before .before .args .number) 28 (c .before .before .before .before .before .match .keys5) (p .ensures .0), omega (arith, p .ensures .1))
+
+same-length-6 : tie.Need-same-length-6
+same-length-6 c = search needs
+
+returns-6 : tie.Need-returns-6
+returns-6 c =
+    let p = c .before .before .put6 in
     let rest = c .before .before .before .before .before .match .rest in
     (not-asked (c .before .before .before .before .before .before .before .args .number) (omega (arith, c .before .before .before .before .before .before .before .pre, rest .0, rest .1)) (p .ensures .0), omega (arith, p .ensures .1))
 
@@ -62,9 +107,21 @@ put-question-on-further-calls-spec =
     put-requires-2
     slice-aggregate-put-3
     put-requires-3
+    slice-aggregate-put-4
+    put-requires-4
+    slice-aggregate-put-5
+    put-requires-5
+    slice-aggregate-put-6
+    put-requires-6
     same-length
     returns
     same-length-2
     returns-2
     same-length-3
-    returns-3)
+    returns-3
+    same-length-4
+    returns-4
+    same-length-5
+    returns-5
+    same-length-6
+    returns-6)

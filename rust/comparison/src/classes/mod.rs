@@ -24,6 +24,7 @@ mod random_bytes;
 mod running;
 mod shifted;
 mod simulated;
+mod sited;
 mod slots;
 mod stored;
 mod ties;
@@ -77,7 +78,7 @@ const fn class(name: &'static str, run: fn(&mut Trial, &mut Random, &Extent) -> 
 }
 
 /// All classes, in the order in which they are tried.
-pub const CLASSES: [Class; 108] = [
+pub const CLASSES: [Class; 111] = [
     class("vectors", stored::vectors),
     class("corpus", stored::corpus),
     class("random bytes", random_bytes::anything),
@@ -198,4 +199,7 @@ pub const CLASSES: [Class; 108] = [
     class("texts of any table", exported::at_rest),
     class("texts of large tables", exported::large),
     class("texts of tables with budgets", exported::with_budgets),
+    class("sites of drawn tables", sited::drawn_tables),
+    class("sites of long airtimes", sited::long_airtimes),
+    class("sites of stored tables", sited::stored),
 ];

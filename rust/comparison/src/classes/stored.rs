@@ -57,7 +57,7 @@ fn expect_all(trial: &mut Trial, tables: Result<Vec<Stored>, String>) -> Outcome
 }
 
 /// The programs, parts, charts, plans, edge choices, reasons, positions, verdicts at a
-/// spread, runs, simulated ones, texts and places of refusals of the vectors.
+/// spread, runs, simulated ones, texts, sites and places of refusals of the vectors.
 pub(super) fn requests(trial: &mut Trial, _: &mut Random, _: &Extent) -> Outcome {
     for request in requests::requests().map_err(Stop::Unreadable)? {
         match &request {
@@ -103,6 +103,7 @@ pub(super) fn requests(trial: &mut Trial, _: &mut Random, _: &Extent) -> Outcome
                 trial.expect_simulation(&request.table, &request.experiment, &request.answer)?
             }
             Request::Exported(request) => expect_exported(trial, request)?,
+            Request::Site(request) => trial.expect_site(request)?,
             Request::Spread {
                 table,
                 spread,

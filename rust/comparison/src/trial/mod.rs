@@ -8,6 +8,7 @@ mod following;
 mod locating;
 mod positioning;
 mod running;
+mod sharing;
 mod simulating;
 mod spreading;
 
@@ -110,6 +111,7 @@ impl<'a> Trial<'a> {
         self.ask_accepted(input)?;
         self.position_accepted(input)?;
         self.export_some(input)?;
+        self.airtime(input)?;
         self.translate_accepted(input)
     }
 
@@ -128,6 +130,7 @@ impl<'a> Trial<'a> {
             self.position_refused(input)?;
             self.simulate_refused(input)?;
             self.export_refused(input)?;
+            self.airtime(input)?;
         }
         Ok(())
     }

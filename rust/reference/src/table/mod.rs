@@ -46,7 +46,7 @@ pub const NO_COMPONENT: u8 = 255;
 #[derive(Clone, Copy, Debug, PartialEq, Eq)]
 pub struct Refusal {
     /// The number of the check that was not passed: 1 to 12 or 15
-    /// to 17, 13, 14, or 18 to 25.
+    /// to 17, 13, 14, or 18 to 28.
     pub number: u8,
     /// "255 for 1 to 3, 13, 14 [...]; for 4 to 9 the one read or opened; for
     /// 10 to 12 that of the first passage in schedule order at fault".

@@ -194,6 +194,11 @@ pub fn vectors_of_uppaal() -> Vec<Vector> {
     read_vectors(&["uppaal.tsv"])
 }
 
+/// The cases of airtimes and sites: `air` with a table, `ledger` with a limit and calls.
+pub fn vectors_of_sites() -> Vec<Vector> {
+    read_vectors(&["sites.tsv"])
+}
+
 fn read_vectors(files: &[&str]) -> Vec<Vector> {
     let mut all = Vec::new();
     for file in files {

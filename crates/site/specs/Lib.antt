@@ -1,0 +1,4 @@
+pub mod Airtime
+pub mod Lent
+pub mod Called
+pub mod SiteCases
