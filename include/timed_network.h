@@ -311,7 +311,8 @@ timed_network_timing_chart(const uint8_t *table, size_t length,
  *
  * table, length: as for timed_network_check.
  * text:          the first of `text_length` bytes that can be written.
- * text_length:   how many bytes there are. 2,436,116 are always enough. It may
+ * text_length:   how many bytes there are. 2,436,116 are always enough (a law,
+ *                `system-most` in crates/uppaal_text/proofs/Rooms.antt). It may
  *                be 0; then the pointer is not used.
  *
  * Component 0 is process P0, and so on; its location 0 is L0, its clock 0 x0,

@@ -1,3 +1,4 @@
 pub mod Budgets
 pub mod Exporting
 pub mod Working
+pub mod Room

@@ -1,3 +1,4 @@
 pub mod Naming
 pub mod Guarding
 pub mod Stepping
+pub mod Keeping

@@ -18,6 +18,7 @@ use model::Location;
 use model::layout;
 
 pub mod conditions;
+pub mod heard;
 pub mod names;
 
 // An edge besides its bytes: its number, the invariant of its location, the clocks of its component, and whether edges have a budget.
@@ -60,16 +61,7 @@ fn put_step_out(
 {
     let target = window::leads_to(edge, message, origin.budgets);
     let first = names::put_arrow_out(out, at, origin.number, message, target);
-    let second = conditions::put_guard_out(
-        edge,
-        origin.budgets,
-        origin.location,
-        tight,
-        out,
-        first,
-    );
-    let third = conditions::put_assign(edge, origin.budgets, origin.clocks, out, second);
-    words::put_words(out, third, b" }")
+    heard::put_tail(edge, origin, tight, out, first)
 }
 
 // The step in or the step out, behind another.
@@ -137,7 +129,7 @@ fn put_entries(
 }
 
 // The transitions of an outcome: its steps in, then its steps out.
-fn put_transitions(edge: &[u8], origin: Origin, message: u8, out: &mut [u8], at: usize) -> usize
+pub fn put_transitions(edge: &[u8], origin: Origin, message: u8, out: &mut [u8], at: usize) -> usize
     requires { ⌜ Writable (origin .budgets) (now edge) × (origin .clocks ≤ 4) × (at + 12500 ≤ 2305843009213693952) ⌝ }
     ensures { λ r. ⌜ Put (now (out .entry)) at (outcomeTold true origin (now (edge .entry)) message) r (now (out .exit)) × (r ≤ at + 12500) ⌝ }
 {
@@ -199,6 +191,28 @@ fn put_messages(
     next
 }
 
+// The same: where several messages share their steps' texts, these are kept.
+fn put_pairs(
+    edge: &[u8],
+    origin: Origin,
+    steps: bool,
+    pairs: &[u8],
+    count: u8,
+    out: &mut [u8],
+    at: usize,
+) -> usize
+    requires { ⌜ Writable (origin .budgets) (now edge) × (origin .clocks ≤ 4) × (count * 2 ≤ length (now pairs)) × (count ≤ 8) × (at + count * 12500 ≤ 2305843009213693952) ⌝ }
+    ensures { λ r. ⌜ Put (now (out .entry)) at (allTold (λ q. outcomeTold steps origin (now (edge .entry)) (pairAt q .channel)) 2 count (now (pairs .entry))) r (now (out .exit)) × (r ≤ at + count * 12500) ⌝ }
+{
+    if count < 2 {
+        return put_messages(edge, origin, steps, pairs, count, out, at);
+    }
+    if steps {
+        return heard::put_messages(edge, origin, pairs, count, out, at);
+    }
+    put_messages(edge, origin, steps, pairs, count, out, at)
+}
+
 // What is written for the edge at the front: its transitions, or its waiting locations.
 pub fn put_edge(edge: &[u8], origin: Origin, steps: bool, out: &mut [u8], at: usize) -> usize
     requires { ⌜ Writable (origin .budgets) (now edge) × (origin .clocks ≤ 4) × (at + 112500 ≤ 2305843009213693952) ⌝ }
@@ -210,7 +224,7 @@ pub fn put_edge(edge: &[u8], origin: Origin, steps: bool, out: &mut [u8], at: us
         Action::Internal => put_outcome(edge, origin, steps, 255, out, at),
         Action::Send(channel) => put_outcome(edge, origin, steps, channel, out, at),
         Action::Receive => {
-            let next = put_messages(
+            let next = put_pairs(
                 edge,
                 origin,
                 steps,

@@ -35,20 +35,20 @@ put-outcome-requires-2 c κs = search needs
 enum-told-2 : tie.Need-enum-told-2
 enum-told-2 c = search needs
 
-sub-put-messages : tie.Need-sub-put-messages
-sub-put-messages c = search needs
+sub-put-pairs : tie.Need-sub-put-pairs
+sub-put-pairs c = search needs
 
-part-put-messages-start : tie.Need-part-put-messages-start
-part-put-messages-start c = search needs
+part-put-pairs-start : tie.Need-part-put-pairs-start
+part-put-pairs-start c = search needs
 
-part-put-messages-end : tie.Need-part-put-messages-end
-part-put-messages-end c = search needs
+part-put-pairs-end : tie.Need-part-put-pairs-end
+part-put-pairs-end c = search needs
 
-shared-slice-read-put-messages : tie.Need-shared-slice-read-put-messages
-shared-slice-read-put-messages c = search needs
+shared-slice-read-put-pairs : tie.Need-shared-slice-read-put-pairs
+shared-slice-read-put-pairs c = search needs
 
-put-messages-requires : tie.Need-put-messages-requires
-put-messages-requires c κs =
+put-pairs-requires : tie.Need-put-pairs-requires
+put-pairs-requires c κs =
     let a = c .before .before .before .before .before .before .before .before .before .args in
     let w = c .before .before .before .before .before .before .before .before .before .pre .0 in
     let o = a .origin in
@@ -62,7 +62,7 @@ put-outcome-requires-3 c κs =
     let p = c .before .before .before .before .before .before .before .before .before .before .before .before .before .pre in
     let h = c .before .before .before .before .before .before .before .before .before .before .before .before .before .args .edge .now in
     let s = pairs-whole (c .before .before .before .before .before .before .before .before .before .before .before .before .before .args .origin .budgets) h (sym (c .before .before .before .before .before .before .before .enum-told2 .given .1) ∙ c .before .before .before .before .before .before .before .before .before .action-at .ensures) in
-    (p .0, p .1, omega (arith, c .before .before .before .put-messages .ensures .1, s .1, p .0 .pairs))
+    (p .0, p .1, omega (arith, c .before .before .before .put-pairs .ensures .1, s .1, p .0 .pairs))
 
 same-length : tie.Need-same-length
 same-length c = search needs
@@ -98,7 +98,7 @@ returns-3 c =
     let i = c .before .before .before .before .before .before .before .before .before .before .before .before .before .items-place in
     let is = sym (c .before .before .before .before .before .before .before .before .before .before .enum-told2 .given .1) ∙ c .before .before .before .before .before .before .before .before .before .before .before .before .action-at .ensures in
     let e = ap (allTold (λ q. outcomeTold (a .steps) o h (pairAt q .channel)) 2 (byte h 6)) (tail h (i .result) ∙ ap (λ (n : ℕ). drop n h) (i .ensures .0)) in
-    (put-is (edge-receive (a .steps) (o .location) (o .clocks) (o .number) (o .budgets) h is (w .heard)) (put-join (put-is e (c .before .before .before .before .before .before .put-messages .ensures .0)) (c .before .before .put-outcome3 .ensures .0)), omega (arith, c .before .before .before .before .before .before .put-messages .ensures .1, c .before .before .put-outcome3 .ensures .1, pairs-whole (o .budgets) h is .1, w .pairs))
+    (put-is (edge-receive (a .steps) (o .location) (o .clocks) (o .number) (o .budgets) h is (w .heard)) (put-join (put-is e (c .before .before .before .before .before .before .put-pairs .ensures .0)) (c .before .before .put-outcome3 .ensures .0)), omega (arith, c .before .before .before .before .before .before .put-pairs .ensures .1, c .before .before .put-outcome3 .ensures .1, pairs-whole (o .budgets) h is .1, w .pairs))
 
 pub put-edge-spec : {M : Type 1} → statement M
 put-edge-spec =
@@ -111,11 +111,11 @@ put-edge-spec =
     enum-known-action
     put-outcome-requires-2
     enum-told-2
-    sub-put-messages
-    part-put-messages-start
-    part-put-messages-end
-    shared-slice-read-put-messages
-    put-messages-requires
+    sub-put-pairs
+    part-put-pairs-start
+    part-put-pairs-end
+    shared-slice-read-put-pairs
+    put-pairs-requires
     put-outcome-requires-3
     same-length
     returns
