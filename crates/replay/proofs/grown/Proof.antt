@@ -1,4 +1,4 @@
--- `reasons::grown` meets its contract. Assumes nothing.
+-- `replay::grown` meets its contract. Assumes nothing.
 use mathlib.Core.Path.{_≡_, refl, sym, ap, _∙_}
 use Prim.Native.Nat.{_-_}
 use native.Mathlib.Omega.{arith}
@@ -9,10 +9,10 @@ use Rattle.model.specs.Window.{aged, updated}
 use Rattle.window.specs.Views.{entryOf}
 use Rattle.window.proofs.Leaving.{aged-young, all-up, kept-else, leaves-to}
 use Rattle.rows.proofs.Placed.{at-within, at-arc}
-use Rattle.reasons.proofs.Placing.{at-ready}
+use Rattle.replay.proofs.Placing.{at-ready}
 use borrow.Author.Needs.{needs}
-use Rattle.reasons.proofs.grown.Statement.{statement}
-use Rattle.reasons.proofs.grown.Tie as tie
+use Rattle.replay.proofs.grown.Statement.{statement}
+use Rattle.replay.proofs.grown.Tie as tie
 
 index-requires : tie.Need-index-requires
 index-requires c κs = search needs
