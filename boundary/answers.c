@@ -307,6 +307,28 @@ static void write_uppaal(const struct stored *stored, enum where where) {
         line = write_process(line);
 }
 
+/* The pair, or none. */
+static void write_period(const struct stored *stored, enum where where) {
+    timed_network_period_numbers answer = guarded_period(where, stored->table);
+    if (write_refusal(answer.number, answer.component))
+        return;
+    if (!answer.found) {
+        write_text("none");
+        return;
+    }
+    write_number("", answer.from);
+    write_number(" ", answer.to);
+}
+
+static void write_run_to(const struct stored *stored, enum where where) {
+    timed_network_run_to_numbers answer = guarded_run_to(
+        where, stored->table, stored->choices, stored->horizon, stored->lent);
+    timed_network_run_numbers ran = {answer.number, answer.component,      answer.end,
+                                     answer.node,   answer.tick,           (uint32_t)answer.used,
+                                     (uint32_t)answer.size};
+    write_ran(ran, stored);
+}
+
 static void write_airtime(const struct stored *stored, enum where where) {
     timed_network_airtime_numbers answer = guarded_airtime(where, stored->table);
     if (!write_refusal(answer.number, answer.component))
@@ -337,7 +359,8 @@ void stored_try(const struct stored *stored, enum where where) {
         write_looked,       write_program,   write_part,  write_run,
         write_check_spread, write_run_apart, write_place, write_opening,
         write_reasons,      write_positions, write_simulation, write_simulation,
-        write_uppaal,       write_airtime,   write_sequence};
+        write_uppaal,       write_period,    write_run_to, write_airtime,
+        write_sequence};
     trying("a stored case", stored->name);
     used = 0;
     text[0] = 0;

@@ -9,9 +9,10 @@ const char *const call_names[CALLS] = {
     "edge_choice",  "translate", "part",           "run",
     "check_spread", "run_apart", "refusal_place",  "refused_opening",
     "reasons",      "positions", "simulate",       "simulate_from",
-    "uppaal",       "airtime",   "site",           "site_put",
-    "site_take",    "passages",  "meetings",       "largest_spread",
-    "meetings_spread", "start",  "step",           "take_message"};
+    "uppaal",       "period",    "run_to",         "airtime",
+    "site",         "site_put",  "site_take",      "passages",
+    "meetings",     "largest_spread", "meetings_spread", "start",
+    "step",         "take_message"};
 unsigned long made[CALLS];
 uint32_t list[MAX_LIST];
 uint8_t chart[MAX_CHART];
@@ -44,6 +45,7 @@ void calls_start(void) {
     positions_start();
     simulation_start();
     uppaal_start();
+    period_start();
     site_start();
 }
 

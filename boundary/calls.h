@@ -85,6 +85,8 @@ enum call {
     SIMULATE,
     SIMULATE_FROM,
     UPPAAL,
+    PERIOD,
+    RUN_TO,
     AIRTIME,
     SITE,
     SITE_PUT,
@@ -123,6 +125,7 @@ void reasons_start(void);
 void positions_start(void);
 void simulation_start(void);
 void uppaal_start(void);
+void period_start(void);
 
 /*
  * What holds for every verdict: 0 to `most`, the last number of the call, or,
@@ -165,6 +168,10 @@ timed_network_position_numbers guarded_positions(enum where where, struct bytes 
 timed_network_simulation_numbers guarded_simulate(enum where where, struct bytes table,
                                                   struct experiment experiment);
 timed_network_call_numbers guarded_uppaal(enum where where, struct bytes table, size_t lent);
+timed_network_period_numbers guarded_period(enum where where, struct bytes table);
+timed_network_run_to_numbers guarded_run_to(enum where where, struct bytes table,
+                                            struct bytes choices, uint32_t horizon,
+                                            size_t lent);
 timed_network_node_registers guarded_start(enum where where, struct bytes part);
 void guarded_step(enum where where, timed_network_node_registers *node, struct bytes part,
                   uint8_t clocks, uint8_t variables);
@@ -182,6 +189,10 @@ void simulate_in_all_ways(enum where where, struct bytes table,
 /* The reasons with as many bytes lent as they need plus `more`. */
 void lend_for_reasons(enum where where, struct bytes table, struct question question,
                       long more);
+
+/* Runs to a horizon with as many bytes lent as they need plus `more`. */
+void lend_for_run_to(enum where where, struct bytes table, struct bytes choices,
+                     uint32_t horizon, long more);
 
 /* The text for UPPAAL with as many bytes lent as it needs plus `more`. */
 void lend_for_uppaal(enum where where, struct bytes table, long more);

@@ -113,6 +113,22 @@ struct experiment random_experiment(void) {
     return experiment;
 }
 
+uint32_t random_horizon(struct bytes table) {
+    uint32_t own = table.length > 6 ? 256u * table.at[5] + table.at[6] : 0;
+    switch (random_below(8)) {
+    case 0:
+        return (uint32_t)random_below(2);
+    case 1:
+        return random_below(2) ? UINT32_MAX : (uint32_t)random_number();
+    case 2:
+        return (uint32_t)random_below(own + 1);
+    case 3:
+        return own + (uint32_t)random_below(5 * (size_t)own + 1);
+    default:
+        return own + (uint32_t)random_below(3) - 1;
+    }
+}
+
 struct bytes random_program(size_t length) {
     if (length > 0)
         memcpy(program_bytes, program, length);

@@ -41,6 +41,9 @@ struct numbers random_pairs(struct bytes table);
 /* Few runs with short work, most of them; now and then other numbers. */
 struct experiment random_experiment(void);
 
+/* A horizon: most about that of a table, the greatest number, or any. */
+uint32_t random_horizon(struct bytes table);
+
 /*
  * The first `length` bytes of `program` with one byte changed and some cut
  * off; or other bytes. Written to program_bytes.

@@ -75,6 +75,7 @@ static void lend(enum where where, struct bytes table, struct bytes choices, lon
     lend_for_reasons(where, table, any_question(table), more);
     lend_for_positions(where, table, random_pairs(table), more);
     lend_for_uppaal(where, table, more);
+    lend_for_run_to(where, table, choices, random_horizon(table), more);
 }
 
 static void stored_cases(void) {
@@ -235,6 +236,7 @@ static void all_calls(enum where where, struct bytes table, struct bytes choices
     guarded_positions(where, table, random_pairs(table), lent % (MAX_ANSWERED + 1));
     simulate_in_all_ways(where, table, random_experiment());
     guarded_uppaal(where, table, lent);
+    guarded_run_to(where, table, choices, random_horizon(table), lent);
     guarded_airtime(where, table);
     if (verdict.number != 0) {
         same(planned.number == verdict.number && translated.number == verdict.number &&
@@ -294,6 +296,9 @@ static void many_choices(void) {
         timed_network_run_numbers refused =
             guarded_run((enum where)where, table, of(choices_bytes, MAX_CHOICES + 1), NEEDED);
         same(refused.number == 14, "a million choices and one");
+        timed_network_run_to_numbers ran = guarded_run_to(
+            (enum where)where, table, of(choices_bytes, MAX_CHOICES + 1), 20, NEEDED);
+        same(ran.number == 0 && ran.end == 3, "a million choices and one to a horizon");
         struct waking above = {0, {1}, 1};
         refused = guarded_run_apart((enum where)where, table,
                                     of(choices_bytes, MAX_CHOICES), &above, NEEDED);

@@ -53,6 +53,8 @@ static timed_network_opening_numbers refused_opening;
 static timed_network_reason_numbers reasons;
 static timed_network_position_numbers positions;
 static timed_network_simulation_numbers simulation;
+static timed_network_period_numbers period;
+static timed_network_run_to_numbers ran_to;
 static timed_network_airtime_numbers airtime;
 static timed_network_networks networks;
 
@@ -65,6 +67,7 @@ struct lent {
     struct question question;
     struct numbers pairs;
     struct experiment experiment;
+    uint32_t horizon;
 };
 
 /* Apart from the others, whose frame would else hold what is passed in memory. */
@@ -118,6 +121,16 @@ __attribute__((noinline)) static void call_simulate_from(const struct lent *lent
 
 __attribute__((noinline)) static void call_uppaal(const uint8_t *bytes, size_t length) {
     called = timed_network_uppaal(bytes, length, network_text, MAX_TEXT);
+}
+
+__attribute__((noinline)) static void call_period(const uint8_t *bytes, size_t length) {
+    period = timed_network_period(bytes, length);
+}
+
+__attribute__((noinline)) static void call_run_to(const struct lent *lent) {
+    ran_to = timed_network_run_to(lent->bytes.at, lent->bytes.length, lent->choices.at,
+                                  lent->choices.length, lent->horizon, observations,
+                                  MAX_OBSERVATIONS);
 }
 
 __attribute__((noinline)) static void call_site(uint32_t limit) {
@@ -180,6 +193,12 @@ static void call(int request, const struct lent *lent) {
         break;
     case UPPAAL:
         call_uppaal(bytes, length);
+        break;
+    case PERIOD:
+        call_period(bytes, length);
+        break;
+    case RUN_TO:
+        call_run_to(lent);
         break;
     case AIRTIME:
         airtime = timed_network_airtime(bytes, length);
@@ -303,8 +322,10 @@ static void each_part(int request, measure *measure, const struct stored *stored
 static void each_case(int request, measure *measure) {
     for (size_t i = 0; i < case_count; i++) {
         const struct stored *stored = &cases[i];
-        struct lent lent = {stored->table,  stored->choices,  stored->node,  stored->slots,
-                            stored->waking, stored->question, stored->pairs, stored->experiment};
+        struct lent lent = {stored->table,  stored->choices,  stored->node,
+                            stored->slots,  stored->waking,   stored->question,
+                            stored->pairs,  stored->experiment,
+                            stored->request == RUN_TO ? stored->horizon : 1};
         if (request < START) {
             size_t found = measure(request, &lent);
             note(request, found);

@@ -167,6 +167,10 @@ static size_t request_of(const char *word, const char *words) {
         return POSITIONS;
     if (strcmp(word, "uppaal") == 0)
         return UPPAAL;
+    if (strcmp(word, "period") == 0)
+        return PERIOD;
+    if (strcmp(word, "long") == 0)
+        return RUN_TO;
     if (strcmp(word, "air") == 0)
         return AIRTIME;
     if (strcmp(word, "ledger") == 0)
@@ -205,7 +209,9 @@ static void read_words(struct stored *stored, char *table) {
     stored->table = from_hex(table);
     if (request == RUN_APART)
         read_waking(&stored->waking, cut(more, ' '));
-    if (request == RUN || request == RUN_APART)
+    if (request == RUN_TO)
+        stored->horizon = (uint32_t)strtoul(cut(more, ' '), NULL, 10);
+    if (request == RUN || request == RUN_APART || request == RUN_TO)
         stored->choices = from_hex(more);
     else if (request == CHECK_SPREAD)
         read_waking(&stored->waking, more);
@@ -325,6 +331,29 @@ static void read_positions(const char *root, char *name, struct bytes table) {
     }
 }
 
+/*
+ * From when to when everything of a table of the corpus comes again, if it is told: the
+ * pair or none, then runs: horizon, choices and the answer a line.
+ */
+static void read_periods(const char *root, char *name, struct bytes table) {
+    char path[300];
+    snprintf(path, sizeof path, "corpus/%s.period", name);
+    if (!is_there(root, path))
+        return;
+    char *line = (char *)read_file(root, path).at;
+    char *next = cut(line, '\n');
+    add(name, PERIOD, line)->table = table;
+    for (line = next; *line != 0; line = next) {
+        next = cut(line, '\n');
+        char *choices = cut(line, ' ');
+        struct stored *stored = add(name, RUN_TO, cut(choices, ' '));
+        stored->table = table;
+        stored->lent = MAX_OBSERVATIONS;
+        stored->choices = from_hex(choices);
+        stored->horizon = (uint32_t)strtoul(line, NULL, 10);
+    }
+}
+
 /* Where tables of the corpus are refused: a name, and a place or an opening, a line. */
 static void read_places(const char *root) {
     char *line = (char *)read_file(root, "corpus/places.tsv").at;
@@ -339,7 +368,7 @@ static void read_places(const char *root) {
     }
 }
 
-/* A table of the corpus: its verdict, and if accepted its schedule, reasons, runs and positions. */
+/* A table of the corpus: its verdict, and if accepted its schedule, reasons, runs, positions and pair. */
 static void read_corpus(const char *root) {
     char *line = (char *)read_file(root, "corpus/answers.tsv").at;
     while (*line != 0) {
@@ -361,6 +390,7 @@ static void read_corpus(const char *root) {
             read_questions(root, line, table);
             read_runs(root, line, table);
             read_positions(root, line, table);
+            read_periods(root, line, table);
         }
         line = next;
     }
@@ -382,6 +412,7 @@ void stored_read(const char *root) {
     read_vectors(root, "vectors/positions.tsv");
     read_vectors(root, "vectors/uppaal.tsv");
     read_vectors(root, "vectors/sites.tsv");
+    read_vectors(root, "vectors/periods.tsv");
     read_vectors(root, "vectors/places.tsv");
     read_corpus(root);
     read_places(root);

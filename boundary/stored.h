@@ -15,9 +15,10 @@ struct stored {
     char *name;
     enum call request;            /* CHECK to SITE */
     struct bytes table;           /* for PART the program */
-    size_t lent;                  /* for TIMING_CHART, PLAN, RUN, RUN_APART, REASONS, POSITIONS, UPPAAL */
+    size_t lent;                  /* for TIMING_CHART, PLAN, RUN, RUN_APART, REASONS, POSITIONS, UPPAAL, RUN_TO */
     struct slots slots;           /* for PLAN, which has no table */
-    struct bytes choices;         /* for RUN and RUN_APART */
+    struct bytes choices;         /* for RUN, RUN_APART and RUN_TO */
+    uint32_t horizon;             /* for RUN_TO */
     struct waking waking;         /* for RUN_APART; for CHECK_SPREAD the spread */
     struct question question;     /* for REASONS */
     struct numbers pairs;         /* for POSITIONS */

@@ -86,13 +86,14 @@ first_line() {
     head -n 1 "$scratch/$1"
 }
 
-# Ends with a refusal, which goes to standard error. 14, 19 and 20 say nothing about the table.
+# Ends with a refusal, which goes to standard error. 14, 19, 20 and 29 say nothing about the table.
 refuse() {
     name_kind "$1"
     tell "$1"
     case $(first_line "$1") in
         'refused 14 '* | 'refused 19 '*) ;;
         'refused 20 '*) stop "$refused" "$(offset_words)" ;;
+        'refused 29 '*) stop "$refused" "whether everything comes again: vanillatarn period $table" ;;
         *) [[ $table == - ]] || stop "$refused" "the table is refused; more about it: vanillatarn verdict $(spread_words)$table" ;;
     esac
     exit "$refused"

@@ -18,10 +18,11 @@ usage: vanillatarn COMMAND ...
   translate TABLE [-o FILE]                 the program of its nodes
   list PROGRAM                              a program, a statement a line
   part PROGRAM NODE [-o FILE]               the part of a program that belongs to one node
-  run [--spread G] [--offsets A,B,..] [--close N] [--json] TABLE CHOICES
+  run [--spread G] [--offsets A,B,..] [--horizon N] [--close N] [--json] TABLE CHOICES
                                             how a run ends, and what is observed
-  choices [--early|--late] [--offsets A,B,..] TABLE [-o FILE]
+  choices [--early|--late] [--offsets A,B,..] [--horizon N] TABLE [-o FILE]
                                             choices that take a run to the horizon
+  period [--json] TABLE                     from when to when everything comes again
   simulate --work LO..HI --runs N [--seed S] [--sweep] [--json] TABLE
                                             how many runs end late with such work times
   uppaal TABLE [-o FILE.xta]                its network as a text for UPPAAL
@@ -48,8 +49,8 @@ Exit status
      late or with a choice that is not allowed, a spread or an offset is too large,
      a component or a tick that is asked about is not there, pairs are not sorted,
      the numbers of a simulation are out of range, a network has budgets and so no
-     text, a table does not go into a site, a program is damaged or has no such
-     part, a text has a fault
+     text, a table does not go into a site, a horizon cannot be run to, a program is
+     damaged or has no such part, a text has a fault
   2  wrong use; a file that cannot be read or written, is empty or too long
   3  a tool is missing, could not be built or failed; standard output, standard
      error or the scratch folder cannot be written
@@ -219,6 +220,7 @@ TEXT
         run) cat <<'TEXT' ;;
 usage: vanillatarn run [--spread G] [--offsets A,B,..] [--close N] [--json]
                        TABLE CHOICES
+       vanillatarn run --horizon N [--close N] [--json] TABLE CHOICES
 
 Runs the programs of the table's nodes together under a list of choices, a byte
 each (0 to 7: that node finishes its statement; 255: a tick passes). Prints how
@@ -236,13 +238,19 @@ the message or the timeout; - in a node's first.
 --spread:  the largest offset that there may be (at most 1,000, else 19); without
            it 0. The table has to be accepted at this spread. An offset above it
            is refused with 20.
+--horizon: the tick at which the run ends (at most 4,294,967,295), in place of the
+           table's own horizon. It may be above that where everything comes again
+           (vanillatarn period); else, and 0, is refused with 29. There may be any
+           number of choices. A run to a horizon takes no offsets.
 
 Exit status: 0 at the horizon, or with all choices used up; 1 late, or with a
-choice that is not allowed, or the table, the spread or an offset is refused, or
-there are more than 1,000,000 choices. The first line tells which.
+choice that is not allowed, or the table, the spread, an offset or the horizon is
+refused, or without --horizon there are more than 1,000,000 choices. The first line
+tells which.
 TEXT
         choices) cat <<'TEXT' ;;
 usage: vanillatarn choices [--early|--late] [--offsets A,B,..] TABLE [-o FILE]
+       vanillatarn choices [--early|--late] --horizon N TABLE [-o FILE]
 
 Writes a list of choices that takes a run of the table to its horizon. --early
 (the default): each node finishes everything as early as it can. --late: each
@@ -250,8 +258,29 @@ node finishes everything as late as it may, its work at the end of the window.
 
 --offsets: the ticks at which the nodes wake, as for run. The table has to be
            accepted at a spread of the largest one.
+--horizon: the tick to which the list goes, as for run. It may have at most
+           2,000,000 passages.
 
-Exit status: 0 written, 1 the table is refused.
+Exit status: 0 written, 1 the table or the horizon is refused.
+TEXT
+        period) cat <<'TEXT' ;;
+usage: vanillatarn period [--json] TABLE
+
+Prints two ticks a and b below the horizon at which all nodes enter a location, each
+of them at both with the same location, clocks and variables: `0 10`, the first such b
+and the first a for it. From a on everything then comes again every b - a ticks. Or
+`none`, and as far as it can be said which component, and which of its clocks and
+variables, never comes back.
+
+With such a pair the table is free of a global scheduler for every later horizon too,
+beyond 60,000 ticks and 1,024 passages, and vanillatarn run --horizon N runs it to any:
+that is proved. Every table of vanillatarn plan has the pair 0 and its period. Without
+one nothing is said of what comes behind the horizon: a larger horizon in the table may
+show a pair.
+
+--json: an object (docs/FORMATS.md)
+
+Exit status: 0 told, also where there is none; 1 the table is refused.
 TEXT
         simulate) cat <<'TEXT' ;;
 usage: vanillatarn simulate --work LO..HI --runs N [--seed S] [--sweep] [--json] TABLE

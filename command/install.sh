@@ -6,7 +6,8 @@
 all_programs=(schedule_printer chart_printer verdict_printer spread_printer reason_printer plan_table translate_table program_listing trial_run)
 all_tools=(table_text:table_text make_choices:choices table_verdicts:verdicts)
 all_linked=(program_part:timed_network edge_choice:timed_network json_verdicts:json_verdicts edge_reasons:json_verdicts
-    passage_positions:json_verdicts run_observations:json_verdicts simulated_runs:json_verdicts network_text:json_verdicts site_airtimes:json_verdicts schedule_svg:schedule_svg)
+    passage_positions:json_verdicts run_observations:json_verdicts simulated_runs:json_verdicts network_text:json_verdicts site_airtimes:json_verdicts
+    table_period:json_verdicts long_run:json_verdicts schedule_svg:schedule_svg)
 user_docs=("$root"/docs/{TUTORIAL,FORMATS,REFUSALS,TABLE-TEXT,LINKING}.md "$root"/{CHANGELOG.md,LICENSE})
 
 # Builds all of them. What is missing is proved in one go, two crates at a time.

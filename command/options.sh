@@ -55,6 +55,12 @@ read_option() {
             read_offsets "$2"
             taken=2
             ;;
+        --horizon)
+            has_option h --horizon
+            (($# > 1)) || misused '--horizon lacks its number'
+            read_horizon "$2"
+            taken=2
+            ;;
         --close)
             has_option c --close
             (($# > 1)) || misused '--close lacks its number'

@@ -1,6 +1,6 @@
 # `vanillatarn run`, `choices` and `spread`; and nodes that wake apart, the options --spread and --offsets.
 # shellcheck shell=bash
-# shellcheck disable=SC2034,SC2154 # vanillatarn sets table, files, form, scratch, manner, broken, refused and spread; number is set by read_decimal
+# shellcheck disable=SC2034,SC2154 # vanillatarn sets table, files, form, scratch, manner, broken, refused and spread; number is set by read_decimal, horizon by period.sh
 
 # The offsets with commas between them, as the programs take them: none are given. The largest of them.
 offsets=- largest=0
@@ -78,6 +78,7 @@ show_run() {
 do_run() {
     local needed=(program:trial_run)
     [[ $table != - || ${files[1]} != - ]] || misused 'only one of the files can be standard input'
+    [[ -z $horizon ]] || run_to_horizon
     [[ $form == words && -z $close ]] || needed+=(linked:run_observations:json_verdicts)
     take_table "${needed[@]}"
     # The program itself refuses more choices, with 14.
@@ -105,6 +106,8 @@ do_run() {
 do_choices() {
     local words=("$manner")
     spread=$largest
+    [[ -z $horizon ]] || horizon_alone
+    [[ -z $horizon ]] || words+=(--horizon "$horizon")
     [[ $offsets == - ]] || words+=(--offsets "$offsets")
     take_table tool:make_choices:choices
     need_rust make_choices choices

@@ -73,6 +73,7 @@ head -c 65536 /dev/zero >longer
 "$root/vanillatarn" simulate --work 0..1 --runs 1 cellar.bin >out
 "$root/vanillatarn" uppaal cellar.bin >out
 "$root/vanillatarn" airtime cellar.bin >out
+"$root/vanillatarn" period cellar.bin >out
 "$root/vanillatarn" chart cellar.bin --svg out
 "$root/vanillatarn" translate cellar.bin -o program.bin
 "$root/vanillatarn" list program.bin >out
@@ -80,6 +81,7 @@ head -c 65536 /dev/zero >longer
 "$root/vanillatarn" choices cellar.bin -o early.bin
 "$root/vanillatarn" run cellar.bin early.bin >out
 "$root/vanillatarn" run --json cellar.bin early.bin >out
+"$root/vanillatarn" run --horizon 20 cellar.bin early.bin >out
 rm cellar.bin plan.bin program.bin part0.bin early.bin
 
 ## Help
@@ -90,7 +92,7 @@ starts 'usage: vanillatarn COMMAND ...'
 cp out help
 call -h
 gives help
-for command in verdict spread schedule chart plan edge why where translate list part run choices simulate uppaal airtime site text table install; do
+for command in verdict spread schedule chart plan edge why where translate list part run choices period simulate uppaal airtime site text table install; do
     call --help
     check "the help names $command" grep -q "^  $command " out
     call "$command" --help
@@ -414,7 +416,7 @@ chart cellar.bin -o file|'chart' has no option -o
 translate --late cellar.bin|'translate' has no option --late
 TEXT
 
-for part in build kinds numbers why where spread finishes simulate uppaal site verdict places svg install words; do
+for part in build kinds numbers why where spread finishes simulate uppaal site period verdict places svg install words; do
     # shellcheck source=/dev/null # build first: others use its root
     source "$root/command/test_$part.sh"
 done

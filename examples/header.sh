@@ -93,7 +93,7 @@ questions=crates/refusal_text/specs/RefusalText.antt ends=crates/run_text/specs/
 none=$(sed -n -E 's/^noQuestion = ascii "(.*)\\n"$/\1/p' $questions)
 sed -n '/^questions =$/,/^$/p' $questions | grep -o -E 'noQuestion|ascii "[^"]*"' |
     sed -E 's/^ascii "(.*)\\n"$/\1/; s/^noQuestion$/'"$none/" >"$out/questions"
-fact "not 28 questions and that of none were read" test "$(wc -l <"$out/questions")" = 29
+fact "not 29 questions and that of none were read" test "$(wc -l <"$out/questions")" = 30
 sed -n -E 's/^endText [(A-Z][^"]*"([^":]*).*/\1/p' $ends >"$out/ends"
 sed -n -E '/^notAllowed choices used =$/{n;s/^[^"]*"([^":]*).*/\1/p}' $ends >>"$out/ends"
 fact "not four ends were read" test "$(wc -l <"$out/ends")" = 4
@@ -102,7 +102,7 @@ fact "not four ends were read" test "$(wc -l <"$out/ends")" = 4
 words() {
     "$@" -Wall -Wextra -Wpedantic -Werror -O2 -Iinclude -o "$out/words" examples/c/words.c || return
     # shellcheck disable=SC2046 # a word a number
-    "$out/words" $(seq 0 28) 29 255 256 65537 4294967295 >"$out/said"
+    "$out/words" $(seq 0 29) 30 255 256 65537 4294967295 >"$out/said"
     { cat "$out/questions"; for _ in 1 2 3 4 5; do echo "$none"; done; } | cmp -s - "$out/said" || return
     "$out/words" end 0 1 2 3 4 255 256 4294967295 >"$out/said"
     { cat "$out/ends"; for _ in 1 2 3 4; do echo 'no end has this number'; done; } | cmp -s - "$out/said"

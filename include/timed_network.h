@@ -32,8 +32,8 @@
  * The version of this header and its archive, as words and as a number that
  * grows: 10,000 x major + 100 x minor + patch.
  */
-#define TIMED_NETWORK_VERSION "0.13.0"
-#define TIMED_NETWORK_VERSION_NUMBER 1300
+#define TIMED_NETWORK_VERSION "0.14.0"
+#define TIMED_NETWORK_VERSION_NUMBER 1400
 
 /*
  * Limits and sizes. "Enough" is what a buffer needs for any table.
@@ -96,7 +96,8 @@ enum timed_network_number {
     TIMED_NETWORK_REFUSED_BUDGETS = 25,
     TIMED_NETWORK_REFUSED_SITE_PLACE = 26,
     TIMED_NETWORK_REFUSED_HORIZON = 27,
-    TIMED_NETWORK_REFUSED_AIRTIME = 28
+    TIMED_NETWORK_REFUSED_AIRTIME = 28,
+    TIMED_NETWORK_REFUSED_RUN_HORIZON = 29
 };
 
 /* What the end of a run means; see timed_network_run_numbers. */
@@ -167,7 +168,7 @@ extern "C" {
  *
  * 15 to 17 stand in the place of 11 (document 02): they are asked after 10 and
  * before 12, and earlier versions of this library said 11 for all four. 13, 14
- * and 18 to 28 refuse a call and say nothing about a table.
+ * and 18 to 29 refuse a call and say nothing about a table.
  *
  * component: the number of the component concerned, counted from 0. For 4 to 6
  * the one that was being read, for 7 to 9 the one that was opening a passage,
@@ -691,6 +692,93 @@ timed_network_run_apart(const uint8_t *table, size_t length,
                         uint32_t spread,
                         const uint32_t *offsets, size_t offsets_length,
                         uint8_t *observations, size_t observations_length);
+
+/*
+ * The answer of timed_network_period. 12 bytes.
+ *
+ * number, component: the verdict on the table, as timed_network_check gives it.
+ * found:             whether there is such a pair; false after a refusal.
+ * from, to:          the pair, from below to; both 0 where there is none.
+ */
+typedef struct timed_network_period_numbers {
+    uint8_t number;
+    uint8_t component;
+    bool found;
+    uint32_t from;
+    uint32_t to;
+} timed_network_period_numbers;
+
+/*
+ * Tells from when to when everything comes again (document 02, wish 14): two ticks
+ * below the horizon at which all components enter a location, and each of them does
+ * so at both with the same location, clocks and variables. Of all such pairs it is
+ * the one with the least `to`, and with the least `from` for that.
+ *
+ * table, length: as for timed_network_check. Nothing is written.
+ *
+ * Where there is one, the table would be accepted with every larger horizon too,
+ * however many passages that has, and timed_network_run_to runs it to any. Every
+ * plan of timed_network_plan has one, 0 and its period. Where there is none, nothing
+ * is said about what comes behind the horizon: with a larger one there may be a pair.
+ */
+timed_network_period_numbers
+timed_network_period(const uint8_t *table, size_t length);
+
+/*
+ * The answer of timed_network_run_to. 24 bytes.
+ *
+ * number, component: as in a verdict, with two numbers more, tried in this
+ * order after 1 to 12:
+ *
+ *  29  the horizon is 0, or it is above the table's and timed_network_period
+ *      finds no pair; component 255
+ *  13  fewer bytes are lent than 36 for each passage of the schedule to that
+ *      horizon; component 255
+ *
+ * end, node, tick: as in timed_network_run_numbers, end 0 at that horizon.
+ * used: how many choices were carried out, the ticks included.
+ * size: how many observations were written.
+ *
+ * After a refusal end, tick, used and size are 0, and node is 255.
+ */
+typedef struct timed_network_run_to_numbers {
+    uint8_t number;
+    uint8_t component;
+    uint8_t end;
+    uint8_t node;
+    uint32_t tick;
+    uint64_t used;
+    uint64_t size;
+} timed_network_run_to_numbers;
+
+/*
+ * Runs the programs of a table's nodes to a horizon that is handed in (document 02,
+ * wish 14), all nodes awake from tick 0 on.
+ *
+ * table, length:       as for timed_network_check.
+ * choices,
+ * choices_length:      as for timed_network_run, however many there are.
+ * horizon:             the tick at which the run ends with end 0: any number of four
+ *                      bytes from 1 up to the table's horizon, and above it where
+ *                      timed_network_period finds a pair.
+ * observations:        the first of `observations_length` bytes that can be written.
+ * observations_length: how many bytes there are. 36 are asked for each passage of the
+ *                      schedule to this horizon, also where it is below the table's:
+ *                      with a pair from, to each period of to - from ticks has as
+ *                      many more. It may be 0; then the pointer is not used.
+ *
+ * The observations are those of timed_network_run, and lateness goes by the schedule
+ * to this horizon. To the table's own horizon this is timed_network_run, but for 14.
+ *
+ * Refused with 1 to 12 as timed_network_check refuses, then with 29, then with 13.
+ *
+ * The observations must overlap neither the table nor the choices.
+ */
+timed_network_run_to_numbers
+timed_network_run_to(const uint8_t *table, size_t length,
+                     const uint8_t *choices, size_t choices_length,
+                     uint32_t horizon,
+                     uint8_t *observations, size_t observations_length);
 
 /*
  * The answer of timed_network_simulate and timed_network_simulate_from. 44 bytes.

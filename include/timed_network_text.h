@@ -19,7 +19,7 @@
  * 3?" for 1. The component that is concerned is not told; docs/REFUSALS.md has
  * what to look at.
  *
- * number: the number of an answer, 1 to 28. For 0, which is no refusal, and
+ * number: the number of an answer, 1 to 29. For 0, which is no refusal, and
  *         for any other it is "Does a question have this number?".
  */
 static inline const char *timed_network_refusal_text(unsigned int number) {
@@ -52,7 +52,8 @@ static inline const char *timed_network_refusal_text(unsigned int number) {
         "Are all budgets 0?",
         "Is it a place 0 to 3, empty when putting, filled when taking?",
         "Is the horizon that of the networks present?",
-        "Is the airtime in use with this network at most the limit?"};
+        "Is the airtime in use with this network at most the limit?",
+        "Is the horizon at least 1, and at most the table's unless all comes again?"};
     return questions[number < sizeof questions / sizeof questions[0] ? number : 0];
 }
 

@@ -42,6 +42,22 @@ AT(timed_network_run_numbers, tick, 4, 4);
 AT(timed_network_run_numbers, used, 8, 4);
 AT(timed_network_run_numbers, size, 12, 4);
 
+SIZE(timed_network_run_to_numbers, 24);
+AT(timed_network_run_to_numbers, number, 0, 1);
+AT(timed_network_run_to_numbers, component, 1, 1);
+AT(timed_network_run_to_numbers, end, 2, 1);
+AT(timed_network_run_to_numbers, node, 3, 1);
+AT(timed_network_run_to_numbers, tick, 4, 4);
+AT(timed_network_run_to_numbers, used, 8, 8);
+AT(timed_network_run_to_numbers, size, 16, 8);
+
+SIZE(timed_network_period_numbers, 12);
+AT(timed_network_period_numbers, number, 0, 1);
+AT(timed_network_period_numbers, component, 1, 1);
+AT(timed_network_period_numbers, found, 2, 1);
+AT(timed_network_period_numbers, from, 4, 4);
+AT(timed_network_period_numbers, to, 8, 4);
+
 SIZE(timed_network_passage, TIMED_NETWORK_PASSAGE_BYTES);
 AT(timed_network_passage, component, 0, 1);
 AT(timed_network_passage, edge, 1, 1);
@@ -190,6 +206,7 @@ FACT(TIMED_NETWORK_UPPAAL_ENOUGH == 8 * (500 + 32 * 9500) + 116);
 FACT(TIMED_NETWORK_REFUSED_SITE_PLACE == 26);
 FACT(TIMED_NETWORK_REFUSED_HORIZON == 27);
 FACT(TIMED_NETWORK_REFUSED_AIRTIME == 28);
+FACT(TIMED_NETWORK_REFUSED_RUN_HORIZON == 29);
 FACT(TIMED_NETWORK_PLACES == 4);
 FACT(TIMED_NETWORK_TAKEN == 0 && TIMED_NETWORK_HIGHER_NUMBER == 4);
 FACT(TIMED_NETWORK_REASON == 3 && TIMED_NETWORK_REASONS_ENOUGH == 96);

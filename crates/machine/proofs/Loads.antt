@@ -32,7 +32,7 @@ pub record Loaded (program rows : List ℕ) (n : ℕ) (l : List ℕ) (v : List �
   pub spans : len ≡ wordIn l c 22
   pub counts : held ≡ heldIn l c
   pub node : r ≡ nodeIn l v c
-  pub stands : NodeStands program rows n l v c 2000000000000000000
+  pub stands : NodeStands program rows n l v c 3000000000000000000
 
 module _ {program rows : List ℕ} {n : ℕ} {l : List ℕ} {v : List ℤ} {c base len : ℕ} {held : Counts} {r : Node} (a : Loaded program rows n l v c base len held r) where
   -- the part's bytes, as they were lent
@@ -54,7 +54,7 @@ module _ {program rows : List ℕ} {n : ℕ} {l : List ℕ} {v : List ℤ} {c ba
   held-fine = subst (λ (k : Counts). Held k) (sym (a .counts)) (a .stands .held)
 
   pub within : Within 4000000000000000000 r
-  within = subst (λ (x : Node). Within 4000000000000000000 x) (sym (a .node)) (wider 2000000000000000000 4000000000000000000 (omega arith) (a .stands .within))
+  within = subst (λ (x : Node). Within 4000000000000000000 x) (sym (a .node)) (wider 3000000000000000000 4000000000000000000 (omega arith) (a .stands .within))
 
   -- a send adds nothing
   pub sends-safe : opOf program l v c ≡ 4 → Addable (drop (r .pc) (partIn program l c)) (heldIn l c) r
@@ -79,7 +79,7 @@ module _ {program rows : List ℕ} {n : ℕ} {l : List ℕ} {v : List ℤ} {c ba
 -- node c stands well within what its next statement asks
 pub stands-there : {program rows : List ℕ} {n : ℕ} {l : List ℕ} {v : List ℤ} {count : ℕ} → Standing program rows n l v count → (c : ℕ) → c < count
     → NodeStands program rows n l v c 3000000000000000000
-stands-there st c h = stands-wider 2000000000000000000 3000000000000000000 (omega arith) (st .each c h)
+stands-there st c h = stands-wider 3000000000000000000 3000000000000000000 (omega arith) (st .each c h)
 
 -- each part lies in the program
 pub all-inside : {program rows : List ℕ} {n : ℕ} {l : List ℕ} {v : List ℤ} {count : ℕ} → Standing program rows n l v count → (i : ℕ) → i < count → Inside program l i

@@ -73,7 +73,7 @@ pub record Standing (program rows : List ℕ) (n : ℕ) (l : List ℕ) (v : List
   pub most : count ≤ 8
   pub listed : RowsStand rows n
   pub eight : Eight l v
-  pub each : (c : ℕ) → c < count → NodeStands program rows n l v c 2000000000000000000
+  pub each : (c : ℕ) → c < count → NodeStands program rows n l v c 3000000000000000000
 
 -- when the last of these works that node c has a part in finished, by its own clock
 abbrev pub previousIn : List ℕ → ℕ → List Work → ℕ

@@ -288,7 +288,7 @@ fn go_alone(
     out: &mut [u8],
     written: usize,
 ) -> Moved
-    requires { ⌜ Standing (now program) (now rows) passages (now words) (now values) count × (c < count) × (op ≡ opOf (now program) (now words) (now values) c) × (opOf (now program) (now words) (now values) c ≡ 4 → ⊥) × (observesNow (now program) (now words) (now values) c tick ≡ true → written * observationWidth + observationWidth ≤ length (now out)) × (written ≤ 1000000) ⌝ }
+    requires { ⌜ Standing (now program) (now rows) passages (now words) (now values) count × (c < count) × (op ≡ opOf (now program) (now words) (now values) c) × (opOf (now program) (now words) (now values) c ≡ 4 → ⊥) × (observesNow (now program) (now words) (now values) c tick ≡ true → written * observationWidth + observationWidth ≤ length (now out)) × (written ≤ 22700000000000) ⌝ }
     ensures { λ moved. ⌜ ((H common : ℕ) → wakeTickIn (now (words .entry)) c ≤ common → tick ≡ common - wakeTickIn (now (words .entry)) c → Chosen (now (program .entry)) (now (rows .entry)) passages H count common c (now (words .entry)) (now (values .entry)) (now (out .entry)) written moved (now (words .exit)) (now (values .exit)) (now (out .exit))) ⌝ }
 {
     if !may_finish(program, words, values, c, op, tick) {
@@ -336,7 +336,7 @@ pub fn choose_node(
     out: &mut [u8],
     written: usize,
 ) -> Moved
-    requires { ⌜ Standing (now program) (now rows) passages (now words) (now values) count × (choice < 255) × (choice < count → wakeTickIn (now words) choice ≤ tick → observesNow (now program) (now words) (now values) choice (tick - wakeTickIn (now words) choice) ≡ true → written * observationWidth + observationWidth ≤ length (now out)) × (written ≤ 1000000) ⌝ }
+    requires { ⌜ Standing (now program) (now rows) passages (now words) (now values) count × (choice < 255) × (choice < count → wakeTickIn (now words) choice ≤ tick → observesNow (now program) (now words) (now values) choice (tick - wakeTickIn (now words) choice) ≡ true → written * observationWidth + observationWidth ≤ length (now out)) × (written ≤ 22700000000000) ⌝ }
     ensures { λ moved. ⌜ ((H : ℕ) → Chosen (now (program .entry)) (now (rows .entry)) passages H count tick choice (now (words .entry)) (now (values .entry)) (now (out .entry)) written moved (now (words .exit)) (now (values .exit)) (now (out .exit))) ⌝ }
 {
     let c = choice as usize;

@@ -1,4 +1,3 @@
-pub mod Placing
 pub mod Staying
 pub mod Naming
 pub mod EdgeReasons

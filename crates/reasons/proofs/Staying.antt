@@ -31,7 +31,8 @@ use Rattle.schedule.proofs.Accepted.{row-is, is-schedule}
 use Rattle.schedule.proofs.Cut.{leaves-cut, start-cut, arc-in, leads-in}
 use Rattle.schedule.proofs.Tables.{initial-read, limits-of}
 use Rattle.reasons.specs.declared.Stay.{Stay}
-use Rattle.reasons.specs.Stays.{relocated, Grown, Walked, Stayed}
+use Rattle.replay.specs.Growing.{relocated, Grown}
+use Rattle.reasons.specs.Stays.{Walked, Stayed}
 
 -- before row i the walk carries the entry of the component's next passage, but for its location
 pub record On (bs l : List ℕ) (n c tick i : ℕ) (at : Entry) : Type 0 where

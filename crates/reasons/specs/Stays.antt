@@ -1,13 +1,11 @@
 -- The passage of a component at a tick, what is known at its entry, and what a question names.
 use mathlib.Core.Path.{_≡_}
 use mathlib.Core.List.{List}
-use mathlib.Core.Option.{Option}
 use Prim.Native.Nat.{ℕ, _≤_, _<_}
 use lib.ListN.{length}
 use Rattle.model.specs.declared.Verdict.the-variants.{Accepted, Refused}
-use Rattle.model.specs.Lists.{All, Answer, accepted, refused}
-use Rattle.model.specs.Table.{Arc, size}
-use Rattle.model.specs.Window.{leadsTo, leaves}
+use Rattle.model.specs.Lists.{Answer, accepted, refused}
+use Rattle.model.specs.Table.{size}
 use Rattle.model.specs.Places.{readOf, componentIn, startOf, Valid}
 use Rattle.model.specs.Schedule.{Passage, light}
 use Rattle.model.specs.Checks.{passageAt, acceptedScheduleOf}
@@ -19,15 +17,6 @@ use Rattle.schedule.specs.Filled.{AcceptedRows}
 use Rattle.schedule.specs.Going.{cut}
 use Rattle.reasons.specs.declared.Stay.{Stay}
 use Rattle.reasons.specs.declared.Asked.{Asked}
-
--- an entry of another location
-abbrev pub relocated : ℕ → Rattle.model.specs.Window.Entry → Rattle.model.specs.Window.Entry
-relocated here e = record { location = here; tick = e .tick; clocks = e .clocks; values = e .values }
-
--- tick, clocks and variables are those that edge a leads to at its end from an entry, whatever the message; and no clock is older than the table
-pub record Grown (a : Arc) (end : ℕ) (at r : Entry) : Type 0 where
-  pub leads : (m : Option ℕ) → relocated (leadsTo a m) (entryOf r) ≡ leaves a m end (entryOf at)
-  pub young : All (λ x. x ≤ end) (r .clocks)
 
 -- n rows are the passages of an accepted table's schedule; the component is there, and the tick lies below the horizon
 pub record Walked (bs l : List ℕ) (n c tick : ℕ) : Type 0 where

@@ -15,7 +15,8 @@ ghost use Rattle.model.specs.Reasons.{told as toldOf};
 ghost use Rattle.table.specs.Directory.{startsOf};
 ghost use Rattle.window.specs.Views.{entryOf};
 ghost use Rattle.rows.specs.Rows.{num, rowPassage, RowKnown};
-ghost use Rattle.reasons.specs.Stays.{relocated, Grown, Walked, Stayed, namedBy, Present, Answers};
+ghost use Rattle.replay.specs.Growing.{relocated};
+ghost use Rattle.reasons.specs.Stays.{Walked, Stayed, namedBy, Present, Answers};
 ghost use Rattle.reasons.specs.Telling.{Tells};
 use model::Verdict;
 use model::layout;
@@ -46,28 +47,6 @@ pub struct Told {
     pub verdict: Verdict,
     pub passage: usize,
     pub size: usize,
-}
-
-// Clocks and variables after the passage of row i, from those at its entry; the location stays. The parts of `window::leave`, which is made for its
-// one caller, the schedule: with a second one the compiler would no longer put it there.
-fn grown(table: &[u8], rows: &[u32], i: usize, at: Entry, budgets: bool) -> Entry
-    requires { ⌜ RowKnown (now table) (now rows) i × (at .tick ≤ num (now rows) i 5) × All (λ x. x ≤ at .tick) (at .clocks) × (budgets ≡ budgeted (now table)) ⌝ }
-    ensures { λ r. ⌜ Grown (passageArc (readOf (now (table .entry)) .table) (rowPassage (now (rows .entry)) i)) (num (now (rows .entry)) i 5) at r ⌝ }
-{
-    let place = rows::index(rows, i, rows::PLACE);
-    let end = rows::number(rows, i, rows::END);
-    let before = at.values;
-    let after = window::updates::edge_update(&table[place..], before, budgets);
-    let values = window::kept_values(after, before);
-    let young = at.clocks;
-    let edge = decoder::edge_at(&table[place..], budgets);
-    let clocks = window::age(edge.mask, end - at.tick, young);
-    Entry {
-        location: at.location,
-        tick: end,
-        clocks,
-        values,
-    }
 }
 
 // The passage of row i, entered with these clocks and variables at the location of the row.
@@ -108,7 +87,7 @@ fn stay_at(
             if tick < rows::number(rows, i, rows::END) {
                 return stay_in(rows, i, at);
             }
-            at = grown(table, rows, i, at, budgets);
+            at = replay::grown(table, rows, i, at, budgets);
         }
         i += 1;
     }

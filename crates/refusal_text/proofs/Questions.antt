@@ -11,7 +11,7 @@ pub asked : (number known : ℕ) {before after : List ℕ} {at end : ℕ} → nu
 asked number known {before} {at = at} e a = record { text = a .text ∙ ap (λ (n : ℕ). take at before ++ question n) (sym e) }
 
 -- past the last
-pub not-asked : (number : ℕ) {before after : List ℕ} {at end : ℕ} → 29 ≤ number → Added before at noQuestion after end → Added before at (question number) after end
+pub not-asked : (number : ℕ) {before after : List ℕ} {at end : ℕ} → 30 ≤ number → Added before at noQuestion after end → Added before at (question number) after end
 unfolding question
 not-asked number {before} {at = at} h a =
     record { text = a .text ∙ ap (λ (w : List ℕ). take at before ++ w) (sym (List·getD-eq-default questions noQuestion h)) }

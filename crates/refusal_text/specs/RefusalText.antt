@@ -15,7 +15,7 @@ noQuestion = ascii "Does a question have this number?\n"
 -- wish 10: "seed 0 is refused with 22, and lo above hi, hi above 60,000 or runs outside 1 to 10,000 with 23."; 24 of its wish 11: "21 as in Wish 7 comes
 -- first, then 24 for a tick below its predecessor's"; 25 of its wish 12: "Tables with budgets are exported without them only if all are 0; any other is
 -- refused with 25"; 26 to 28 of its wish 13: "a wrong place, or one filled when putting or empty when taking, is refused with 26; a different H with 27;
--- then a sum above the limit with 28".
+-- then a sum above the limit with 28"; 29 of its wish 14: "A horizon of 0, or one above H without such a pair, is refused with 29, after 12".
 abbrev pub questions : List (List ℕ)
 questions =
     noQuestion ∷ ascii "Is the first byte 1, 2 or 3?\n"
@@ -46,6 +46,7 @@ questions =
     ∷ ascii "Is it a place 0 to 3, empty when putting, filled when taking?\n"
     ∷ ascii "Is the horizon that of the networks present?\n"
     ∷ ascii "Is the airtime in use with this network at most the limit?\n"
+    ∷ ascii "Is the horizon at least 1, and at most the table's unless all comes again?\n"
     ∷ []
 
 unfoldable pub question : ℕ → List ℕ

@@ -142,7 +142,7 @@ fn put_question_on_numbers(out: &mut [u8], at: usize, number: u8) -> usize
     }
 }
 
-// The questions of further calls: about the order of pairs, about a table that is exported, about a site. A number past them has none.
+// The questions of further calls: about the order of pairs, a table that is exported, a site, a run's horizon. A number past them has none.
 fn put_question_on_further_calls(out: &mut [u8], at: usize, number: u8) -> usize
     requires { ⌜ (at + 80 ≤ length (now out)) × (24 ≤ number) ⌝ }
     ensures { λ r. ⌜ Added (now (out .entry)) at (question number) (now (out .exit)) r × (r ≤ at + 80) ⌝ }
@@ -160,6 +160,11 @@ fn put_question_on_further_calls(out: &mut [u8], at: usize, number: u8) -> usize
             out,
             at,
             b"Is the airtime in use with this network at most the limit?\n",
+        ),
+        29 => put(
+            out,
+            at,
+            b"Is the horizon at least 1, and at most the table's unless all comes again?\n",
         ),
         _ => put(out, at, b"Does a question have this number?\n"),
     }

@@ -15,7 +15,7 @@ use Rattle.model.specs.Places.{Valid, readOf}
 use Rattle.model.specs.Schedule.{Passage, own, light}
 use Rattle.model.specs.Checks.{acceptedScheduleAt}
 use Rattle.model.specs.Program.{programBytes}
-use Rattle.model.specs.Run.{Counts, Setting, readyOfNth, settingAt, offsetIn, run, observationWidth}
+use Rattle.model.specs.Run.{Counts, Setting, readyOfNth, settingAt, offsetIn, startRun, run, observationWidth}
 use Rattle.model.proofs.Checks.Independence.{only-map}
 use Rattle.model.proofs.Reader.Located.{valid-read, valid-located}
 use Rattle.model.proofs.Run.Few.{few-apart}
@@ -25,7 +25,8 @@ use Rattle.rows.specs.Rows.{rowsOf}
 use Rattle.translator.proofs.Standing.{valid-count}
 use Rattle.registers.specs.Words.{wakeTickIn}
 use Rattle.machine.specs.Running.{countsAt, settingIn}
-use Rattle.run.specs.Ends.{Roomy, mostUsed, Brief, EndsAs, Started, PlannedApart}
+use Rattle.run.specs.Ends.{Roomy, mostUsed, Brief, Begun, EndsAs, Started, PlannedApart}
+use Rattle.run.proofs.Carried.{over-none}
 use Rattle.run.specs.declared.Ended.{Ended}
 
 -- what the rows keep of the passages has their readies
@@ -89,16 +90,33 @@ module _ (table : List ℕ) (b : Bytes table) (valid : Valid table) {program row
       ∙ ap (λ (vs : List Passage). settingAt (readOf table) (readOf table .horizon) vs os) (same-at (readOf table) (p .spread) G (p .plan .acceptedSchedule) e)
 
   -- the rows have an observation each
-  pub room-enough : (choices : List ℕ) (room : ℕ) → n * observationWidth ≤ room → Roomy (settingIn program H rows n l (byte table 3)) choices room
+  pub room-enough : (choices : List ℕ) (room : ℕ) → n * observationWidth ≤ room → Roomy (settingIn program H rows n l (byte table 3)) choices (startRun (settingIn program H rows n l (byte table 3))) room
+  unfolding run
   room-enough choices room r k =
       subst (λ (g : Setting). length (run g (take k choices) .state .observations) * observationWidth ≤ room) (sym planned-setting)
       (omega (arith, p .plan .count, few-apart (p .spread) table (readOf table) (p .plan .passages) (valid-read table valid) (p .plan .acceptedSchedule) os (p .permitted) (take k choices)))
 
   -- no more are carried out than there are
-  pub brief-enough : (choices : List ℕ) → length choices ≤ mostUsed → Brief (settingIn program H rows n l (byte table 3)) choices
+  pub brief-enough : (choices : List ℕ) → length choices ≤ 1000000 → Brief (settingIn program H rows n l (byte table 3)) choices (startRun (settingIn program H rows n l (byte table 3)))
+  unfolding run
   brief-enough choices short k =
       let few = demanded-apart (p .spread) table os (take k choices) (readOf table) (p .plan .passages) (valid-read table valid) (p .plan .acceptedSchedule) (p .permitted) .used in
       subst (λ (g : Setting). run g (take k choices) .state .used ≤ mostUsed) (sym planned-setting) (omega (arith, few, take-most k choices, short))
+
+  -- so it begins at its start
+  pub begins-so : (choices out : List ℕ) → length choices ≤ 1000000 → n * observationWidth ≤ length out
+      → Begun program H rows n l v (byte table 3) choices out 0 0 (startRun (settingIn program H rows n l (byte table 3))) out
+  begins-so choices out short room =
+      record {
+        running = s .running H;
+        tick = refl;
+        early = omega arith;
+        written = refl;
+        few = omega arith;
+        bytes = over-none out;
+        brief = brief-enough choices short;
+        roomy = room-enough choices (length out) room;
+      }
 
   -- so the run ends as that of the table and its schedule
   pub ends-so : {choices out out′ : List ℕ} {e : Ended} → EndsAs (settingIn program H rows n l (byte table 3)) choices out e out′

@@ -1,7 +1,7 @@
 -- What is known when a run begins, and what holds when it has ended.
 use mathlib.Core.Path.{_≡_}
 use mathlib.Core.List.{List, _++_, map}
-use Prim.Native.Nat.{ℕ, _*_, _-_, _≤_, _<_}
+use Prim.Native.Nat.{ℕ, _+_, _*_, _-_, _≤_, _<_}
 use lib.IntN.{ℤ}
 use lib.ListN.{length, getD, take, drop}
 use Rattle.model.specs.Lists.{each, below, accepted}
@@ -11,24 +11,56 @@ use Rattle.model.specs.Places.{readOf}
 use Rattle.model.specs.Schedule.{Passage, light}
 use Rattle.model.specs.Checks.{acceptedScheduleAt}
 use Rattle.model.specs.Machine.{startNode, partBytes}
-use Rattle.model.specs.Run.{Counts, Setting, offsetIn, noWork, startRun, run, observationWidth, writtenBytes, writtenIn}
+use Rattle.model.specs.Run.{Counts, Setting, Run, offsetIn, noWork, startRun, runFrom, run, observationWidth, Written, writtenBytes, writtenIn}
 use Rattle.model.specs.Apart.{Permitted}
 use Rattle.rows.specs.Rows.{rowsOf}
 use Rattle.registers.specs.Words.{wordIn, Eight, SameNode, partStart, partLength, clockCount, variableCount, rowIn, dueIn, lastIn, wakeTickIn, finishTickIn}
 use Rattle.machine.specs.Running.{RowsStand, countsAt, settingIn, viewIn, NodeStands, Running}
 use Rattle.run.specs.declared.Ended.{Ended}
 
--- however far the list is carried out, its observations have room
-abbrev pub Roomy : Setting → List ℕ → ℕ → Type 0
-Roomy g choices room = (k : ℕ) → length (run g (take k choices) .state .observations) * observationWidth ≤ room
+-- however far the list is carried out from a state, its observations have room
+abbrev pub Roomy : Setting → List ℕ → Run → ℕ → Type 0
+Roomy g choices s room = (k : ℕ) → length (runFrom g (take k choices) s .state .observations) * observationWidth ≤ room
 
--- so many choices are carried out at most
+-- so many choices are carried out at most: no run to a horizon of four bytes has more
 abbrev pub mostUsed : ℕ
-mostUsed = 1000000
+mostUsed = 22700000000000
 
 -- however far the list is carried out, no more than that
-abbrev pub Brief : Setting → List ℕ → Type 0
-Brief g choices = (k : ℕ) → run g (take k choices) .state .used ≤ mostUsed
+abbrev pub Brief : Setting → List ℕ → Run → Type 0
+Brief g choices s = (k : ℕ) → runFrom g (take k choices) s .state .used ≤ mostUsed
+
+-- the observations' bytes over the front of what was lent
+abbrev pub Over : List Written → List ℕ → List ℕ → Type 0
+Over ws out₀ out = out ≡ each writtenBytes ws ++ drop (length ws * observationWidth) out₀
+
+-- a run, or a part of one, begins in state s; what was lent at first was out₀
+pub record Begun (program : List ℕ) (H : ℕ) (rows : List ℕ) (n : ℕ) (l : List ℕ) (v : List ℤ) (count : ℕ) (choices out : List ℕ) (since seen : ℕ) (s : Run) (out₀ : List ℕ) : Type 0 where
+  pub running : Running program rows n l v count s
+  pub tick : s .tick ≡ since
+  pub early : s .tick ≤ s .used
+  pub written : seen ≡ length (s .observations)
+  pub few : length (s .observations) ≤ s .used
+  pub bytes : Over (writtenIn s) out₀ out
+  pub brief : Brief (settingIn program H rows n l count) choices s
+  pub roomy : Roomy (settingIn program H rows n l count) choices s (length out₀)
+
+-- where it ends with the horizon it can go on: the slices are the nodes
+pub record GoesOn (program : List ℕ) (H : ℕ) (rows : List ℕ) (n : ℕ) (l : List ℕ) (count : ℕ) (l′ : List ℕ) (v′ : List ℤ) (s : Run) : Type 0 where
+  pub running : Running program rows n l′ v′ count s
+  pub same : settingIn program H rows n l′ count ≡ settingIn program H rows n l count
+  pub early : s .tick ≤ s .used
+  pub few : length (s .observations) ≤ s .used
+
+-- the numbers of the end of a part that began in state s, and the bytes of the observations over the front of what was lent at first
+pub record PartEnds (program : List ℕ) (H : ℕ) (rows : List ℕ) (n : ℕ) (l : List ℕ) (count : ℕ) (choices : List ℕ) (s : Run) (out₀ : List ℕ) (e : Ended) (l′ : List ℕ) (v′ : List ℤ) (out′ : List ℕ) : Type 0 where
+  pub end : e .end ≡ runFrom (settingIn program H rows n l count) choices s .end
+  pub node : e .node ≡ runFrom (settingIn program H rows n l count) choices s .node
+  pub tick : e .tick ≡ runFrom (settingIn program H rows n l count) choices s .state .tick
+  pub used : runFrom (settingIn program H rows n l count) choices s .state .used ≡ s .used + e .used
+  pub written : e .written ≡ length (runFrom (settingIn program H rows n l count) choices s .state .observations)
+  pub bytes : Over (writtenIn (runFrom (settingIn program H rows n l count) choices s .state)) out₀ out′
+  pub further : e .end ≡ 0 → GoesOn program H rows n l count l′ v′ (runFrom (settingIn program H rows n l count) choices s .state)
 
 -- the numbers of the end, and the bytes of the observations over the front of what was lent
 pub record EndsAs (g : Setting) (choices out : List ℕ) (e : Ended) (out′ : List ℕ) : Type 0 where

@@ -10,11 +10,11 @@ ghost use Rattle.model.specs.Places.{Valid, readOf};
 ghost use Rattle.model.specs.Schedule.{Passage};
 ghost use Rattle.model.specs.Checks.{acceptedScheduleAt};
 ghost use Rattle.model.specs.Program.{programBytes};
-ghost use Rattle.model.specs.Run.{settingAt, offsetIn, startRun, observationWidth};
+ghost use Rattle.model.specs.Run.{Run, settingAt, offsetIn, observationWidth};
 ghost use Rattle.table.specs.Directory.{startsOf};
 ghost use Rattle.registers.specs.Words.{Eight, dueIn};
-ghost use Rattle.machine.specs.Running.{RowsStand, settingIn, Running};
-ghost use Rattle.run.specs.Ends.{Roomy, Brief, EndsAs, FirstLate, Calm, Ticks, WordsPut, NodeStarted, Started, PlannedApart};
+ghost use Rattle.machine.specs.Running.{RowsStand};
+ghost use Rattle.run.specs.Ends.{Begun, PartEnds, EndsAs, FirstLate, Calm, Ticks, WordsPut, NodeStarted, Started, PlannedApart};
 
 // The tick that stands in a node's first observation.
 const NO_WORK: u64 = 4294967295;
@@ -136,7 +136,7 @@ fn ticks_in_a_row(choices: &[u8], from: usize, most: u64) -> usize
     ticks_by_one(choices, at, end) - from
 }
 
-fn end_of(end: u8, node: u8, tick: u64, used: usize, written: usize) -> Ended
+pub fn end_of(end: u8, node: u8, tick: u64, used: usize, written: usize) -> Ended
     ensures { λ r. ⌜ (r .end ≡ end) × (r .node ≡ node) × (r .tick ≡ tick) × (r .used ≡ used) × (r .written ≡ written) ⌝ }
 {
     Ended {
@@ -148,24 +148,27 @@ fn end_of(end: u8, node: u8, tick: u64, used: usize, written: usize) -> Ended
     }
 }
 
-// Carries out the list of choices.
-fn carry_out(
+// Carries out the list of choices, or of a run that goes on the rest of it: from that tick on, so many observations written. The number of choices used is
+// that of these.
+pub fn carry_out(
     program: &[u8],
     rows: &[u32],
     passages: usize,
     count: usize,
     horizon: u64,
     choices: &[u8],
+    since: u64,
+    seen: usize,
     words: &mut [u64],
     values: &mut [i16],
     out: &mut [u8],
 ) -> Ended
-    requires { ⌜ Running (now program) (now rows) passages (now words) (now values) count (startRun (settingIn (now program) horizon (now rows) passages (now words) count)) × Brief (settingIn (now program) horizon (now rows) passages (now words) count) (now choices) × Roomy (settingIn (now program) horizon (now rows) passages (now words) count) (now choices) (length (now out)) ⌝ }
-    ensures { λ e. ⌜ EndsAs (settingIn (now (program .entry)) horizon (now (rows .entry)) passages (now (words .entry)) count) (now (choices .entry)) (now (out .entry)) e (now (out .exit)) ⌝ }
+    requires { ⌜ ((s : Run) × (lent : List ℕ) × Begun (now program) horizon (now rows) passages (now words) (now values) count (now choices) (now out) since seen s lent) ⌝ }
+    ensures { λ e. ⌜ ((s : Run) (lent : List ℕ) → Begun (now (program .entry)) horizon (now (rows .entry)) passages (now (words .entry)) (now (values .entry)) count (now (choices .entry)) (now (out .entry)) since seen s lent → PartEnds (now (program .entry)) horizon (now (rows .entry)) passages (now (words .entry)) count (now (choices .entry)) s lent e (now (words .exit)) (now (values .exit)) (now (out .exit))) ⌝ }
 {
-    let mut tick: u64 = 0;
+    let mut tick = since;
     let mut used: usize = 0;
-    let mut written: usize = 0;
+    let mut written = seen;
     while used < choices.len() {
         let choice = choices[used];
         if choice == 255 {
@@ -341,6 +344,8 @@ fn run_program(
         count,
         horizon,
         choices,
+        0,
+        0,
         &mut words,
         &mut values,
         out,

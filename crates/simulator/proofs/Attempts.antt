@@ -130,7 +130,7 @@ standing S =
       most = S .running .most;
       listed = S .running .listed;
       eight = S .running .eight;
-      each = λ i h. stands-wider (S .state .used * 131070) 2000000000000000000 (omega (arith, S .used)) (S .running .each i h);
+      each = λ i h. stands-wider (S .state .used * 131070) 3000000000000000000 (omega (arith, S .used)) (S .running .each i h);
     }
 
 -- the part of node c lies in the program

@@ -7,4 +7,5 @@ pub mod Alone
 pub mod Order
 pub mod Accepted
 pub mod Within
+pub mod Recurs
 pub mod Planned

@@ -16,6 +16,7 @@ use Rattle.model.proofs.Basics.Bools.{and-is, le-is}
 use Rattle.slot_plan.specs.declared.Slots.{Slots}
 use Rattle.slot_plan.specs.Plan.{inRange, width, plannable, Fits, planTable, planCall}
 use Rattle.slot_plan.specs.PlanSchedule.{PlanAccepted}
+use Rattle.slot_plan.proofs.Recurs.{plan-pair}
 use Rattle.slot_plan.proofs.Within.{plan-bytes, plan-scheduled, plan-checked, plan-spread}
 
 -- a number in its range
@@ -110,4 +111,4 @@ module _ (slots : Slots) where
   pub plan-accepted-in : (f : Fits slots) (rest : List ℕ) → PlanAccepted slots (take (29 + 55 * slots .probes) (tableBytes (planTable slots) ++ rest))
   plan-accepted-in f rest =
       subst (PlanAccepted slots) (sym (take-at (tableBytes (planTable slots)) rest (29 + 55 * slots .probes) (plan-bytes slots f)))
-      (record { checked = plan-checked slots f; schedule = plan-scheduled slots f; spread = plan-spread slots f })
+      (record { checked = plan-checked slots f; schedule = plan-scheduled slots f; spread = plan-spread slots f; pair = plan-pair slots f })

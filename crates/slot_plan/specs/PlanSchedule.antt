@@ -1,7 +1,7 @@
 -- The schedule of a plan in closed form: each passage by its number in its period. The laws in proofs/ say that it is the schedule, up to
 -- any number of periods.
 use mathlib.Core.Path.{_≡_}
-use mathlib.Core.Bool.{cond}
+use mathlib.Core.Bool.{true, cond}
 use mathlib.Core.List.{List, [], _∷_, _++_, map}
 use mathlib.Core.Option.{Option, none, some}
 use Prim.Native.Nat.{ℕ, suc, _+_, _-_, _*_, _<_}
@@ -11,6 +11,7 @@ use Rattle.model.specs.Lists.{below, accepted}
 use Rattle.model.specs.Window.{Entry}
 use Rattle.model.specs.Schedule.{Passage}
 use Rattle.model.specs.Calls.{acceptedScheduleIn, checkCallAt, checkCall}
+use Rattle.recurrence.specs.Recurrence.{recurrenceCall}
 use Rattle.slot_plan.specs.declared.Slots.{Slots}
 use Rattle.slot_plan.specs.Plan.{begins, sendFrom, sendTo, hearTo}
 
@@ -74,3 +75,5 @@ module _ (slots : Slots) where
     pub schedule : acceptedScheduleIn table ≡ accepted planPassages
     -- "A plan with guard g is proved accepted for every G below g."
     pub spread : (G : ℕ) → G < slots .guard → checkCallAt G table ≡ Accepted
+    -- "Every plan of Wish 4 has such a pair, 0 and p."
+    pub pair : recurrenceCall table ≡ record { verdict = Accepted; found = true; from = 0; to = slots .period }

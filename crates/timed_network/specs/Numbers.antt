@@ -1,5 +1,5 @@
--- The answers of the exported calls `run`, `edge_choice`, `reasons`, `positions`, `simulate`, `refusal_place` and `refused_opening`, held against their
--- definitions.
+-- The answers of the exported calls `run`, `run_to`, `edge_choice`, `reasons`, `positions`, `period`, `simulate`, `refusal_place` and `refused_opening`,
+-- held against their definitions.
 use mathlib.Core.Path.{_≡_}
 use mathlib.Core.List.{List}
 use Prim.Native.Nat.{ℕ}
@@ -8,6 +8,7 @@ use Rattle.model.specs.Calls.{RunCall, numberOf, concernedOf, endNumber, endNod
 use Rattle.model.specs.EdgeChoice.{EdgeChoiceCall}
 use Rattle.model.specs.Reasons.{ReasonsCall}
 use Rattle.model.specs.Positions.{PositionsCall}
+use Rattle.recurrence.specs.Recurrence.{RecurrenceCall}
 use Rattle.simulation.specs.Simulated.{SimulateCall}
 use Rattle.refusal_place.specs.declared.Place.{Place}
 use Rattle.timed_network.specs.declared.RunNumbers.{RunNumbers}
@@ -18,10 +19,23 @@ use Rattle.timed_network.specs.declared.places.PlaceNumbers.{PlaceNumber
 use Rattle.timed_network.specs.declared.places.OpeningNumbers.{OpeningNumbers}
 use Rattle.timed_network.specs.declared.edge_reasons.ReasonNumbers.{ReasonNumbers}
 use Rattle.timed_network.specs.declared.component_positions.PositionNumbers.{PositionNumbers}
+use Rattle.timed_network.specs.declared.repetition.PeriodNumbers.{PeriodNumbers}
+use Rattle.timed_network.specs.declared.long_runs.RunToNumbers.{RunToNumbers}
 use Rattle.timed_network.specs.declared.simulated.SimulationNumbers.{SimulationNumbers}
 
 -- every number of the answer, the verdict as two, and every lent byte afterwards
 pub record NumbersOf (call : RunCall) (r : RunNumbers) (later : List ℕ) : Type 0 where
+  pub number : r .number ≡ numberOf (call .verdict)
+  pub component : r .component ≡ concernedOf (call .verdict)
+  pub end : r .end ≡ endNumber (call .end)
+  pub node : r .node ≡ endNode (call .end)
+  pub tick : r .tick ≡ call .tick
+  pub used : r .used ≡ call .used
+  pub size : r .size ≡ call .size
+  pub lent : later ≡ call .lent
+
+-- the same of a run to a horizon
+pub record RunToNumbersOf (call : RunCall) (r : RunToNumbers) (later : List ℕ) : Type 0 where
   pub number : r .number ≡ numberOf (call .verdict)
   pub component : r .component ≡ concernedOf (call .verdict)
   pub end : r .end ≡ endNumber (call .end)
@@ -59,6 +73,14 @@ pub record PositionNumbersOf (call : PositionsCall) (r : PositionNumbers) (later
   pub component : r .component ≡ concernedOf (call .verdict)
   pub read : r .read ≡ call .read
   pub lent : later ≡ call .lent
+
+-- every number of the answer, the verdict as two
+pub record PeriodNumbersOf (call : RecurrenceCall) (r : PeriodNumbers) : Type 0 where
+  pub number : r .number ≡ numberOf (call .verdict)
+  pub component : r .component ≡ concernedOf (call .verdict)
+  pub found : r .found ≡ call .found
+  pub from : r .from ≡ call .from
+  pub to : r .to ≡ call .to
 
 -- every number of the answer, the verdict as two
 pub record SimulationNumbersOf (call : SimulateCall) (r : SimulationNumbers) : Type 0 where

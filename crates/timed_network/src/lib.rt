@@ -2,7 +2,9 @@
 // name in a crate below, with the answer written out as numbers.
 pub mod component_positions;
 pub mod edge_reasons;
+pub mod long_runs;
 pub mod places;
+pub mod repetition;
 pub mod simulated;
 pub mod sites;
 pub mod spread;

@@ -8,6 +8,7 @@ mod apart;
 mod clock;
 mod export;
 mod once;
+mod period;
 mod positions;
 mod processor;
 mod reasons;
@@ -90,6 +91,7 @@ fn measure(effort: Effort) -> Result<(), String> {
     simulation::time(effort)?;
     export::time(effort)?;
     site::time(effort)?;
+    period::time(effort)?;
     refused::time(effort)
 }
 
@@ -227,7 +229,8 @@ fn time_run(effort: Effort, row: &Row, choices: &[u8], each: &str) {
 #[cfg(test)]
 mod tests {
     use super::{
-        apart, demand_agreement, export, positions, reasons, refused, simulation, site, tables,
+        apart, demand_agreement, export, period, positions, reasons, refused, simulation, site,
+        tables,
     };
 
     #[test]
@@ -260,6 +263,11 @@ mod tests {
         }
         for (name, table) in &site::tried() {
             assert_eq!(site::demand_agreement(name, table), Ok(()));
+        }
+        let long = period::tried();
+        assert_eq!(long.len(), 2);
+        for long in &long {
+            assert_eq!(period::demand_agreement(long), Ok(()));
         }
         for (number, table) in refused::read().iter().chain(&refused::opened()) {
             assert_eq!(refused::demand_agreement(*number, table), Ok(()));

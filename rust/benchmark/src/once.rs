@@ -4,7 +4,8 @@
 use crate::apart::{self, OFFSETS, SPREAD};
 use crate::tables::{apart_rows, rows, slow_rows, Row};
 use crate::{
-    choices_to_the_horizon, export, last_node, positions, reasons, refused, simulation, site, PLAN,
+    choices_to_the_horizon, export, last_node, period as long, positions, reasons, refused,
+    simulation, site, PLAN,
 };
 use comparison::runs::AMPLE;
 use reference::table::write_table;
@@ -44,6 +45,7 @@ fn all() -> Result<(), String> {
     tell_simulations();
     tell_texts();
     tell_sites();
+    tell_periods();
     tell_refused();
     Ok(())
 }
@@ -161,6 +163,21 @@ fn tell_sites() {
         let mut site = tell(name, "site", || Site::new(u32::MAX));
         tell(name, "site_put", || site.put(&table, 3).is_ok());
         tell(name, "site_take", || site.take(3).is_ok());
+    }
+}
+
+/// What comes again, and runs to a table's own horizon and to ten times that.
+fn tell_periods() {
+    for long in long::tried() {
+        let table = &long.table;
+        tell(long.name, "period", || period(table).is_ok());
+        for (horizon, choices) in &long.runs {
+            let mut observations = vec![0; OBSERVATION * 20_000];
+            let call = format!("run_to {horizon}");
+            tell(long.name, &call, || {
+                run_to_numbers(table, choices, *horizon, &mut observations)
+            });
+        }
     }
 }
 

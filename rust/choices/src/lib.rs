@@ -1,7 +1,7 @@
 //! Lists of choices for the programs of an accepted table.
 //!
-//! [`early`] and [`late`] make whole lists, from the start to the horizon, for
-//! nodes that wake together or apart.
+//! [`early`] and [`late`] make whole lists, from the start to the horizon of the demand,
+//! for nodes that wake together or apart.
 //! [`List`] is a list in the making: it takes no choice that is not allowed,
 //! unless it is told to, and says whether the run goes on. Where several
 //! choices are as good as each other the caller decides which comes first.
@@ -10,14 +10,12 @@
 
 use demand::walk::{Refusal, Ticked, Walk};
 use demand::{Demand, TICK};
-use reference::calls::MAX_CHOICES;
-
 /// Choices to the horizon with which each node finishes everything as early
 /// as it can. At one tick lower nodes come first. A node is chosen from the tick
 /// on that is its offset, and does everything by its own clock; an offset that is
 /// missing is 0.
 pub fn early(demand: &Demand, offsets: &[u32]) -> Vec<u8> {
-    let mut list = List::new(demand.walk_apart(offsets), MAX_CHOICES);
+    let mut list = List::new(demand.walk_apart(offsets), usize::MAX);
     let order: Vec<u8> = (0..list.walk().nodes() as u8).collect();
     while list.pass_early(&order, |_| false) {}
     list.into_choices()
@@ -28,7 +26,7 @@ pub fn early(demand: &Demand, offsets: &[u32]) -> Vec<u8> {
 /// comes first. At one tick lower nodes come first. Offsets are taken as by
 /// [`early`].
 pub fn late(demand: &Demand, offsets: &[u32]) -> Vec<u8> {
-    let mut list = List::new(demand.walk_apart(offsets), MAX_CHOICES);
+    let mut list = List::new(demand.walk_apart(offsets), usize::MAX);
     while list.pass_late(|nodes| nodes.trailing_zeros() as u8) {}
     list.into_choices()
 }

@@ -182,3 +182,46 @@ fn wrong_use() {
     assert_eq!(status, Some(2));
     assert!(message.starts_with("/absent/table.bin: "), "{message}");
 }
+
+/// A plan of two probes, slot 3, guard 1 and period 20 comes again; the worked example,
+/// whose hub counts, does not.
+#[test]
+fn lists_to_a_horizon() {
+    let table = reference::plan::Slots {
+        probes: 2,
+        slot: 3,
+        guard: 1,
+        period: 20,
+    };
+    let table = reference::table::write_table(&reference::plan::plan(&table).unwrap());
+    let own = made(&["--early"], &table);
+    assert_eq!(made(&["--early", "--horizon", "40"], &table), own);
+    for (manner, horizon) in [("--early", 7), ("--early", 70_001), ("--late", 333)] {
+        let list = made(&[manner, "--horizon", &horizon.to_string()], &table);
+        let mut bytes = vec![0; 36 * 40_000];
+        let run = reference::calls::run_to(&table, &list, horizon, &mut bytes);
+        let (outcome, _) = run.unwrap();
+        assert_eq!((outcome.end as u8, outcome.tick), (0, horizon));
+        assert_eq!(outcome.used, list.len() as u64);
+    }
+    let refused = (Some(1), "refused 29 255\n".to_string());
+    assert_eq!(failed(&["--horizon", "0"], &table), refused);
+    let example = corpus("probe_and_hub.bin");
+    let example = example.to_str().unwrap();
+    assert_eq!(failed(&["--horizon", "21", example], b""), refused);
+    let (status, message) = failed(&["--horizon", "4294967295"], &table);
+    assert_eq!(status, Some(2));
+    assert!(message.ends_with("up to horizon 4294967295: no list is made\n"));
+    for words in [
+        &["--horizon"][..],
+        &["--horizon", "x"],
+        &["--horizon", "4294967296"],
+        &["--horizon", "+1"],
+        &["--horizon", "1", "--horizon", "1"],
+        &["--horizon", "1", "--offsets", "1"],
+    ] {
+        let (status, message) = failed(words, &table);
+        assert_eq!(status, Some(2));
+        assert!(message.starts_with("usage: make_choices"), "{message}");
+    }
+}

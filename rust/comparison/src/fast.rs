@@ -2,6 +2,7 @@
 //! a thread answers all calls, so that what a call leaves in its buffers is
 //! there when the next one is made.
 
+mod periods;
 mod sites;
 
 use crate::readers::{
@@ -37,6 +38,8 @@ pub(crate) const READER: Reader = Reader {
     positions,
     part,
     run,
+    period: periods::period,
+    run_to: periods::run_to,
     simulate,
     airtime: sites::airtime,
     site: sites::site,
@@ -237,7 +240,7 @@ fn ran(run: &Run) -> RunNumbers {
         end: run.end as u8,
         node: run.node,
         tick: run.tick,
-        used: run.used,
+        used: run.used as u32,
         size: run.size as u32,
     }
 }

@@ -10,7 +10,8 @@
 //! simulated runs, each of which is handed on as a list of choices. Both write texts for
 //! UPPAAL, which are read back, and whose networks are explored beside those of the
 //! tables. Both put networks into sites and take them out, in sequences of calls, and
-//! the sites are compared after each. Of accepted tables
+//! the sites are compared after each. Both are asked from when to when everything of a
+//! table comes again, and run tables to horizons far beyond their own. Of accepted tables
 //! random paths of the network within the schedule are drawn, and found again in runs.
 //! The first difference ends the comparison. Each run is also held to demand 3, with the
 //! finish ticks in its observations.
@@ -29,6 +30,7 @@ pub mod exports;
 mod fast;
 pub mod layout;
 pub mod lists;
+pub mod periods;
 pub mod places;
 pub mod positions;
 pub mod programs;
@@ -126,6 +128,8 @@ pub struct Least {
     pub of_each_export: u64,
     /// Calls of sites of each kind.
     pub of_each_site: u64,
+    /// Pairs and runs to a horizon of each kind.
+    pub of_each_period: u64,
 }
 
 /// What the comparison should have tried and did not: a class without cases,
@@ -134,8 +138,8 @@ pub struct Least {
 /// edge choice, a reason of an edge or an answer to pairs that never came, parts never
 /// found or never missed, a kind of run that is too rare, an answer at a spread or a kind
 /// of run of nodes that wake apart that is, a way in which checks 4 to 9 stop that is, a
-/// kind of path, of finish tick, of simulation, of text or of a site's call that is, fewer
-/// cases or runs in all than demanded.
+/// kind of path, of finish tick, of simulation, of text, of a site's call, of pair or of
+/// run to a horizon that is, fewer cases or runs in all than demanded.
 pub fn gaps(tallies: &[Tally], least: &Least) -> Vec<String> {
     let empty = tallies.iter().filter(|tally| tally.is_empty());
     let mut gaps: Vec<String> = empty
@@ -167,6 +171,7 @@ pub fn gaps(tallies: &[Tally], least: &Least) -> Vec<String> {
     gaps.extend(sum.simulated.gaps(least.of_each_simulation));
     gaps.extend(sum.exports.gaps(least.of_each_export));
     gaps.extend(sum.sites.gaps(least.of_each_site));
+    gaps.extend(sum.periods.gaps(least.of_each_period));
     let (cases, runs) = (sum.cases(), sum.runs.ran());
     for (count, least, what) in [(cases, least.cases, "cases"), (runs, least.runs, "runs")] {
         if count < least {

@@ -30,6 +30,7 @@ const LEAST: Least = Least {
     of_each_simulation: 400,
     of_each_export: 400,
     of_each_site: 1_000,
+    of_each_period: 400,
 };
 /// The comparison with the yardstick has to try at least so much.
 const LEAST_SHARE: Least = Least {
@@ -44,6 +45,7 @@ const LEAST_SHARE: Least = Least {
     of_each_simulation: 60,
     of_each_export: 60,
     of_each_site: 150,
+    of_each_period: 60,
 };
 
 fn main() -> ExitCode {

@@ -2,6 +2,7 @@
 
 mod apart;
 mod last;
+mod periods;
 mod places;
 mod positions;
 mod reasons;
@@ -12,6 +13,8 @@ pub use apart::{
     second_check_spread, second_largest_spread, second_meetings, second_meetings_spread,
     second_run_apart,
 };
+use periods::library_period;
+pub use periods::{refused_run_to, second_period, second_run_to};
 use places::{library_opening, library_place};
 pub use places::{second_opening, second_place, OpeningNumbers, PlaceNumbers, NONE};
 pub use positions::second_positions;
@@ -28,8 +31,8 @@ use reference::run::Outcome;
 use reference::table::Refusal;
 use reference::{calls, edge_choice, plan};
 use timed_network::{
-    Call, EdgeChoice, Entry, Meetings, Network, Positioned, RunNumbers, SimulationNumbers,
-    SiteNumbers, Slots, TakenEdge, Told, Verdict, FIELDS, NO_MESSAGE, NO_NODE,
+    Call, EdgeChoice, Entry, Meetings, Network, Pair, Positioned, RunNumbers, RunToNumbers,
+    SimulationNumbers, SiteNumbers, Slots, TakenEdge, Told, Verdict, FIELDS, NO_MESSAGE, NO_NODE,
 };
 
 /// The numbers that `check` answers: 0 where it accepts, then those of the
@@ -63,6 +66,8 @@ pub const NO_PLACE: u8 = 26;
 pub const OTHER_HORIZON: u8 = 27;
 /// The refusal of a network whose airtime is too much for a site.
 pub const NO_AIRTIME: u8 = 28;
+/// The refusal of a horizon of 0, or of one beyond the table's own without a pair.
+pub const NO_HORIZON: u8 = 29;
 
 /// A call that finds one node's part of a program.
 pub type Part = for<'a> fn(&'a [u8], u8) -> &'a [u8];
@@ -93,6 +98,10 @@ pub type Simulates = fn(&[u8], &Experiment) -> SimulationNumbers;
 pub type Airtimes = fn(&[u8]) -> Result<Network, Verdict>;
 /// Calls of a site with a limit: the empty site, and the site after each of them.
 pub type Shares = fn(u32, &[Asked]) -> Vec<SiteNumbers>;
+/// A call that tells from when to when everything comes again.
+pub type Repeats = fn(&[u8]) -> Result<Option<Pair>, Verdict>;
+/// A call that runs a table under choices to a horizon.
+pub type RunTo = fn(&[u8], &[u8], u32, &mut [u8]) -> RunToNumbers;
 /// A call that runs a table under choices, at a spread, with offsets.
 pub type RunApart = fn(&[u8], &[u8], u32, &[u32], &mut [u8]) -> RunNumbers;
 
@@ -121,6 +130,10 @@ pub struct Reader {
     pub part: Part,
     /// What it says of a table's run under choices, and writes.
     pub run: Run,
+    /// From when to when it says that everything comes again.
+    pub period: Repeats,
+    /// What it says of a table's run to a horizon, and writes.
+    pub run_to: RunTo,
     /// What it says of simulated runs.
     pub simulate: Simulates,
     /// What it says is the airtime of a table.
@@ -169,6 +182,8 @@ impl Readers {
             positions: timed_network::positions_of_numbers,
             part: timed_network::part,
             run: timed_network::run_numbers,
+            period: library_period,
+            run_to: timed_network::run_to_numbers,
             simulate: library_simulate,
             airtime: library_airtime,
             site: library_site,
@@ -208,6 +223,8 @@ impl Reader {
             positions: second_positions,
             part: second_part,
             run: second_run,
+            period: second_period,
+            run_to: second_run_to,
             simulate: second_simulate,
             airtime: second_airtime,
             site: second_site,
@@ -337,7 +354,7 @@ fn run_numbers(answer: Result<(Outcome, usize), Refusal>) -> RunNumbers {
             end: outcome.end as u8,
             node: outcome.node,
             tick: outcome.tick,
-            used: outcome.used,
+            used: outcome.used as u32,
             size: size as u32,
         },
         Err(refusal) => RunNumbers {

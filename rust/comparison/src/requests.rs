@@ -1,9 +1,10 @@
 //! The programs, parts, charts, plans, edge choices, reasons, positions, verdicts at a
-//! spread, runs, simulated ones, texts, sites and places of refusals that the vectors
-//! keep, with their answers.
+//! spread, runs, simulated ones, texts, sites, pairs, runs to a horizon and places of
+//! refusals that the vectors keep, with their answers.
 
 mod apart;
 mod exported;
+mod periods;
 mod positions;
 mod simulated;
 mod site;
@@ -11,6 +12,7 @@ mod why;
 
 pub use apart::Apart;
 pub use exported::{Asked, Exported};
+pub use periods::{Long, Repeated};
 pub use positions::Where;
 pub use simulated::Simulated;
 pub use site::{calls, Sited};
@@ -85,6 +87,8 @@ pub enum Request {
     Exported(Exported),
     /// An airtime, or calls of a site.
     Site(Sited),
+    /// What comes again, or a run to a horizon.
+    Repeated(Repeated),
     /// The verdict on a table at a spread.
     Spread {
         /// The table.
@@ -167,6 +171,9 @@ fn request(line: &str) -> Option<Option<Request>> {
         (["sim", ..], _) => Request::Simulated(simulated::read(&words, answer)?),
         (["uppaal" | "explore", ..], _) => Request::Exported(exported::read(&words, answer)?),
         (["air" | "ledger", ..], _) => Request::Site(site::read(&words, answer)?),
+        (["period" | "long", ..] | ["lent", _, "long", ..], _) => {
+            Request::Repeated(periods::read(&words, answer)?)
+        }
         (["place", table], _) => Request::Place {
             table: unhex(table)?,
             answer: located(answer)?,

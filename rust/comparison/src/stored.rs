@@ -6,8 +6,9 @@ use crate::requests::located;
 use std::fs;
 use std::path::{Path, PathBuf};
 use table_text::corpus::{
-    names_with_pairs, names_with_runs, names_with_spreads, read_answers, read_pairs,
-    read_questions, read_runs, read_schedule, read_spreads, Answer, StoredPairs, StoredRun,
+    names_with_pairs, names_with_periods, names_with_runs, names_with_spreads, read_answers,
+    read_pairs, read_period, read_questions, read_runs, read_schedule, read_spreads, Answer,
+    StoredPairs, StoredPeriod, StoredRun,
 };
 use table_text::schedule::{self, Passage};
 use timed_network::Verdict;
@@ -143,6 +144,19 @@ pub fn corpus_pairs() -> Result<Vec<(Vec<u8>, StoredPairs)>, String> {
         let bytes = fs::read(&file).map_err(|error| at(&file, &error.to_string()))?;
         let lists = read_pairs(&folder, &name)?.into_iter();
         all.extend(lists.map(|list| (bytes.clone(), list)));
+    }
+    Ok(all)
+}
+
+/// The tables of the corpus of which it is stored from when to when everything comes
+/// again, with that and with runs to horizons.
+pub fn corpus_periods() -> Result<Vec<(Vec<u8>, StoredPeriod)>, String> {
+    let folder = folder("corpus");
+    let mut all = Vec::new();
+    for name in names_with_periods(&folder)? {
+        let file = folder.join(format!("{name}.bin"));
+        let bytes = fs::read(&file).map_err(|error| at(&file, &error.to_string()))?;
+        all.push((bytes, read_period(&folder, &name)?));
     }
     Ok(all)
 }

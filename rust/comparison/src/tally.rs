@@ -2,6 +2,7 @@
 
 use crate::edge_choices::Chosen;
 use crate::exports::Exports;
+use crate::periods::Periods;
 use crate::places::Places;
 use crate::positions::Located;
 use crate::readers::{NUMBERS, TOO_SHORT};
@@ -49,6 +50,8 @@ pub struct Tally {
     pub exports: Exports,
     /// Airtimes, and the calls of sites.
     pub sites: Sites,
+    /// What comes again, and the runs to a horizon.
+    pub periods: Periods,
     /// Verdicts at a spread, and what belongs to them.
     pub spreads: Spreads,
     /// The runs of nodes that wake apart.
@@ -179,6 +182,7 @@ impl Tally {
             simulated: Simulated::default(),
             exports: Exports::default(),
             sites: Sites::default(),
+            periods: Periods::default(),
             spreads: Spreads::default(),
             apart: RunsApart::default(),
             places: Places::default(),
@@ -196,7 +200,8 @@ impl Tally {
         let lent = self.charts.all() + self.plans.all() + self.exports.all();
         let runs = self.runs.all() + self.simulated.all() + self.sites.all() + self.apart.all();
         let others = self.parts.iter().sum::<u64>() + self.spreads.all() + self.paths.all();
-        self.cases() + lent + runs + others + self.located.all() == 0
+        let asked = self.located.all() + self.periods.all();
+        self.cases() + lent + runs + others + asked == 0
     }
 
     /// Counts an answer, which must be one that there is.
@@ -237,6 +242,7 @@ impl Tally {
             sum.simulated.add(&tally.simulated);
             sum.exports.add(&tally.exports);
             sum.sites.add(&tally.sites);
+            sum.periods.add(&tally.periods);
             sum.spreads.add(&tally.spreads);
             sum.apart.add(&tally.apart);
             sum.places.add(&tally.places);
@@ -248,8 +254,8 @@ impl Tally {
 
 /// What was tried: the answers that were given, each with how often, then
 /// lists, programs, charts, plans, edge choices, questions, pairs, parts, runs, simulated
-/// ones, texts, sites, what there is of nodes that wake apart, where the tables were
-/// refused, and paths.
+/// ones, texts, sites, pairs and runs to a horizon, what there is of nodes that wake
+/// apart, where the tables were refused, and paths.
 impl fmt::Display for Tally {
     fn fmt(&self, out: &mut fmt::Formatter<'_>) -> fmt::Result {
         let [accepted, refusals @ ..] = &self.answers;
@@ -298,6 +304,9 @@ impl fmt::Display for Tally {
         }
         if self.sites.all() > 0 {
             write!(out, "; {}", self.sites)?;
+        }
+        if self.periods.all() > 0 {
+            write!(out, "; {}", self.periods)?;
         }
         if self.spreads.all() > 0 {
             write!(out, "; {}", self.spreads)?;

@@ -90,7 +90,7 @@ fn hold(waking: &Waking, list: &[u8], when: When) -> Facts {
         end: 0,
         node: 255,
         tick: horizon,
-        used: run.used,
+        used: run.used as u32,
         observations: &bytes,
     };
     let demand = subject.demand();

@@ -21,6 +21,7 @@ const LEAST: Least = Least {
     of_each_simulation: 1,
     of_each_export: 1,
     of_each_site: 1,
+    of_each_period: 1,
 };
 
 fn short(readers: &Readers, seed: u64) -> Result<Vec<Tally>, Stop> {

@@ -1,6 +1,9 @@
 //! What was counted is told, and so is what was not tried.
 
+mod counted;
+
 use comparison::exports::Exports;
+use comparison::periods::Periods;
 use comparison::places::Places;
 use comparison::positions::Located;
 use comparison::reasons::Asked;
@@ -12,6 +15,7 @@ use comparison::sites::Sites;
 use comparison::spreads::Spreads;
 use comparison::tally::{EdgeChoices, Lists, Tally};
 use comparison::{cases, gaps, Least};
+use counted::{all_exports, all_periods, all_simulated, all_sites};
 use demand::finishes::Noted;
 
 /// A class with these answers, and lists, programs, charts, plans, edge choices,
@@ -60,62 +64,11 @@ fn tally(class: &'static str, answers: [u64; 16]) -> Tally {
         simulated: all_simulated(),
         exports: all_exports(),
         sites: all_sites(),
+        periods: all_periods(),
         spreads: all_spreads(),
         apart: all_apart(),
         places: all_places(),
         paths: all_paths(),
-    }
-}
-
-/// A call of a site of each kind.
-fn all_sites() -> Sites {
-    Sites {
-        sequences: 2,
-        put: 9,
-        silent: 3,
-        taken: 8,
-        absent: 7,
-        filled: 6,
-        empty: 5,
-        horizons: 4,
-        above: 3,
-        refused: 2,
-        full: 2,
-        at_limit: 4,
-        renewed: 1,
-        airtimes: 11,
-    }
-}
-
-/// A simulation of each kind.
-fn all_simulated() -> Simulated {
-    Simulated {
-        in_time: 6,
-        sometimes_late: 5,
-        always_late: 4,
-        several_nodes: 3,
-        undrawn: 2,
-        seedless: 1,
-        out_of_range: 2,
-        refused: 3,
-        runs: 90,
-        handed: 80,
-        handed_late: 30,
-    }
-}
-
-/// A text of each kind.
-fn all_exports() -> Exports {
-    Exports {
-        written: 9,
-        short: 3,
-        budgeted: 2,
-        refused: 1,
-        same: 4,
-        read: 5,
-        states: 60,
-        moves: [40, 10],
-        broken: 2,
     }
 }
 
@@ -217,6 +170,7 @@ fn least(cases: u64, runs: u64) -> Least {
         of_each_simulation: 1,
         of_each_export: 1,
         of_each_site: 1,
+        of_each_period: 1,
     }
 }
 
@@ -246,6 +200,7 @@ fn what_was_not_tried_is_told() {
         simulated: all_simulated(),
         exports: all_exports(),
         sites: all_sites(),
+        periods: all_periods(),
         spreads: all_spreads(),
         apart: all_apart(),
         places: all_places(),
@@ -324,6 +279,13 @@ fn what_was_not_tried_is_told() {
     let told = gaps(&[siteless], &least(0, 0));
     assert_eq!(told.len(), 14);
     assert!(told.contains(&"0 networks refused with 28 are fewer than 1".to_string()));
+    let unrepeated = Tally {
+        periods: Periods::default(),
+        ..full.clone()
+    };
+    let told = gaps(&[unrepeated], &least(0, 0));
+    assert_eq!(told.len(), 14);
+    assert!(told.contains(&"0 runs beyond it held to demand 3 are fewer than 1".to_string()));
     let unsimulated = Tally {
         simulated: Simulated::default(),
         ..full
@@ -377,6 +339,11 @@ fn a_line_tells_all_answers_that_were_given() {
                 refused 26: 7 no such place, 6 filled, 5 empty, refused 27: 4, \
                 refused 28: 3, table refused 2; 2 times full, 4 at the limit, \
                 1 emptied for another horizon; \
+                18 pairs: from tick 0 6, later 5, none 4, table refused 3; \
+                34 runs to a horizon: 7 below the table's own, 8 to it, \
+                9 beyond it (6 held to demand 3), 10 horizon, 5 used up, 6 late (2 beyond), \
+                3 not allowed, refused 29: 1 for 0, 2 without a pair, 3 too few bytes, \
+                4 table refused; 500 choices, 40 observations; \
                 17 verdicts at a spread: accepted 1, refused 1: 1, refused 2: 1, refused 3: 1, \
                 refused 4: 1, refused 5: 1, refused 6: 1, refused 7: 1, refused 8: 1, \
                 refused 9: 1, refused 10: 1, refused 11: 1, refused 12: 1, refused 15: 1, \

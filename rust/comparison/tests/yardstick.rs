@@ -19,6 +19,7 @@ const LEAST: Least = Least {
     of_each_simulation: 1,
     of_each_export: 1,
     of_each_site: 1,
+    of_each_period: 1,
 };
 
 /// The classes that hold both sides to stored answers.

@@ -59,7 +59,7 @@ pub fn own_work(offsets: &[u32], work: &Work) -> Work {
 impl Demand<'_> {
     /// The nodes at their start, to be walked with these offsets.
     pub fn walk_apart(&self, offsets: &[u32]) -> Walk<'_> {
-        Walk::apart(self.table, &self.own, &self.blocks, offsets)
+        Walk::apart(self.table, &self.own, &self.blocks, offsets, self.horizon)
     }
 
     /// Holds a run under these choices with these offsets to the demand: what it
@@ -123,7 +123,7 @@ impl Demand<'_> {
             }
         }
         tick_to(&mut path, leading)?;
-        path.finish(self.table.horizon.into())?;
+        path.finish(self.horizon)?;
         Ok((path, filled))
     }
 

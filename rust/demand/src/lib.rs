@@ -98,11 +98,18 @@ pub struct Demand<'a> {
     table: &'a Table,
     own: Vec<Vec<&'a Passage>>,
     blocks: Vec<Vec<u32>>,
+    horizon: u32,
 }
 
 impl<'a> Demand<'a> {
     /// The demand on the runs of an accepted table with its schedule.
     pub fn new(table: &'a Table, passages: &'a [Passage]) -> Demand<'a> {
+        Demand::to(table, passages, table.horizon.into())
+    }
+
+    /// The same for runs to a horizon that is handed in (document 02, wish 14), with the
+    /// schedule to it.
+    pub fn to(table: &'a Table, passages: &'a [Passage], horizon: u32) -> Demand<'a> {
         let components = 0..table.components.len();
         let own = |c: usize| {
             passages
@@ -113,12 +120,13 @@ impl<'a> Demand<'a> {
             table,
             own: components.map(|c| own(c).collect()).collect(),
             blocks: lengths::blocks(table),
+            horizon,
         }
     }
 
     /// The nodes at their start, to be walked.
     pub fn walk(&self) -> Walk<'_> {
-        Walk::new(self.table, &self.own, &self.blocks)
+        self.walk_apart(&[])
     }
 
     /// Holds a run under these choices to the demand: what it was found to
@@ -130,7 +138,7 @@ impl<'a> Demand<'a> {
         let (end, used) = held.carry_out(choices)?;
         held.end(end, used, choices, claim)?;
         let path = &mut held.follower;
-        held.facts.reached = path.finish(u32::from(self.table.horizon))?;
+        held.facts.reached = path.finish(self.horizon)?;
         let late = held.facts.late_at_work | held.facts.late_for_sleep;
         if held.facts.reached + u32::from(end == LATE) != claim.tick {
             return Err(format!(

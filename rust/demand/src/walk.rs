@@ -102,20 +102,18 @@ pub struct Walk<'a> {
     /// The tick at which each node wakes.
     offsets: Vec<u32>,
     tick: u32,
+    horizon: u32,
 }
 
 impl<'a> Walk<'a> {
-    /// "It starts at tick 0, [...] each node at its program's start".
-    pub fn new(table: &'a Table, own: &'a [Vec<&'a Passage>], blocks: &'a [Vec<u32>]) -> Walk<'a> {
-        Walk::apart(table, own, blocks, &[])
-    }
-
-    /// The same with "an offset for each node"; one that is missing is 0.
+    /// "It starts at tick 0, [...] each node at its program's start", with "an offset for
+    /// each node"; one that is missing is 0. It ends at the horizon.
     pub fn apart(
         table: &'a Table,
         own: &'a [Vec<&'a Passage>],
         blocks: &'a [Vec<u32>],
         offsets: &[u32],
+        horizon: u32,
     ) -> Walk<'a> {
         let offset = |node| offsets.get(node).copied().unwrap_or(0);
         let components = table.components.iter().zip(blocks);
@@ -131,6 +129,7 @@ impl<'a> Walk<'a> {
             nodes: components.map(start).collect(),
             offsets: (0..own.len()).map(offset).collect(),
             tick: 0,
+            horizon,
         }
     }
 
@@ -335,7 +334,7 @@ impl<'a> Walk<'a> {
         }
         match work | sleep {
             0 => Ticked::Passed {
-                horizon: next == u32::from(self.table.horizon),
+                horizon: next == self.horizon,
             },
             _ => Ticked::Late { work, sleep },
         }

@@ -5,6 +5,8 @@
 pub mod asked;
 pub mod export;
 pub mod json;
+pub mod long_run;
+pub mod period;
 pub mod positions;
 pub mod refusals;
 pub mod run;

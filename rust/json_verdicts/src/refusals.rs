@@ -7,7 +7,7 @@ use timed_network::{Refused, Verdict};
 use verdicts::output::{say, write_err, REFUSED};
 
 /// The refusals of a call that say nothing about its table.
-const OF_CALLS: [u8; 13] = [13, 14, 18, 19, 20, 21, 22, 23, 24, 25, 26, 27, 28];
+const OF_CALLS: [u8; 14] = [13, 14, 18, 19, 20, 21, 22, 23, 24, 25, 26, 27, 28, 29];
 
 /// The lines of a refusal, as the verified programs write them.
 pub fn words(refused: &Refused) -> String {

@@ -4,7 +4,10 @@
 mod json;
 mod printed;
 
+pub(crate) use json::line as object_line;
+
 use crate::asked::Form;
+use crate::json::array;
 use printed::Printed;
 use std::ffi::{OsStr, OsString};
 use timed_network::{passages, run_apart, Observation, Refused, Run};
@@ -27,16 +30,16 @@ pub struct Report<'a> {
 
 /// The window of the passage before an observation's.
 #[derive(Clone, Copy, Debug, PartialEq, Eq)]
-struct Window {
-    ready: u32,
-    end: u32,
+pub(crate) struct Window {
+    pub(crate) ready: u32,
+    pub(crate) end: u32,
 }
 
 /// An observation with the window of its node's passage before.
 #[derive(Clone, Copy, Debug, PartialEq, Eq)]
-struct Shown {
-    observation: Observation,
-    window: Option<Window>,
+pub(crate) struct Shown {
+    pub(crate) observation: Observation,
+    pub(crate) window: Option<Window>,
 }
 
 impl Shown {
@@ -46,8 +49,16 @@ impl Shown {
         Some(self.window?.end.saturating_sub(finish))
     }
 
-    fn is_told(&self, close: Option<u32>) -> bool {
+    pub(crate) fn is_told(&self, close: Option<u32>) -> bool {
         close.is_none_or(|close| self.left().is_some_and(|left| left <= close))
+    }
+}
+
+/// How close to its window's end a work has to finish to be told, `-` for any.
+pub(crate) fn close_of(word: &OsStr) -> Option<Option<u32>> {
+    match word.to_str()? {
+        "-" => Some(None),
+        _ => number_of(word).map(Some),
     }
 }
 
@@ -66,14 +77,9 @@ impl<'a> Report<'a> {
         let [form, close, spread, offsets, table, choices, printed] = words else {
             return None;
         };
-        let form = Form::of(form)?;
-        let close = match close.to_str()? {
-            "-" => None,
-            _ => Some(number_of(close)?),
-        };
         Some(Report {
-            form,
-            close,
+            form: Form::of(form)?,
+            close: close_of(close)?,
             spread: number_of(spread)?,
             offsets: numbers_of(offsets)?,
             table,
@@ -110,7 +116,13 @@ impl<'a> Report<'a> {
         let shown = with_windows(&passages(table).unwrap_or_default(), &observations);
         Ok(match self.form {
             Form::Words => self.words(&printed, &shown),
-            Form::Json => json::line(self, &answer, &shown),
+            Form::Json => {
+                let head = vec![
+                    ("spread", self.spread.to_string()),
+                    ("offsets", array(&self.offsets)),
+                ];
+                json::line(head, self.close, &answer, &shown)
+            }
         })
     }
 
@@ -124,16 +136,18 @@ impl<'a> Report<'a> {
             }
         }
         if let Some(close) = self.close {
-            let works = shown.iter().filter(|shown| shown.left().is_some()).count();
-            let near = shown.iter().filter(|shown| shown.is_told(self.close));
-            words += &format!(
-                "{} of {works} works finished {}\n",
-                near.count(),
-                when(close)
-            );
+            words += &close_line(close, shown);
         }
         words.into_bytes()
     }
+}
+
+/// How many works finished so close to the end of their windows.
+pub(crate) fn close_line(close: u32, shown: &[Shown]) -> String {
+    let works = shown.iter().filter(|shown| shown.left().is_some()).count();
+    let near = shown.iter().filter(|shown| shown.is_told(Some(close)));
+    let (near, when) = (near.count(), when(close));
+    format!("{near} of {works} works finished {when}\n")
 }
 
 /// So many ticks or less before a window's end, in words.

@@ -1,4 +1,4 @@
-//! The exported calls over lent buffers, with checks 13, 14, 18 and 20 to 25.
+//! The exported calls over lent buffers, with checks 13, 14, 18, 20 to 25 and 29.
 //!
 //! "Lent buffers keep their bytes; on success so do those past the result."
 
@@ -6,6 +6,7 @@ use crate::chart;
 use crate::checks::{self, met_within, scheduled_within, verdict, verdict_within};
 use crate::edge_choice::{self, EdgeChoice, Entry};
 use crate::opening::RefusedOpening;
+use crate::period::{self, Pair};
 use crate::place::{self, Place};
 use crate::plan::{self, Slots};
 use crate::positions::{self, Question};
@@ -263,6 +264,25 @@ pub fn run_apart(
     let program = program::program(&table);
     let answer = run_apart_into(&table, &passages, &program, choices, offsets, bytes);
     Ok(answer.expect("the program of an accepted table can be opened"))
+}
+
+/// The pair of ticks from one to the other of which everything comes again: "The tool
+/// reports the first such b in the schedule and the first a for it, or none."
+pub fn period(table: &[u8]) -> Result<Option<Pair>, Refusal> {
+    let (table, passages) = verdict(table)?;
+    Ok(period::pair(&table, &passages))
+}
+
+/// Runs a table "to any horizon of four bytes handed to the run"; at spread 0, without
+/// offsets.
+pub fn run_to(
+    table: &[u8],
+    choices: &[u8],
+    horizon: u32,
+    bytes: &mut [u8],
+) -> Result<(Outcome, usize), Refusal> {
+    let (table, passages) = verdict(table)?;
+    period::run_to(&table, &passages, choices, horizon, bytes)
 }
 
 /// "13. Does the lent buffer hold the result (the program length, the list's

@@ -107,7 +107,7 @@ impl Passage {
     /// "the destination is entered at end, always. There, masked clocks
     /// become 0 and the others have grown by end − entry. Updates act in
     /// order."
-    fn close(&self, table: &Table) -> Arrival {
+    pub(crate) fn close(&self, table: &Table) -> Arrival {
         let component = &table.components[self.component as usize];
         let edge = self.edge_in(table);
         let mut clocks = [0; MAX_CLOCKS];

@@ -271,7 +271,7 @@ impl Nodes<'_, '_> {
             end,
             node: late.unwrap_or(NO_COMPONENT),
             tick: self.machine.tick(),
-            used: self.choices.len() as u32,
+            used: self.choices.len() as u64,
         })
     }
 

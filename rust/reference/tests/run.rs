@@ -29,7 +29,7 @@ fn run_of(table: &Table, text: &str) -> Run {
     run(table, &passages, &program(table), &choices(text)).unwrap()
 }
 
-fn end_of(table: &Table, text: &str) -> (End, u8, u32, u32) {
+fn end_of(table: &Table, text: &str) -> (End, u8, u32, u64) {
     let Outcome {
         end,
         node,
@@ -39,7 +39,7 @@ fn end_of(table: &Table, text: &str) -> (End, u8, u32, u32) {
     (end, node, tick, used)
 }
 
-fn example(text: &str) -> (End, u8, u32, u32) {
+fn example(text: &str) -> (End, u8, u32, u64) {
     end_of(&probe_and_hub_table(), text)
 }
 
@@ -54,7 +54,7 @@ fn to_the_horizon() {
     let rest = "0x5 1x5 tx4 0 t 1 0x4 1x5";
     let text = format!("{round} {rest} t {round} {rest} t 0x99");
     let run = run_of(&probe_and_hub_table(), &text);
-    let used = choices(&text).len() as u32 - 99;
+    let used = choices(&text).len() as u64 - 99;
     let expected = Outcome {
         end: End::Horizon,
         node: 255,
@@ -98,7 +98,7 @@ fn used_up_at_each_length() {
         let ticks = all[..length].iter().filter(|c| **c == TICK).count();
         assert_eq!(run.outcome.end, End::UsedUp);
         assert_eq!(run.outcome.tick, ticks as u32);
-        assert_eq!(run.outcome.used, length as u32);
+        assert_eq!(run.outcome.used, length as u64);
     }
 }
 

@@ -75,7 +75,7 @@ fn first_run(table: &Table, ticks: u32) -> SimulatedRun {
 }
 
 fn outcome(end: End, node: u8, tick: u32, choices: &[u8]) -> Outcome {
-    let used = choices.len() as u32;
+    let used = choices.len() as u64;
     Outcome {
         end,
         node,

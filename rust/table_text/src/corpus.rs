@@ -1,15 +1,17 @@
 //! A folder of tables: for each name a source `NAME.txt` and its bytes
 //! `NAME.bin`, for each accepted one its schedule `NAME.schedule` and why edges are
 //! taken `NAME.why`, for some of them its chart `NAME.chart`, its verdicts at spreads
-//! `NAME.spread`, runs `NAME.runs`, where components are at ticks `NAME.where` or text for
-//! UPPAAL `NAME.xta`, and one
+//! `NAME.spread`, runs `NAME.runs`, where components are at ticks `NAME.where`, text for
+//! UPPAAL `NAME.xta` or from when to when everything comes again `NAME.period`, and one
 //! file `answers.tsv` with the answers of checks 1 to 12.
 
 mod pairs;
+mod periods;
 mod questions;
 mod runs;
 
 pub use pairs::{names_with_pairs, read as read_pairs, StoredPairs};
+pub use periods::{names_with_periods, read as read_period, StoredLongRun, StoredPeriod};
 pub use questions::{read as read_questions, Question};
 pub use runs::{names_with_runs, read as read_runs, StoredRun};
 
@@ -77,6 +79,7 @@ pub fn verify(folder: &Path) -> Result<usize, Vec<String>> {
     problems.extend(questions::verify(folder, &accepted(&answers)).map_err(whole)?);
     problems.extend(runs::verify(folder, &accepted(&answers)).map_err(whole)?);
     problems.extend(pairs::verify(folder, &accepted(&answers)).map_err(whole)?);
+    problems.extend(periods::verify(folder, &accepted(&answers)).map_err(whole)?);
     problems.extend(verify_charts(folder).map_err(whole)?);
     problems.extend(verify_spreads(folder, &answers).map_err(whole)?);
     count_unless(problems, sources.len())

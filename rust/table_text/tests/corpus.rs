@@ -6,13 +6,14 @@ use common::corpus_folder;
 use reference::calls;
 use reference::checks::verdict;
 use reference::reasons::{reasons, Reasons};
-use reference::run::{FINISH_TICK, NO_WORK, OBSERVATION};
+use reference::run::{Outcome, FINISH_TICK, NO_WORK, OBSERVATION};
 use reference::schedule::print;
 use reference::table::read_table;
 use std::fs;
 use table_text::corpus::{
-    names_with_pairs, names_with_runs, names_with_spreads, read_answers, read_chart, read_pairs,
-    read_questions, read_runs, read_schedule, read_spreads, verify, Answer, StoredPairs, StoredRun,
+    names_with_pairs, names_with_periods, names_with_runs, names_with_spreads, read_answers,
+    read_chart, read_pairs, read_period, read_questions, read_runs, read_schedule, read_spreads,
+    verify, Answer, StoredPairs, StoredRun,
 };
 
 fn stored() -> Vec<(String, Answer, Vec<u8>)> {
@@ -196,7 +197,11 @@ fn the_tables_of_the_reasons() {
 fn ran(table: &[u8], run: &StoredRun) -> String {
     let mut bytes = vec![0; 1024 * OBSERVATION];
     let answer = calls::run_apart(table, &run.choices, run.spread, &run.offsets, &mut bytes);
-    let (outcome, count) = answer.unwrap();
+    shown(answer.unwrap(), &bytes)
+}
+
+/// How a run ended, and node, tick and finish tick of each observation.
+fn shown((outcome, count): (Outcome, usize), bytes: &[u8]) -> String {
     let (end, node) = (outcome.end as u8, outcome.node);
     let mut told = format!("{end} {node} {} {}", outcome.tick, outcome.used);
     for observation in bytes.chunks(OBSERVATION).take(count) {
@@ -225,6 +230,32 @@ fn runs_show_the_finish_ticks_of_document_02() {
         }
     }
     assert_eq!((runs, apart), (13, 6));
+}
+
+#[test]
+fn what_comes_again_is_that_of_document_02() {
+    let folder = corpus_folder();
+    let names = names_with_periods(&folder).unwrap();
+    assert_eq!(names.len(), 7);
+    let (mut runs, mut beyond, mut late) = (0, 0, 0);
+    for name in names {
+        let table = fs::read(folder.join(format!("{name}.bin"))).unwrap();
+        let stored = read_period(&folder, &name).unwrap();
+        let pair = calls::period(&table).unwrap();
+        let told = pair.map_or("none".to_string(), |pair| {
+            format!("{} {}", pair.from, pair.to)
+        });
+        assert_eq!(told, stored.pair, "{name}");
+        for run in stored.runs {
+            let mut bytes = vec![0; 1024 * OBSERVATION];
+            let answer = calls::run_to(&table, &run.choices, run.horizon, &mut bytes);
+            assert_eq!(shown(answer.unwrap(), &bytes), run.answer, "{name}");
+            runs += 1;
+            beyond += usize::from(run.horizon > u32::from(table[6]));
+            late += usize::from(run.answer.starts_with('2'));
+        }
+    }
+    assert_eq!((runs, beyond, late), (18, 14, 2));
 }
 
 /// Of one message the probe notes 10, and the hub what its own clock shows.

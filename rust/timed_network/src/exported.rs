@@ -1,8 +1,8 @@
 //! The library's own calls, as `include/timed_network.h` declares them. All
 //! code that the compiler cannot vouch for stands in this module, in
-//! `node::exported`, in `places::exported`, in `positions::exported`, in
-//! `reasons::exported`, in `simulation::exported`, in `site::exported`, in
-//! `spread::exported` and in `uppaal::exported`.
+//! `node::exported`, in `period::exported`, in `places::exported`, in
+//! `positions::exported`, in `reasons::exported`, in `simulation::exported`, in
+//! `site::exported`, in `spread::exported` and in `uppaal::exported`.
 #![allow(unsafe_code)]
 
 /// A verdict as two numbers: 0 for accepted, else the number of the refusal;

@@ -16,9 +16,10 @@
 //! that wake apart there are [`check_spread`], [`largest_spread`],
 //! [`meetings_spread`] and [`run_apart`]. [`simulate`] counts the late ones of runs
 //! whose work times are drawn. [`uppaal`] writes the network of a table as a text for
-//! UPPAAL. [`airtime`] sums up a table's send windows, and a [`Site`]
+//! UPPAAL. [`period`] tells from when to when everything comes again, and [`run_to`]
+//! runs a table to any horizon. [`airtime`] sums up a table's send windows, and a [`Site`]
 //! keeps up to four networks under one limit. [`node`] has one node whose registers
-//! the caller lends. The declarations of the library stand in nine private
+//! the caller lends. The declarations of the library stand in ten private
 //! modules; each call gets its safe form.
 //!
 //! Every slice may be lent: an empty one, one of any length (a slice never
@@ -32,6 +33,7 @@
 mod exported;
 pub mod node;
 mod observation;
+mod period;
 mod places;
 mod positions;
 mod reasons;
@@ -44,6 +46,7 @@ mod uppaal;
 
 pub use exported::{Entry, Passage, RunNumbers};
 pub use observation::{Observation, NO_WORK, OBSERVATION};
+pub use period::{period, run_to, run_to_numbers, Pair, RunToNumbers};
 pub use places::{refusal_place, refused_opening, Part, Place, RefusedOpening};
 pub use positions::{positions, positions_of_numbers, Position, Positioned, Positions, POSITION};
 pub use reasons::{reasons, reasons_into, Reason, Reasons, Told, REASON, REASONS_ENOUGH};

@@ -8,7 +8,7 @@ use std::fmt;
 pub const NO_COMPONENT: u8 = 255;
 
 /// Why a table or a call is refused: the question that is answered with no, by
-/// the numbers of document 01; 15 to 28 are those of document 02. Displayed as
+/// the numbers of document 01; 15 to 29 are those of document 02. Displayed as
 /// that question, in the words of the proved text (`crates/refusal_text`).
 ///
 /// ```
@@ -83,10 +83,12 @@ pub enum Refusal {
     Horizon = 27,
     /// 28: the airtime in use would be above the limit of a site.
     Airtime = 28,
+    /// 29: the horizon of a run is 0, or above the table's and no state comes again.
+    RunHorizon = 29,
 }
 
 /// The question of each refusal, in the order of their numbers.
-const QUESTIONS: [&str; 28] = [
+const QUESTIONS: [&str; 29] = [
     "Is the first byte 1, 2 or 3?",
     "Is the stated length the length handed in, from 7 to 8,192?",
     "Are components, channels, horizon and bands in range?",
@@ -115,11 +117,12 @@ const QUESTIONS: [&str; 28] = [
     "Is it a place 0 to 3, empty when putting, filled when taking?",
     "Is the horizon that of the networks present?",
     "Is the airtime in use with this network at most the limit?",
+    "Is the horizon at least 1, and at most the table's unless all comes again?",
 ];
 
 impl Refusal {
     /// All refusals, in the order of their numbers, which start with 1.
-    pub const ALL: [Refusal; 28] = [
+    pub const ALL: [Refusal; 29] = [
         Refusal::Version,
         Refusal::Length,
         Refusal::Header,
@@ -148,9 +151,10 @@ impl Refusal {
         Refusal::SitePlace,
         Refusal::Horizon,
         Refusal::Airtime,
+        Refusal::RunHorizon,
     ];
 
-    /// Its number, 1 to 28.
+    /// Its number, 1 to 29.
     pub fn number(self) -> u8 {
         self as u8
     }

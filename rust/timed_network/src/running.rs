@@ -77,7 +77,7 @@ pub struct Run {
     /// The ticks that have passed, a late one included.
     pub tick: u32,
     /// The choices carried out, ticks included.
-    pub used: u32,
+    pub used: u64,
     /// How many observations were written.
     pub size: usize,
 }
@@ -168,7 +168,7 @@ pub(crate) fn ran(answer: &RunNumbers) -> Result<Run, Refused> {
         end: End::try_from(answer.end).expect("the library gives no number from 4 on"),
         node: answer.node,
         tick: answer.tick,
-        used: answer.used,
+        used: answer.used.into(),
         size: answer.size as usize,
     })
 }

@@ -26,7 +26,7 @@ const fn observation(node: u8, tick: u8) -> [u8; OBSERVATION] {
 /// Both nodes look for their edge; the hub wakes at 2, the probe at 3.
 const AWAKE: [u8; 15] = [0, 0, 0, 0, 0, 1, 1, 1, 1, 1, TICK, TICK, 1, TICK, 0];
 
-fn ran(end: End, tick: u32, used: u32, size: usize) -> Run {
+fn ran(end: End, tick: u32, used: u64, size: usize) -> Run {
     let node = NO_NODE;
     Run {
         end,
@@ -73,7 +73,7 @@ fn observations_are_read_from_their_bytes() {
     choices.extend([0, 0, 0, 0, 0, 0, 0, 0, 1, 1, 1, 1, 1, 1, 1, 1]);
     choices.extend([TICK, TICK, TICK, TICK, 0, TICK, 1]);
     let (run, bytes) = example(&choices);
-    assert_eq!(run, ran(End::UsedUp, 9, choices.len() as u32, 4));
+    assert_eq!(run, ran(End::UsedUp, 9, choices.len() as u64, 4));
     let shown: Vec<Observation> = run.observations(&bytes).collect();
     let one = |component, edge, tick, previous_finish| Observation {
         component,

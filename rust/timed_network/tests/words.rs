@@ -122,7 +122,7 @@ fn every_other_number_is_unknown() {
     for number in 0..=u8::MAX {
         let refusal = Refusal::try_from(number);
         match number {
-            1..=28 => assert_eq!(refusal.map(Refusal::number), Ok(number)),
+            1..=29 => assert_eq!(refusal.map(Refusal::number), Ok(number)),
             _ => assert_eq!(refusal, Err(UnknownNumber(number))),
         }
         let end = End::try_from(number);
@@ -131,14 +131,14 @@ fn every_other_number_is_unknown() {
             _ => assert_eq!(end, Err(UnknownNumber(number))),
         }
     }
-    assert_eq!(UnknownNumber(29).to_string(), "nothing has the number 29");
+    assert_eq!(UnknownNumber(30).to_string(), "nothing has the number 30");
 }
 
 #[test]
 fn a_verdict_is_a_result_and_back() {
     assert_eq!(Verdict::Accepted.into_result(), Ok(()));
     assert_eq!(Verdict::Accepted.refusal(), None);
-    for number in 1..=28 {
+    for number in 1..=29 {
         for component in [0, 7, NO_COMPONENT] {
             let verdict = refused(number, component);
             let error = verdict.into_result().unwrap_err();
@@ -148,7 +148,7 @@ fn a_verdict_is_a_result_and_back() {
             assert_eq!(Verdict::from(error), verdict);
         }
     }
-    assert_eq!(refused(29, 0).refusal(), None);
+    assert_eq!(refused(30, 0).refusal(), None);
 }
 
 /// With `?`, as a caller has it.

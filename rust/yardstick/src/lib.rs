@@ -13,8 +13,9 @@
 //! finds one node's part, `run` carries out choices, `chart` draws the schedule,
 //! `plan` writes the table of a plan, `reasons` tells why an edge is taken, `simulation`
 //! counts late runs with drawn work times, `positions` tells where components are at
-//! ticks, `uppaal` writes the network as a text, `site` sums up airtimes. `place` and
-//! `refused` tell where a table is refused.
+//! ticks, `uppaal` writes the network as a text, `site` sums up airtimes, `period` finds
+//! what comes again, and runs to a horizon. `place` and `refused` tell where a table is
+//! refused.
 #![forbid(unsafe_code)]
 #![warn(missing_docs)]
 
@@ -22,6 +23,7 @@ mod chart;
 mod meetings;
 mod opening;
 mod part;
+mod period;
 mod place;
 mod plan;
 mod positions;
@@ -38,6 +40,7 @@ mod translate;
 mod uppaal;
 
 pub use part::part;
+pub use period::Pair;
 pub use place::Place;
 pub use plan::plan;
 pub use positions::POSITION;
@@ -71,7 +74,7 @@ pub const MAX_SPREAD: u32 = 1000;
 #[derive(Clone, Copy, Debug, PartialEq, Eq)]
 pub struct Refusal {
     /// The number of the check that is not passed: 1 to 12 or 15
-    /// to 17, 13, 14, or 18 to 28.
+    /// to 17, 13, 14, or 18 to 29.
     pub number: u8,
     /// The component concerned, or [`NONE`].
     pub component: u8,
@@ -115,7 +118,7 @@ pub struct Run {
     /// The ticks that have passed.
     pub tick: u32,
     /// The choices carried out, ticks included.
-    pub used: u32,
+    pub used: u64,
     /// The observations written.
     pub size: usize,
 }
@@ -135,6 +138,7 @@ pub struct Yardstick {
     table: Table,
     schedule: Schedule,
     windows: Vec<spread::Window>,
+    joints: period::Joints,
     machine: Machine,
     export: uppaal::Export,
 }

@@ -171,13 +171,20 @@ reached-together t H S cs r =
       used = r .used;
     }
 
+-- to any horizon: some choices reach it, and so do some more of any that are used up
+pub reaches-at : {t : Read} {H : ℕ} {S : List Passage} → Given t H S [] → Reaches t H S
+reaches-at {t} {H} {S} G = let r = reach G in (r .0, reached-together t H S (r .0) (r .1))
+
+pub continues-at : {t : Read} {H : ℕ} {S : List Passage} → Given t H S [] → Continues t H S
+continues-at {t} {H} {S} G cs e = let r = go-on G cs e in (r .0, reached-together t H S (cs ++ r .0) (r .1))
+
 -- every accepted table reaches its horizon
 pub reaches : (t : Read) (S : List Passage) → InLimits t → acceptedScheduleOf t ≡ accepted S → Reaches t (t .horizon) S
-reaches t S l a = let r = reach (given t S l a) in (r .0, reached-together t (t .horizon) S (r .0) (r .1))
+reaches t S l a = reaches-at (given t S l a)
 
 -- and no run of it gets stuck
 pub continues : (t : Read) (S : List Passage) → InLimits t → acceptedScheduleOf t ≡ accepted S → Continues t (t .horizon) S
-continues t S l a cs e = let r = go-on (given t S l a) cs e in (r .0, reached-together t (t .horizon) S (cs ++ r .0) (r .1))
+continues t S l a = continues-at (given t S l a)
 
 -- and no run of it carries out more than 744,184 choices
 pub uses-at-most : (t : Read) (S : List Passage) → InLimits t → acceptedScheduleOf t ≡ accepted S → UsesAtMost 744184 t (t .horizon) S

@@ -25,7 +25,7 @@ use Rattle.model.proofs.Reader.Limits.{read-limits}
 use Rattle.model.proofs.Run.Tied.{Given, given-apart}
 use Rattle.model.proofs.Run.Start.{tied-start}
 use Rattle.model.proofs.Run.Count.{only-few}
-use Rattle.model.proofs.Run.Apart.{promised-apart}
+use Rattle.model.proofs.Run.Apart.{demand-apart}
 
 -- ## Counting by a number that each has
 
@@ -168,14 +168,17 @@ module _ (t : Read) (H : ℕ) (S : List Passage) (offs cs : List ℕ) where
         pass-few ps (own c S) (d .scheduled c h),
       )
 
--- a run of a table accepted at a spread, with offsets within it, never writes more observations than the schedule has passages
+-- a run never writes more observations than the schedule to its horizon has passages
+pub few-at : {t : Read} {H : ℕ} {S : List Passage} {offs : List ℕ} → Given t H S offs → (cs : List ℕ) → length (run (settingAt t H S offs) cs .state .observations) ≤ length S
+unfolding run
+few-at {t} {H} {S} {offs} G cs =
+    by-number (λ (o : Observation). o .component) (λ (v : Passage). v .component) S
+    (shows-on (settingAt t H S offs) cs (record { full = tied-start G .full; shown = empty }) .shown) (node-few t H S offs cs (demand-apart G cs))
+
+-- so a run of a table accepted at a spread, with offsets within it
 pub few-apart : (spread : ℕ) (bytes : List ℕ) (t : Read) (S : List Passage) → readTable bytes ≡ accepted t → acceptedScheduleAt spread t ≡ accepted S
     → (offs : List ℕ) → Permitted spread (size (t .table)) offs → (cs : List ℕ) → length (run (settingAt t (t .horizon) S offs) cs .state .observations) ≤ length S
-unfolding run
-few-apart spread bytes t S r e offs p cs =
-    let full = tied-start (given-apart spread t S offs (read-limits bytes t r) e p) .full in
-    by-number (λ (o : Observation). o .component) (λ (v : Passage). v .component) S
-    (shows-on (settingAt t (t .horizon) S offs) cs (record { full = full; shown = empty }) .shown) (node-few t (t .horizon) S offs cs (promised-apart spread bytes t S r e offs p cs))
+few-apart spread bytes t S r e offs p cs = few-at (given-apart spread t S offs (read-limits bytes t r) e p) cs
 
 -- a run of an accepted table never writes more observations than the schedule has passages
 pub few : (bytes : List ℕ) (t : Read) (S : List Passage) → readTable bytes ≡ accepted t → acceptedScheduleOf t ≡ accepted S → (cs : List ℕ)

@@ -1,7 +1,7 @@
 -- `reasons::stay_in` meets its contract. Assumes nothing.
 use mathlib.Core.Path.{_≡_, refl, ap}
 use Rattle.window.specs.Views.{entryOf}
-use Rattle.reasons.specs.Stays.{relocated}
+use Rattle.replay.specs.Growing.{relocated}
 use borrow.Author.Needs.{needs}
 use Rattle.reasons.proofs.stay_in.Statement.{statement}
 use Rattle.reasons.proofs.stay_in.Tie as tie

@@ -43,6 +43,12 @@ slice-aggregate-put-6 c = search needs
 put-requires-6 : tie.Need-put-requires-6
 put-requires-6 c κs = search needs
 
+slice-aggregate-put-7 : tie.Need-slice-aggregate-put-7
+slice-aggregate-put-7 c = search needs
+
+put-requires-7 : tie.Need-put-requires-7
+put-requires-7 c κs = search needs
+
 same-length : tie.Need-same-length
 same-length c = search needs
 
@@ -92,8 +98,17 @@ same-length-6 : tie.Need-same-length-6
 same-length-6 c = search needs
 
 returns-6 : tie.Need-returns-6
+unfolding question
 returns-6 c =
     let p = c .before .before .put6 in
+    (asked (c .before .before .before .before .before .before .before .args .number) 29 (c .before .before .before .before .before .match .keys6) (p .ensures .0), omega (arith, p .ensures .1))
+
+same-length-7 : tie.Need-same-length-7
+same-length-7 c = search needs
+
+returns-7 : tie.Need-returns-7
+returns-7 c =
+    let p = c .before .before .put7 in
     let rest = c .before .before .before .before .before .match .rest in
     (not-asked (c .before .before .before .before .before .before .before .args .number) (omega (arith, c .before .before .before .before .before .before .before .pre, rest .0, rest .1)) (p .ensures .0), omega (arith, p .ensures .1))
 
@@ -113,6 +128,8 @@ put-question-on-further-calls-spec =
     put-requires-5
     slice-aggregate-put-6
     put-requires-6
+    slice-aggregate-put-7
+    put-requires-7
     same-length
     returns
     same-length-2
@@ -124,4 +141,6 @@ put-question-on-further-calls-spec =
     same-length-5
     returns-5
     same-length-6
-    returns-6)
+    returns-6
+    same-length-7
+    returns-7)

@@ -1,9 +1,9 @@
 -- `run::run_program` meets its contract. Assumes nothing.
 use borrow.Author.Needs.{needs}
 use native.Mathlib.Omega.{arith}
-use lib.ListN.{length}
 use Rattle.translator.proofs.Standing.{slice-bytes, few-nodes, valid-long}
-use Rattle.run.proofs.Handed.{small-offsets, room-enough, brief-enough, ends-so}
+use Rattle.run.proofs.Carried.{ends-whole}
+use Rattle.run.proofs.Handed.{small-offsets, begins-so, ends-so}
 use Rattle.run.proofs.run_program.Statement.{statement}
 use Rattle.run.proofs.run_program.Tie as tie
 
@@ -56,11 +56,8 @@ carry-out-requires c κs =
     let table = s .args .table .now in
     let bytes = slice-bytes table (c .before .before .before .before .before .before .before .before .before .before .before .before .before .before .before .shared-slice-known .given) in
     let started = c .before .before .before .before .before .before .before .start .ensures in
-    let word-at = c .before .before .before .word-at in (
-      started .running (word-at .result),
-      brief-enough table bytes (s .pre .0) (s .pre .2) (s .pre .3) started (word-at .ensures) (s .args .choices .now) (s .pre .5),
-      room-enough table bytes (s .pre .0) (s .pre .2) (s .pre .3) started (word-at .ensures) (s .args .choices .now) (length (s .args .out .now)) (s .pre .4),
-    )
+    let word-at = c .before .before .before .word-at in
+    (_, _, begins-so table bytes (s .pre .0) (s .pre .2) (s .pre .3) started (word-at .ensures) (s .args .choices .now) (s .args .out .now) (s .pre .5) (s .pre .4))
 
 same-length : tie.Need-same-length
 same-length c = search needs
@@ -70,7 +67,7 @@ returns c =
     let s = c .before .before .before .before .before .before .before .before .before .before .before .before .before .before .before .before .before .before .before .before .before in
     let table = s .args .table .now in
     let bytes = slice-bytes table (c .before .before .before .before .before .before .before .before .before .before .before .before .before .before .before .before .before .before .before .before .shared-slice-known .given) in
-    ends-so table bytes (s .pre .0) (s .pre .2) (s .pre .3) (c .before .before .before .before .before .before .before .before .before .before .before .before .start .ensures) (c .before .before .before .before .before .before .before .before .word-at .ensures) (c .before .before .before .before .carry-out .ensures)
+    ends-so table bytes (s .pre .0) (s .pre .2) (s .pre .3) (c .before .before .before .before .before .before .before .before .before .before .before .before .start .ensures) (c .before .before .before .before .before .before .before .before .word-at .ensures) (ends-whole _ _ _ _ _ _ _ _ _ _ _ _ (c .before .before .before .before .carry-out .ensures _ _ (begins-so table bytes (s .pre .0) (s .pre .2) (s .pre .3) (c .before .before .before .before .before .before .before .before .before .before .before .before .start .ensures) (c .before .before .before .before .before .before .before .before .word-at .ensures) (s .args .choices .now) (s .args .out .now) (s .pre .5) (s .pre .4))))
 
 pub run-program-spec : {M : Type 1} → statement M
 run-program-spec =

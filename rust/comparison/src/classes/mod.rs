@@ -21,6 +21,7 @@ mod planned;
 mod positions;
 mod programs;
 mod random_bytes;
+mod repeating;
 mod running;
 mod shifted;
 mod simulated;
@@ -78,7 +79,7 @@ const fn class(name: &'static str, run: fn(&mut Trial, &mut Random, &Extent) -> 
 }
 
 /// All classes, in the order in which they are tried.
-pub const CLASSES: [Class; 111] = [
+pub const CLASSES: [Class; 116] = [
     class("vectors", stored::vectors),
     class("corpus", stored::corpus),
     class("random bytes", random_bytes::anything),
@@ -202,4 +203,9 @@ pub const CLASSES: [Class; 111] = [
     class("sites of drawn tables", sited::drawn_tables),
     class("sites of long airtimes", sited::long_airtimes),
     class("sites of stored tables", sited::stored),
+    class("what comes again: stored tables", repeating::stored),
+    class("what comes again: rings", repeating::rings),
+    class("what comes again: slot plans", repeating::plans),
+    class("what comes again: planned tables", repeating::planned),
+    class("what comes again: the largest horizon", repeating::largest),
 ];

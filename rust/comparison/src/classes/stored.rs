@@ -4,11 +4,13 @@
 use super::Extent;
 use crate::bytes::hex;
 use crate::difference::{Outcome, Stop};
+use crate::periods;
 use crate::places::{refused_by, READ};
 use crate::random::Random;
 use crate::reasons::AMPLE;
 use crate::requests::{self, Apart, Asked, Exported, Request};
 use crate::runs::apart::Handed;
+use crate::runs::AMPLE as AMPLE_RUN;
 use crate::stored::{self, Stored};
 use crate::trial::Trial;
 use timed_network::{RunNumbers, POSITION};
@@ -37,6 +39,17 @@ pub(super) fn corpus(trial: &mut Trial, _: &mut Random, _: &Extent) -> Outcome {
         let numbers = list.pairs.as_flattened();
         trial.expect_positions(&table, numbers, POSITION * list.pairs.len(), &list.answer)?;
     }
+    for (table, period) in stored::corpus_periods().map_err(Stop::Unreadable)? {
+        trial.expect_pair(&table, &period.pair)?;
+        for run in &period.runs {
+            let handed = periods::Handed {
+                choices: &run.choices,
+                horizon: run.horizon,
+                lent: AMPLE_RUN,
+            };
+            trial.expect_shown_to(&table, &handed, &run.answer)?;
+        }
+    }
     for (table, answer, words) in stored::corpus_places().map_err(Stop::Unreadable)? {
         match refused_by(answer, &READ) {
             Some(_) => trial.expect_place(&table, &words)?,
@@ -57,7 +70,8 @@ fn expect_all(trial: &mut Trial, tables: Result<Vec<Stored>, String>) -> Outcome
 }
 
 /// The programs, parts, charts, plans, edge choices, reasons, positions, verdicts at a
-/// spread, runs, simulated ones, texts, sites and places of refusals of the vectors.
+/// spread, runs, simulated ones, texts, sites, pairs, runs to a horizon and places of
+/// refusals of the vectors.
 pub(super) fn requests(trial: &mut Trial, _: &mut Random, _: &Extent) -> Outcome {
     for request in requests::requests().map_err(Stop::Unreadable)? {
         match &request {
@@ -104,6 +118,7 @@ pub(super) fn requests(trial: &mut Trial, _: &mut Random, _: &Extent) -> Outcome
             }
             Request::Exported(request) => expect_exported(trial, request)?,
             Request::Site(request) => trial.expect_site(request)?,
+            Request::Repeated(request) => trial.expect_repeated(request)?,
             Request::Spread {
                 table,
                 spread,

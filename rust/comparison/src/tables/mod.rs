@@ -13,6 +13,7 @@ mod exact;
 pub mod finishes;
 pub mod planned;
 pub mod refused_opening;
+pub mod rings;
 mod values;
 
 pub use exact::{of_length, SHORTEST_EXACT};

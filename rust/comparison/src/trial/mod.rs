@@ -7,6 +7,7 @@ mod exporting;
 mod following;
 mod locating;
 mod positioning;
+mod repeating;
 mod running;
 mod sharing;
 mod simulating;
@@ -112,6 +113,7 @@ impl<'a> Trial<'a> {
         self.position_accepted(input)?;
         self.export_some(input)?;
         self.airtime(input)?;
+        self.repeat_accepted(input)?;
         self.translate_accepted(input)
     }
 
@@ -131,6 +133,7 @@ impl<'a> Trial<'a> {
             self.simulate_refused(input)?;
             self.export_refused(input)?;
             self.airtime(input)?;
+            self.repeat_refused(input)?;
         }
         Ok(())
     }

@@ -94,7 +94,7 @@ impl Trial<'_> {
         } = run.outcome;
         let answer = ran.answer;
         if (answer.number, answer.end, answer.node) == (0, end as u8, node)
-            && (answer.tick, answer.used) == (tick, used)
+            && (answer.tick, u64::from(answer.used)) == (tick, used)
         {
             return Ok(());
         }

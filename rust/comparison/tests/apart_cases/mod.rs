@@ -32,7 +32,7 @@ impl Answer {
             end: outcome.end as u8,
             node: outcome.node,
             tick: outcome.tick,
-            used: outcome.used,
+            used: outcome.used as u32,
             observations,
         }
     }

@@ -206,7 +206,7 @@ pub fn answer(table: &Table, passages: &[Passage], choices: &[u8]) -> Answer {
             outcome.end as u32,
             outcome.node.into(),
             outcome.tick,
-            outcome.used,
+            outcome.used as u32,
         ],
         observations: run.observations.concat(),
     }

@@ -1,23 +1,26 @@
 //! A run as a JSON object on a line of its own.
 
-use super::{Answer, Report, Shown, Window};
+use super::{Answer, Shown, Window};
 use crate::json::{array, object, or_null, string};
 use timed_network::{Refused, Run, NO_NODE};
 
-/// The object of a run, with the observations that are told.
-pub(super) fn line(report: &Report, answer: &Answer, shown: &[Shown]) -> Vec<u8> {
-    let mut fields = vec![
-        ("spread", report.spread.to_string()),
-        ("offsets", array(&report.offsets)),
-    ];
-    if let Some(close) = report.close {
+/// The object of a run: what was handed in beside the choices, then how it ended, and the
+/// observations that are told.
+pub(crate) fn line(
+    head: Vec<(&str, String)>,
+    close: Option<u32>,
+    answer: &Answer,
+    shown: &[Shown],
+) -> Vec<u8> {
+    let mut fields = head;
+    if let Some(close) = close {
         fields.push(("close", close.to_string()));
     }
     fields.extend(match answer {
         Ok(run) => ran(run),
         Err(refused) => not_run(refused),
     });
-    let told = shown.iter().filter(|shown| shown.is_told(report.close));
+    let told = shown.iter().filter(|shown| shown.is_told(close));
     let observations: Vec<String> = told.map(observation).collect();
     fields.push(("observations", format!("[{}]", observations.join(","))));
     format!("{}\n", object(&fields)).into_bytes()

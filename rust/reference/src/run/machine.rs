@@ -43,13 +43,17 @@ pub enum Happening {
     },
 }
 
-/// What lateness needs to know of a node's passages in the schedule.
-#[derive(Clone, Copy, Debug)]
-struct Coming {
-    /// The place of the next passage in the schedule.
-    index: usize,
-    /// Its ready; `u32::MAX` where there is no next passage.
-    ready: u32,
+/// What lateness needs to know of a schedule: of each node the ready of each of its
+/// passages, in their order.
+pub type Readies = [Vec<u64>; MAX_COMPONENTS];
+
+/// The readies of the passages of a table's own schedule.
+pub fn readies(passages: &[Passage]) -> Readies {
+    let mut readies = Readies::default();
+    for passage in passages {
+        readies[usize::from(passage.component)].push(passage.ready.into());
+    }
+    readies
 }
 
 /// The nodes of a program at a tick.
@@ -58,13 +62,12 @@ pub struct Machine<'a> {
     nodes: Vec<Node<'a>>,
     /// The tick at which each node wakes.
     offsets: [u32; MAX_COMPONENTS],
-    coming: [Coming; MAX_COMPONENTS],
+    readies: Readies,
     /// How many sleeps each node has finished.
     sleeps: [usize; MAX_COMPONENTS],
     /// The ticks of each node's own clock at which its works finished, in their order.
     finishes: [Vec<u32>; MAX_COMPONENTS],
     clocks: [u8; MAX_COMPONENTS],
-    passages: &'a [Passage],
     tick: u32,
     horizon: u32,
 }
@@ -73,7 +76,7 @@ impl<'a> Machine<'a> {
     /// "It starts at tick 0, no observation yet, each node at its program's
     /// start". Nothing for a program whose parts cannot be opened or that has
     /// not as many nodes as the table.
-    pub fn new(table: &Table, passages: &'a [Passage], program: &'a [u8]) -> Option<Machine<'a>> {
+    pub fn new(table: &Table, passages: &[Passage], program: &'a [u8]) -> Option<Machine<'a>> {
         Machine::apart(table, passages, program, &[])
     }
 
@@ -81,11 +84,29 @@ impl<'a> Machine<'a> {
     /// behind the last node's are not looked at.
     pub fn apart(
         table: &Table,
-        passages: &'a [Passage],
+        passages: &[Passage],
         program: &'a [u8],
         offsets: &[u32],
     ) -> Option<Machine<'a>> {
-        let &[_, _, _, count, high, low] = program.first_chunk()?;
+        let &[_, _, _, _, high, low] = program.first_chunk()?;
+        let horizon = u16::from_be_bytes([high, low]).into();
+        let mut machine = Machine::to(table, readies(passages), program, horizon)?;
+        let count = machine.nodes.len();
+        for (place, offset) in machine.offsets[..count].iter_mut().zip(offsets) {
+            *place = *offset;
+        }
+        Some(machine)
+    }
+
+    /// The same to a horizon "handed to the run" (document 02, wish 14), with the
+    /// schedule to it and without offsets: the program's own horizon is not read.
+    pub fn to(
+        table: &Table,
+        readies: Readies,
+        program: &'a [u8],
+        horizon: u32,
+    ) -> Option<Machine<'a>> {
+        let &[_, _, _, count] = program.first_chunk()?;
         let count = usize::from(count);
         if count != table.components.len() || count > MAX_COMPONENTS {
             return None;
@@ -93,22 +114,17 @@ impl<'a> Machine<'a> {
         let mut machine = Machine {
             nodes: Vec::with_capacity(count),
             offsets: [0; MAX_COMPONENTS],
-            coming: [Coming { index: 0, ready: 0 }; MAX_COMPONENTS],
+            readies,
             sleeps: [0; MAX_COMPONENTS],
             finishes: Default::default(),
             clocks: [0; MAX_COMPONENTS],
-            passages,
             tick: 0,
-            horizon: u16::from_be_bytes([high, low]).into(),
+            horizon,
         };
-        for (place, offset) in machine.offsets[..count].iter_mut().zip(offsets) {
-            *place = *offset;
-        }
         for number in 0..count {
             let program = NodeProgram::new(part_bytes(program, number))?;
             machine.nodes.push(Node::new(program)?);
             machine.clocks[number] = table.components[number].clocks;
-            machine.expect_passage(number, 0);
         }
         Some(machine)
     }
@@ -123,7 +139,7 @@ impl<'a> Machine<'a> {
         self.tick.saturating_sub(self.offsets[number])
     }
 
-    /// The horizon of the program.
+    /// The tick at which the run ends.
     pub fn horizon(&self) -> u32 {
         self.horizon
     }
@@ -152,10 +168,7 @@ impl<'a> Machine<'a> {
         let own_clock = self.own_clock(number);
         let happening = self.nodes[number].finish(choice, statement, own_clock)?;
         match happening {
-            Happening::Slept { .. } => {
-                self.sleeps[number] += 1;
-                self.expect_passage(number, self.coming[number].index + 1);
-            }
+            Happening::Slept { .. } => self.sleeps[number] += 1,
             Happening::Done { .. } | Happening::Timeout { .. } => self.note_finish(number),
             _ => {}
         }
@@ -166,22 +179,6 @@ impl<'a> Machine<'a> {
     fn note_finish(&mut self, number: usize) {
         let own_clock = self.own_clock(number);
         self.finishes[number].push(own_clock);
-    }
-
-    /// Notes a node's next passage, the first in the schedule from a place on.
-    fn expect_passage(&mut self, number: usize, from: usize) {
-        let passages = self.passages.iter().enumerate().skip(from);
-        let mut own = passages.filter(|(_, p)| usize::from(p.component) == number);
-        self.coming[number] = match own.next() {
-            Some((index, passage)) => Coming {
-                index,
-                ready: passage.ready,
-            },
-            None => Coming {
-                index: self.passages.len(),
-                ready: u32::MAX,
-            },
-        };
     }
 
     /// Not allowed: "a send without a listener that names its channel, has
@@ -233,14 +230,16 @@ impl<'a> Machine<'a> {
 
     /// "Late: a tick takes a node's work past its window's end, or takes a
     /// node that has yet to reach a sleep past that sleep's ready in the
-    /// schedule." Both by its own clock, so that none is late before it wakes.
+    /// schedule." Both by its own clock, so that none is late before it wakes. With n
+    /// sleeps behind it the next one is that of its passage n.
     fn is_late(&self, number: usize) -> bool {
         let node = &self.nodes[number];
         let own_clock = self.own_clock(number);
         if node.registers.working {
             return own_clock > node.window_end();
         }
-        own_clock > self.coming[number].ready && !stands_at(node, Op::Sleep)
+        let next = self.readies[number].get(self.sleeps[number]);
+        next.is_some_and(|ready| u64::from(own_clock) > *ready) && !stands_at(node, Op::Sleep)
     }
 
     /// "the tick at which the node's previous work finished": with its n-th sleep a

@@ -2,12 +2,12 @@
 //! its observations, and beside them a log of finished work. Document 02's wish 6
 //! gives each node an offset and a clock of its own; without offsets all nodes
 //! wake at tick 0, and the clocks are the tick. Its wish 9 puts into each observation
-//! when the node's previous work finished.
+//! when the node's previous work finished. Its wish 14 hands the run a horizon.
 
 mod machine;
 mod node;
 
-pub use machine::{Happening, Machine};
+pub use machine::{readies, Happening, Machine, Readies};
 pub use node::{Kept, Node, Registers, Trial};
 
 use crate::schedule::Passage;
@@ -45,8 +45,9 @@ pub struct Outcome {
     pub node: u8,
     /// "the tick (the count of 255s carried out)".
     pub tick: u32,
-    /// "the choices used (the count of all carried out)".
-    pub used: u32,
+    /// "the choices used (the count of all carried out)". To a horizon that is handed in
+    /// they are not limited.
+    pub used: u64,
 }
 
 /// A finished work, for comparison with a path of the network. Its tick is the
@@ -157,7 +158,27 @@ pub fn run_apart_into(
     offsets: &[u32],
     bytes: &mut [u8],
 ) -> Option<(Outcome, usize)> {
-    let mut machine = Machine::apart(table, passages, program, offsets)?;
+    let machine = Machine::apart(table, passages, program, offsets)?;
+    Some(drive_into(machine, choices, bytes))
+}
+
+/// The same to a horizon "handed to the run" (document 02, wish 14), with the schedule
+/// to it.
+pub fn run_to_into(
+    table: &Table,
+    readies: Readies,
+    program: &[u8],
+    choices: &[u8],
+    horizon: u32,
+    bytes: &mut [u8],
+) -> Option<(Outcome, usize)> {
+    let machine = Machine::to(table, readies, program, horizon)?;
+    Some(drive_into(machine, choices, bytes))
+}
+
+/// Carries out choices, writes the observations and gives how the run ended and their
+/// count.
+fn drive_into(mut machine: Machine, choices: &[u8], bytes: &mut [u8]) -> (Outcome, usize) {
     let mut count = 0;
     let mut places = bytes.chunks_exact_mut(OBSERVATION);
     let outcome = drive(&mut machine, choices, |machine, happening| {
@@ -167,7 +188,7 @@ pub fn run_apart_into(
             count += 1;
         }
     });
-    Some((outcome, count))
+    (outcome, count)
 }
 
 /// Carries out choices until the run ends: "Not allowed comes before late,
@@ -197,7 +218,7 @@ pub fn drive(
     outcome(machine, End::UsedUp, NO_COMPONENT, used)
 }
 
-fn outcome(machine: &Machine, end: End, node: u8, used: u32) -> Outcome {
+fn outcome(machine: &Machine, end: End, node: u8, used: u64) -> Outcome {
     Outcome {
         end,
         node,

@@ -2,7 +2,7 @@
 #![allow(dead_code)]
 
 use reference::calls;
-use reference::run::{FINISH_TICK, OBSERVATION};
+use reference::run::{Outcome, FINISH_TICK, OBSERVATION};
 use reference::schedule::{schedule, Passage};
 use reference::table::*;
 use std::path::PathBuf;
@@ -199,6 +199,12 @@ pub fn vectors_of_sites() -> Vec<Vector> {
     read_vectors(&["sites.tsv"])
 }
 
+/// The cases of pairs and of runs to a horizon: `period`, and `long`, before it `lent`
+/// where it is said how many bytes are lent.
+pub fn vectors_of_periods() -> Vec<Vector> {
+    read_vectors(&["periods.tsv"])
+}
+
 fn read_vectors(files: &[&str]) -> Vec<Vector> {
     let mut all = Vec::new();
     for file in files {
@@ -250,6 +256,15 @@ pub fn run_answer(words: &[&str], lent: usize) -> Result<String, Refusal> {
         [_, _] => calls::run(&table, &choices, &mut bytes),
         _ => calls::run_apart(&table, &choices, spread, &offsets, &mut bytes),
     };
+    run_told(answer, &bytes)
+}
+
+/// A run's answer in the words of the vectors; what stands past the observations, in
+/// bytes that were all 77, must have stayed.
+pub fn run_told(
+    answer: Result<(Outcome, usize), Refusal>,
+    bytes: &[u8],
+) -> Result<String, Refusal> {
     let written = answer.map_or(0, |(_, count)| count * OBSERVATION);
     assert!(bytes[written..].iter().all(|byte| *byte == 77));
     let (outcome, _) = answer?;

@@ -63,7 +63,7 @@ fn read_line(line: &str) -> Option<StoredRun> {
 }
 
 /// Four numbers, then observations of two numbers and a finish tick each.
-fn is_told(answer: &str) -> bool {
+pub(super) fn is_told(answer: &str) -> bool {
     let are_numbers = |words: &[&str]| words.iter().all(|word| word.parse::<u32>().is_ok());
     let mut parts = answer.split('|').map(|part| part.split(' ').collect());
     let first: Vec<&str> = parts.next().unwrap_or_default();
@@ -75,7 +75,7 @@ fn is_told(answer: &str) -> bool {
     first.len() == 4 && are_numbers(&first) && parts.all(is_shown)
 }
 
-fn unhex(text: &str) -> Option<Vec<u8>> {
+pub(super) fn unhex(text: &str) -> Option<Vec<u8>> {
     if text == "-" {
         return Some(Vec::new());
     }

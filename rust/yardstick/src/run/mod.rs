@@ -27,6 +27,18 @@ pub(crate) struct Network<'a> {
     pub(crate) schedule: &'a Schedule,
 }
 
+/// How the rows come again beyond the table's own horizon: behind the last row before
+/// `behind` a node goes on with its own of those from `first` on, where all components
+/// enter, a period later. With a period of 0 they do not.
+#[derive(Clone, Copy, Default)]
+pub(crate) struct Round {
+    pub(crate) first: u16,
+    pub(crate) behind: u16,
+    /// The tick of the first row.
+    pub(crate) from: u32,
+    pub(crate) period: u32,
+}
+
 /// The nodes of a network at a tick.
 #[derive(Default)]
 pub(crate) struct Machine {
@@ -45,6 +57,7 @@ pub(crate) struct Machine {
     tick: u32,
     /// The observations written.
     size: usize,
+    round: Round,
 }
 
 /// The places of the observations that are still to come.
@@ -55,6 +68,7 @@ impl Machine {
     /// start". Missing offsets are 0.
     pub(crate) fn start(&mut self, network: &Network, offsets: &[u32]) {
         self.blocks.clear();
+        self.round = Round::default();
         self.offsets = [0; COMPONENTS];
         for (own, offset) in self.offsets.iter_mut().zip(offsets) {
             *own = *offset;
@@ -89,8 +103,21 @@ impl Machine {
     /// Carries out choices until the run ends: "Not allowed comes before
     /// late, late before horizon, horizon before used up."
     pub(crate) fn run(&mut self, network: &Network, choices: &[u8], bytes: &mut [u8]) -> Run {
+        let round = Round::default();
+        self.run_to(network, choices, bytes, network.table.horizon, round)
+    }
+
+    /// The same to a horizon that is handed in.
+    pub(crate) fn run_to(
+        &mut self,
+        network: &Network,
+        choices: &[u8],
+        bytes: &mut [u8],
+        horizon: u32,
+        round: Round,
+    ) -> Run {
+        self.round = round;
         let mut places = bytes.as_chunks_mut().0.iter_mut();
-        let horizon = network.table.horizon;
         let mut used = 0;
         while let Some(&choice) = choices.get(used) {
             if choice != TICK {
@@ -135,7 +162,7 @@ impl Machine {
             end,
             node,
             tick: self.tick,
-            used: used as u32,
+            used: used as u64,
             size: self.size,
         }
     }
@@ -235,11 +262,23 @@ impl Machine {
             None => NOWHERE,
         };
         self.expect(network, number, next);
+        if self.round.period > 0 && next >= self.round.behind {
+            self.go_round(network, number);
+        }
         self.waiting &= !(1 << number);
         self.waiting |= u32::from(listens) << number;
         self.listening |= u32::from(listens) << number;
         self.set_stop(number, stop);
         Some(())
+    }
+
+    /// A node's next passage is its own of the round's first rows, a period later. Where
+    /// that lies past all numbers of a tick no tick reaches it.
+    fn go_round(&mut self, network: &Network, number: usize) {
+        let period = self.round.period;
+        let node = &mut self.nodes[number % COMPONENTS];
+        node.moved = node.moved.saturating_add(period);
+        self.expect(network, number, self.round.first + number as u16);
     }
 
     /// Notes a node's next passage in the schedule.
@@ -248,7 +287,8 @@ impl Machine {
         let coming = network.schedule.passages().get(usize::from(passage));
         let node = &mut self.nodes[number % COMPONENTS];
         node.passage = passage;
-        node.ready = coming.map_or(u32::MAX, |passage| passage.ready);
+        let moved = node.moved;
+        node.ready = coming.map_or(u32::MAX, |passage| passage.ready.saturating_add(moved));
     }
 
     /// Not allowed: "a listen unless its window ends now".

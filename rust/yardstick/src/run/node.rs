@@ -39,6 +39,8 @@ pub(super) struct Node {
     pub(super) paired: u8,
     /// The place of its next passage in the schedule.
     pub(super) passage: u16,
+    /// By how many ticks the rows are moved for it.
+    pub(super) moved: u32,
     /// The ready of that passage.
     pub(super) ready: u32,
     /// The tick of its own clock at which its last work finished.
@@ -61,7 +63,7 @@ impl Node {
     /// The last tick of its window.
     #[inline]
     pub(super) fn window_end(&self) -> u32 {
-        self.t + self.d
+        self.t.saturating_add(self.d)
     }
 
     /// Whether there is an edge to be taken.
@@ -76,7 +78,7 @@ impl Node {
     pub(super) fn take(&mut self) -> u8 {
         let [ready, end] = self.kept;
         self.n = ready as u32;
-        self.t += self.d + self.n;
+        self.t = self.window_end().saturating_add(self.n);
         self.d = (end - ready) as u32;
         self.edge = self.kept_edge;
         self.edge

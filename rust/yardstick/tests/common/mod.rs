@@ -4,7 +4,7 @@
 
 use std::fs;
 use std::path::PathBuf;
-use yardstick::{Refusal, Yardstick, FIELDS, NO_MESSAGE, OBSERVATION};
+use yardstick::{Refusal, Run, Yardstick, FIELDS, NO_MESSAGE, OBSERVATION};
 
 /// A file of the repository as text.
 pub fn text(file: &str) -> String {
@@ -83,6 +83,12 @@ pub fn run(yardstick: &mut Yardstick, lent: usize, words: &[&str]) -> Result<Str
         [_, _] => yardstick.run(&table, &choices, &mut bytes),
         _ => yardstick.run_apart(&table, &choices, spread, &offsets, &mut bytes),
     };
+    run_told(run, &bytes)
+}
+
+/// The answer of a run in the words of the vectors; what stands past the observations,
+/// in bytes that were all 77, must have stayed.
+pub fn run_told(run: Result<Run, Refusal>, bytes: &[u8]) -> Result<String, Refusal> {
     let written = run.map_or(0, |run| run.size * OBSERVATION);
     assert!(bytes[written..].iter().all(|byte| *byte == 77));
     let run = run?;

@@ -1,0 +1,4 @@
+pub mod Front
+pub mod ReadBack
+pub mod Promised
+pub mod Final

@@ -1,0 +1,4 @@
+pub mod Recurrence
+pub mod RecurrenceCases
+pub mod Rows
+pub mod PairCases

@@ -1,0 +1,4 @@
+pub mod Moved
+pub mod Between
+pub mod Back
+pub mod Running
