@@ -1,4 +1,6 @@
 // Writes blocks of statements: that of a location, and that of an edge (document 01, 'The program').
+#![tactic(auto)]
+
 ghost use Rattle.std.specs.Prelude.{◌≡◌, cond, [], ◌∷◌, ◌++◌, map, ◌+◌, ◌*◌, ◌%◌, ◌≤◌, eqb, length};
 ghost use Rattle.model.specs.Lists.{below};
 ghost use Rattle.model.specs.Reader.{clock_guard_at, data_guard_at, update_at, pair_at};
@@ -11,7 +13,7 @@ ghost use Rattle.blocks.specs.FrontEdges.{arcs_at, ArcsFit};
 use model::{Action, Location, layout, op};
 
 // The parts of an edge from which statements are made.
-#[derive(Drop)]
+#[derive(Clone, Copy)]
 pub enum Kind {
     ClockGuards,
     DataGuards,

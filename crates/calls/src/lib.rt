@@ -1,5 +1,7 @@
 // The calls, for Rattle. Each contract equates the answer, and each lent number afterwards, with the call's
 // definition in model's specs/Calls.antt, for all inputs.
+#![tactic(auto)]
+
 pub mod apart;
 pub mod spread;
 
@@ -18,7 +20,7 @@ ghost use Rattle.calls.specs.Ran.{Answers};
 use model::{End, Verdict, layout};
 
 // The answer of a run: the end, the tick, the choices used and the observations written; after a refusal `Horizon`, 0, 0 and 0.
-#[derive(Drop)]
+#[derive(Clone, Copy)]
 pub struct Ran {
     pub verdict: Verdict,
     pub end: End,
@@ -28,7 +30,7 @@ pub struct Ran {
 }
 
 // The answer of a call that writes.
-#[derive(Drop)]
+#[derive(Clone, Copy)]
 pub struct Called {
     pub verdict: Verdict,
     pub size: usize,

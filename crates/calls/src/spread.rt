@@ -11,7 +11,7 @@ ghost use Rattle.calls.specs.Spread.{ScheduleRows};
 use model::{Verdict, layout};
 
 // The answer of `largest_spread`: the verdict without a spread, and the largest spread at which the table is accepted, 0 after a refusal.
-#[derive(Drop)]
+#[derive(Clone, Copy)]
 pub struct Spread {
     pub verdict: Verdict,
     pub spread: u32,

@@ -1,5 +1,7 @@
 // The rows of a schedule drawn as a chart, one row of 69 bytes a component, over the front of the lent bytes: first the chart of no
 // passage at all, then one window after the other.
+#![tactic(auto)]
+
 ghost use Rattle.std.specs.Prelude.{◌≡◌, ◌⊎◌, List, [], ◌++◌, ℕ, suc, ◌+◌, ◌*◌, ◌≤◌, ◌<◌, length, drop};
 ghost use Rattle.model.specs.Lists.{snoc};
 ghost use Rattle.model.specs.Table.{Table, size};
@@ -34,7 +36,7 @@ pub const ROW_CELLS: usize = 4;
 pub const ROW_LINE_FEED: usize = 68;
 
 // What a chart shows of a passage.
-#[derive(Drop)]
+#[derive(Clone, Copy)]
 pub struct Window {
     pub component: usize,
     pub letter: u8,

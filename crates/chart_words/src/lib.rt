@@ -1,4 +1,6 @@
 // All that is said of a table's schedule as a chart, a row a component; or `refused`, number, component.
+#![tactic(auto)]
+
 ghost use Rattle.std.specs.Prelude.{◌≡◌, ◌≤◌, length, take};
 ghost use Rattle.io.specs.Counts.{IsPrefixLen};
 ghost use Rattle.chart_words.specs.ChartText.{printed_chart};

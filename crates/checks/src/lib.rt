@@ -1,5 +1,7 @@
 // Checks 10 to 12 of document 01, over the rows of a finished schedule. In the place of 11 stands the number of the fault (document 02, wish 3).
 // Two windows count as sharing a tick where they lie no more than the spread apart (wish 6).
+#![tactic(auto)]
+
 mod crowded;
 pub mod distances;
 mod listeners;
@@ -24,7 +26,7 @@ use ticks::{overlap, put_off, tick};
 use unheard::{SendsHeard, hear_sends};
 
 // The first row at fault.
-#[derive(Drop)]
+#[derive(Clone, Copy)]
 pub enum Fault {
     Nothing,
     At(usize),

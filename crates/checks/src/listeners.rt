@@ -14,7 +14,7 @@ use crate::ticks::{cut_off, put_off, tick};
 
 // Who listens to a send: each component's row, the components as eight bits, and those of them that do so by more than one window. The rows
 // stand first: behind the two masks they would be copied out of step, which takes longer.
-#[derive(Drop)]
+#[derive(Clone, Copy)]
 pub struct Listeners {
     pub row: [usize; 8],
     pub listening: u8,

@@ -11,14 +11,14 @@ use crate::ticks::{put_off, tick};
 use model::Hearing;
 
 // How a send window is heard, and where it is heard well, by which row.
-#[derive(Drop)]
+#[derive(Clone, Copy)]
 struct Heard {
     hearing: Hearing,
     row: usize,
 }
 
 // How the sends are heard: each well and by a row of its own, all well but two of them by one row, or the first that is not, and how.
-#[derive(Drop)]
+#[derive(Clone, Copy)]
 pub enum SendsHeard {
     Apart,
     Shared,

@@ -1,4 +1,6 @@
 // Decodes the parts of an accepted table, one at a time, from the part's first byte on.
+#![tactic(auto)]
+
 ghost use Rattle.std.specs.Prelude.{◌≡◌, ℕ, ◌+◌, ◌*◌, ◌≤◌, ◌<◌, length};
 ghost use Rattle.model.specs.Lists.{or_else};
 ghost use Rattle.model.specs.Reader.{word, complement, location_at, clock_guard_at, data_guard_at, update_at, pair_at};

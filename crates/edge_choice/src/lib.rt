@@ -1,5 +1,7 @@
 // The call `edge_choice`: the edge that a component takes as it enters a location, and how many edges were looked at (document 02, wish 5).
 // The contract equates every number of the answer with the call's definition in model's specs/EdgeChoice.antt, for all inputs.
+#![tactic(auto)]
+
 ghost use Rattle.std.specs.Prelude.{◌≡◌, ◌<◌, length};
 ghost use Rattle.std.proofs.Math.Option.{none};
 ghost use Rattle.model.specs.Table.{size};
@@ -15,7 +17,7 @@ use window::{Choice, Entry};
 
 // The verdict of checks 1 to 6; whether an edge is taken, its number and its window, counted from the entry, 0 where none is; and how many
 // edges were looked at.
-#[derive(Drop)]
+#[derive(Clone, Copy)]
 pub struct EdgeChoice {
     pub verdict: Verdict,
     pub taken: bool,

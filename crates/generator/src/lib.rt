@@ -1,9 +1,11 @@
 // Marsaglia's 32-bit xorshift generator with shifts 13, 17, 5 (document 02, wish 10).
+#![tactic(auto)]
+
 ghost use Rattle.std.specs.Prelude.{◌≡◌};
 ghost use Rattle.generator.specs.Xorshift.{next_of};
 
 // The state, which is also the number drawn last.
-#[derive(Drop)]
+#[derive(Clone, Copy)]
 pub struct Generator {
     pub state: u32,
 }

@@ -1,5 +1,7 @@
 // One node whose registers the caller keeps: its start, one step and a message taken, by value (document 01, 'The run': "one node's
 // registers after the statement").
+#![tactic(auto)]
+
 ghost use Rattle.std.specs.Prelude.{◌≡◌};
 ghost use Rattle.node.specs.After.{start_of};
 ghost use Rattle.lent_node.specs.Step.{held_of, places_fit, registers_fit, may_step, stepped_of, message_of};

@@ -1,4 +1,6 @@
 // A program's listing, written into a lent slice line by line (document 01, 'The program').
+#![tactic(auto)]
+
 mod lines;
 mod statement;
 

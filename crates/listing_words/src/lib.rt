@@ -1,5 +1,7 @@
 // A program's listing, whole: the lines of `listing_text` in the definition's order, put into a lent slice. What lies past its end is not stored, and
 // counted all the same: an empty slice counts. Each function answers the place behind.
+#![tactic(auto)]
+
 ghost use Rattle.std.specs.Prelude.{◌++◌, ◌+◌, ◌-◌, ◌≤◌, ◌<◌, length};
 ghost use Rattle.blocks.specs.Put.{Put};
 ghost use Rattle.listing_text.specs.ListingText.{blocks_of, code_at, start_of, end_of, statements_text, block_head, blocks_text, node_text, nodes_text, listing_text};

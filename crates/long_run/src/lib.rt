@@ -1,5 +1,7 @@
 // The run to a horizon (document 02, wish 14): up to the table's own horizon of any accepted table; beyond it, where a state of all components comes again,
 // to any horizon of four bytes. The definition is `run_to_call` in specs/Recurrence.antt of `recurrence`.
+#![tactic(auto)]
+
 pub mod steps;
 
 ghost use Rattle.std.specs.Prelude.{◌≡◌, ◌&&◌, cond, false, true, List, ℕ, ◌*◌, ◌≤◌, ◌<◌, leb, ltb, length};
@@ -20,7 +22,7 @@ use model::{End, Verdict, layout};
 use recurrence::Pair;
 
 // The answer of a run to a horizon: the end, the tick, the choices used and the observations written; after a refusal `Horizon`, 0, 0 and 0.
-#[derive(Drop)]
+#[derive(Clone, Copy)]
 pub struct LongRan {
     pub verdict: Verdict,
     pub end: End,

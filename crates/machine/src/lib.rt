@@ -1,5 +1,7 @@
 // The nodes together: one choice, and the whole list of choices (document 01, 'The run'). The programs' bytes are carried out; the rows of
 // the schedule serve lateness alone.
+#![tactic(auto)]
+
 ghost use Rattle.std.specs.Prelude.{◌≡◌, true, cond, ◌&&◌, List, map, ℕ, ◌+◌, ◌-◌, ◌*◌, ◌≤◌, ◌<◌, leb, ℤ, length, drop, set};
 ghost use Rattle.model.specs.Lists.{is_none, below};
 ghost use Rattle.model.specs.Schedule.{own};
@@ -16,7 +18,7 @@ use model::{layout, op};
 use node::Node;
 
 // Whether a choice was allowed, and how many observations are written now.
-#[derive(Drop)]
+#[derive(Clone, Copy)]
 pub struct Moved {
     pub allowed: bool,
     pub written: usize,

@@ -1,6 +1,8 @@
 // Which windows met: for a table that checks 10 to 12 refuse (15 to 17 stand in the place of 11), the passage at fault and the passages that it
 // meets; at a spread, windows meet that are as close as it or closer.
 // The definition is model's specs/Meetings.antt.
+#![tactic(auto)]
+
 ghost use Rattle.std.specs.Prelude.{◌≡◌, ◌++◌, ◌+◌, ◌*◌, ◌≤◌, ◌<◌, length, drop};
 ghost use Rattle.model.specs.declared.Verdict.TheVariants.{Accepted, Refused};
 ghost use Rattle.model.specs.Lists.{only, each};
@@ -19,7 +21,7 @@ use checks::Fault;
 use model::{Verdict, layout};
 
 // Which of the questions 10 to 12 a passage fails.
-#[derive(Drop)]
+#[derive(Clone, Copy)]
 pub enum Question {
     Collision,
     Unheard,
@@ -27,7 +29,7 @@ pub enum Question {
 }
 
 // The verdict of checks 1 to 12 on the table; the call's own answer, 13 where the list is too short; and how many passages are listed.
-#[derive(Drop)]
+#[derive(Clone, Copy)]
 pub struct Listed {
     pub table: Verdict,
     pub verdict: Verdict,

@@ -1,5 +1,7 @@
 // One node: its registers, and what the statement at its program counter does to them (document 01, 'The program', last paragraph).
 // Any bytes may be the node's part.
+#![tactic(auto)]
+
 pub mod candidate;
 
 ghost use Rattle.std.specs.Prelude.{◌≡◌, true, ◌+◌, ◌-◌, ◌*◌, ◌≤◌, ◌<◌, ◌+ℤ◌, length, take, drop};
@@ -20,7 +22,7 @@ pub const BEYOND: u8 = 0x13;
 pub const NOWHERE: u8 = 0xFF;
 
 // How many clocks and variables the node has.
-#[derive(Drop)]
+#[derive(Clone, Copy)]
 pub struct Counts {
     pub clocks: u8,
     pub variables: u8,
@@ -28,7 +30,7 @@ pub struct Counts {
 
 // A trial: its ready delay, its end once it was lowered, and whether no bound failed.
 #[repr(C)]
-#[derive(Drop)]
+#[derive(Clone, Copy)]
 pub struct Trial {
     pub ready: u16,
     pub ended: bool,
@@ -38,7 +40,7 @@ pub struct Trial {
 
 // The edge kept, if any.
 #[repr(C)]
-#[derive(Drop)]
+#[derive(Clone, Copy)]
 pub struct Kept {
     pub some: bool,
     pub edge: u8,
@@ -48,7 +50,7 @@ pub struct Kept {
 
 // The registers. pc is the place of the next statement in the node's part; goes is the location paired with the message taken, if one was.
 #[repr(C)]
-#[derive(Drop)]
+#[derive(Clone, Copy)]
 pub struct Node {
     pub pc: usize,
     pub location: u8,

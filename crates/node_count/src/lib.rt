@@ -1,4 +1,6 @@
 // How many nodes a table has, for the programs that print a line or a number for each.
+#![tactic(auto)]
+
 ghost use Rattle.std.specs.Prelude.{◌≡◌};
 ghost use Rattle.model.specs.Reader.{byte};
 

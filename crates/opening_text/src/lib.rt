@@ -1,4 +1,6 @@
 // The opening at which the schedule stops, in words.
+#![tactic(auto)]
+
 ghost use Rattle.std.specs.Prelude.{◌≡◌, List, ◌++◌, ℕ, ◌+◌, ◌≤◌, length};
 ghost use Rattle.text.specs.Words.{Added};
 ghost use Rattle.opening_text.specs.OpeningText.{enters_words, entry_words, edges_words, update_words, reason_words, opening_text};

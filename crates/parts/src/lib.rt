@@ -1,4 +1,6 @@
 // The parts of a component: each is tried for fit, then for its numbers, front to back (checks 4 to 6 of document 01).
+#![tactic(auto)]
+
 ghost use Rattle.std.specs.Prelude.{◌≡◌, ◌&&◌, ◌||◌, [], ℕ, ◌+◌, ◌*◌, ◌^◌, ◌≤◌, ◌<◌, min, length, drop};
 ghost use Rattle.std.proofs.Math.Option.{none};
 ghost use Rattle.model.specs.Reader.{word, many, location_fine, clock_guard_fine, data_guard_fine, update_fine, pair_fine, counts_fine, edge_fine, read_channel, read_pairs, read_items, read_budget, read_arc_parts, read_arc_body, read_arc, listed};
@@ -7,14 +9,14 @@ ghost use Rattle.parts.specs.Place.{Passed, width_of, fine_of, passes, channels_
 use model::{Sizes, layout};
 
 // Where the next part starts, or the number of the question that a part fails.
-#[derive(Drop)]
+#[derive(Clone, Copy)]
 pub enum Next {
     At(usize),
     Fault(u8),
 }
 
 // The parts of one width.
-#[derive(Drop)]
+#[derive(Clone, Copy)]
 pub enum Kind {
     Locations,
     ClockGuards,

@@ -1,6 +1,8 @@
 // The schedule as a lent list of passages. The contract equates the answer, and the whole list afterwards, with the call's
 // definition in specs/Passages.antt, for all inputs. The work is done by value; two thin functions write to the list, and one
 // lends a list of its own.
+#![tactic(auto)]
+
 ghost use Rattle.std.specs.Prelude.{◌≡◌, ℕ, ◌+◌, ◌*◌, ◌≤◌, ◌<◌, length, replicate};
 ghost use Rattle.model.specs.declared.Verdict.TheVariants.{Refused};
 ghost use Rattle.passages.specs.Passages.{passages_call};
@@ -12,7 +14,7 @@ use model::{Verdict, layout};
 
 // A passage: its seven fields, 255 for no message.
 #[repr(C)]
-#[derive(Drop)]
+#[derive(Clone, Copy)]
 pub struct Passage {
     pub component: u8,
     pub edge: u8,
@@ -24,7 +26,7 @@ pub struct Passage {
 }
 
 // What a call is to answer and to write: the first `count` of the items.
-#[derive(Drop)]
+#[derive(Clone, Copy)]
 pub struct Planned {
     pub items: [Passage; 1024],
     pub count: usize,

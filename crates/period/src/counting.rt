@@ -14,7 +14,7 @@ ghost use Rattle.period.specs.Rounds.{RoundOf};
 use recurrence::Pair;
 
 // The rows entered before the round's begin, those before its end, its end and its length.
-#[derive(Drop)]
+#[derive(Clone, Copy)]
 pub struct Round {
     pub first: usize,
     pub second: usize,

@@ -2,6 +2,8 @@
 // carried along them, one entry a component. The rows alone tell the last tick at which all enter, and the last one before it at the same locations: a walk
 // to both compares the states. Where they differ, a second walk seeks the last one in its states. That gives the distance, and the last walk goes to the
 // first one whose states are there again at that distance. The definitions are specs/Recurrence.antt of `recurrence`.
+#![tactic(auto)]
+
 pub mod counting;
 mod states;
 
@@ -23,7 +25,7 @@ use recurrence::Pair;
 use window::Entry;
 
 // The verdict on a table, and the first pair of ticks at which all its components enter alike; found is false where there is none, and both are 0 then.
-#[derive(Drop)]
+#[derive(Clone, Copy)]
 pub struct Repeating {
     pub verdict: Verdict,
     pub found: bool,
@@ -32,7 +34,7 @@ pub struct Repeating {
 }
 
 // A place in the rows, and for each component the entry of its next passage from there on.
-#[derive(Drop)]
+#[derive(Clone, Copy)]
 pub struct Walker {
     pub row: usize,
     pub entries: [Entry; 8],

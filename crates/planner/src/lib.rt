@@ -1,6 +1,8 @@
 // The slot planner (document 02, wish 4): from four numbers the table of a cellar in which each probe has a slot of its own. The contract
 // of `plan` equates the answer, and every lent byte afterwards, with the call's definition in slot_plan's specs/Plan.antt, for all numbers;
 // and it says that the table written is accepted, and what its schedule is.
+#![tactic(auto)]
+
 ghost use Rattle.std.specs.Prelude.{◌≡◌, map, ◌+◌, ◌*◌, ◌≤◌, ◌<◌, length, take};
 ghost use Rattle.model.specs.declared.Verdict.TheVariants.{Accepted, Refused};
 ghost use Rattle.model.specs.Lists.{below, each};

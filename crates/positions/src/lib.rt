@@ -1,5 +1,7 @@
 // A batch of where-was-it (document 02, wish 11): the passage of each component at each tick asked, in one walk through the schedule. The definitions
 // are specs/Positions.antt of `model`.
+#![tactic(auto)]
+
 ghost use Rattle.std.specs.Prelude.{◌≡◌, [], ◌∷◌, ◌++◌, ◌+◌, ◌*◌, ◌≤◌, ◌<◌, length, drop};
 ghost use Rattle.std.proofs.lemmas.List.Edits.{sets};
 ghost use Rattle.model.specs.declared.Verdict.TheVariants.{Refused};
@@ -15,7 +17,7 @@ ghost use Rattle.positions.specs.Walks.{ReadUpTo, Walkable, Gives};
 use model::{Verdict, layout};
 
 // The verdict, and how many passages were read; 0 after a refusal.
-#[derive(Drop)]
+#[derive(Clone, Copy)]
 pub struct Positioned {
     pub verdict: Verdict,
     pub read: usize,

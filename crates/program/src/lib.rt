@@ -1,4 +1,6 @@
 // Program bytes, whatever they hold: where the part of one node stands (document 01, 'The program').
+#![tactic(auto)]
+
 ghost use Rattle.std.specs.Prelude.{◌≡◌};
 ghost use Rattle.model.specs.Program.{part_of, within};
 ghost use Rattle.program.specs.Part.{Spans};
@@ -6,7 +8,7 @@ ghost use Rattle.program.specs.Part.{Spans};
 use model::layout;
 
 // A range of bytes.
-#[derive(Drop)]
+#[derive(Clone, Copy)]
 pub struct Span {
     pub start: usize,
     pub long: usize,

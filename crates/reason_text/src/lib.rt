@@ -1,4 +1,6 @@
 // Why this edge, in words, written into a lent slice: the passage, then a line an edge from its location. The definition is specs/ReasonText.antt.
+#![tactic(auto)]
+
 pub mod words;
 
 ghost use Rattle.std.specs.Prelude.{◌≡◌, List, [], ◌++◌, ℕ, ◌+◌, ◌*◌, ◌≤◌, ◌<◌, length};

@@ -1,5 +1,7 @@
 // All that is said of why a component took the edge that it passes over at a tick, and no other: the passage, then a line an edge from its
 // location. Or `refused`, number, component and the question in words.
+#![tactic(auto)]
+
 ghost use Rattle.std.specs.Prelude.{◌≡◌, ◌≤◌, length, take};
 ghost use Rattle.io.specs.Counts.{IsPrefixLen};
 ghost use Rattle.reason_text.specs.ReasonText.{printed_reasons};

@@ -1,5 +1,7 @@
 // Why this edge (document 02, wish 7): the passage of a component at a tick, and the reason of each edge from its location. The definitions are
 // specs/Reasons.antt of `model`.
+#![tactic(auto)]
+
 pub mod telling;
 
 ghost use Rattle.std.specs.Prelude.{◌≡◌, ◌+◌, ◌*◌, ◌≤◌, ◌<◌, length};
@@ -21,7 +23,7 @@ use model::{Verdict, layout};
 use window::Entry;
 
 // The row of a passage, and its entry with clocks and variables.
-#[derive(Drop)]
+#[derive(Clone, Copy)]
 pub struct Stay {
     pub row: usize,
     pub at: Entry,
@@ -29,7 +31,7 @@ pub struct Stay {
 
 // The passage that a question names: its number, where its component starts in the table, its fields, and its entry with clocks and variables. After
 // a refusal there is none, and only the verdict counts.
-#[derive(Drop)]
+#[derive(Clone, Copy)]
 pub struct Asked {
     pub verdict: Verdict,
     pub number: usize,
@@ -43,7 +45,7 @@ pub struct Asked {
 }
 
 // The verdict, the number of the passage, and how many edges are told; both are 0 after a refusal.
-#[derive(Drop)]
+#[derive(Clone, Copy)]
 pub struct Told {
     pub verdict: Verdict,
     pub passage: usize,

@@ -1,5 +1,7 @@
 // Where the reader stopped: the place of a refusal with 4, 5 or 6 (document 01, 'Checks, in this order'). The definitions are specs/Ranges.antt and
 // specs/Walk.antt.
+#![tactic(auto)]
+
 mod contents;
 mod edges;
 mod steps;
@@ -14,7 +16,7 @@ use model::{Sizes, TableHeader, layout};
 
 // The parts of a table, in document 01's words: "each part (component, its first 7 bytes, location, edge's 7 bytes, bound, item)". A component begins
 // with its length; what is left over at its end, and behind the last one, is told as a part too.
-#[derive(Drop)]
+#[derive(Clone, Copy)]
 pub enum Part {
     ComponentLength,
     ComponentHead,
@@ -31,7 +33,7 @@ pub enum Part {
 }
 
 // A part by its numbers; 255 where it has none.
-#[derive(Drop)]
+#[derive(Clone, Copy)]
 pub struct Subject {
     pub component: u8,
     pub part: Part,
@@ -41,7 +43,7 @@ pub struct Subject {
 
 // A number of a part: where it stands in it, in how many bytes, and its range: from least up to, and without, limit; 65,535 besides where it may be
 // unbounded. A width of 0 says that it is no number of the part, but how many bytes there are.
-#[derive(Drop)]
+#[derive(Clone, Copy)]
 pub struct Field {
     pub offset: usize,
     pub width: usize,
@@ -52,7 +54,7 @@ pub struct Field {
 
 // Where the reader stopped: the number of the refusal, the part, the place of its first byte in the table, and the field at fault with its value. Where
 // it did not stop the number is 0 and the component 255.
-#[derive(Drop)]
+#[derive(Clone, Copy)]
 pub struct Place {
     pub number: u8,
     pub component: u8,
@@ -69,7 +71,7 @@ pub struct Place {
 }
 
 // The reader on its way: the place of the next part, and where it stopped.
-#[derive(Drop)]
+#[derive(Clone, Copy)]
 pub struct Walk {
     pub at: usize,
     pub place: Place,

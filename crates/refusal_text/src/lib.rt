@@ -1,4 +1,6 @@
 // A refusal in words: the number, the question that was asked, and the component.
+#![tactic(auto)]
+
 ghost use Rattle.std.specs.Prelude.{◌≡◌, List, ◌++◌, ℕ, ◌+◌, ◌≤◌, ◌<◌, length};
 ghost use Rattle.text.specs.Words.{Added};
 ghost use Rattle.refusal_text.specs.RefusalText.{question, concern, refusal_text};

@@ -1,5 +1,7 @@
 // Where the schedule stops: the opening that 7, 8 or 9 refuses, and why (document 01, 'Checks, in this order'). The definitions are
 // specs/Opening.antt of `opening_place`.
+#![tactic(auto)]
+
 pub mod reasons;
 pub mod updates;
 
@@ -18,7 +20,7 @@ use opening_place::RefusedOpening;
 use window::Entry;
 
 // How many edges leave the location, and how many of them have each reason.
-#[derive(Drop)]
+#[derive(Clone, Copy)]
 pub struct Tally {
     pub leaving: u8,
     pub blocked: u8,
@@ -26,14 +28,14 @@ pub struct Tally {
 }
 
 // Whether an update leaves the range, and the first that does.
-#[derive(Drop)]
+#[derive(Clone, Copy)]
 pub struct FirstOut {
     pub found: bool,
     pub update: u8,
 }
 
 // The edge taken and its first update that leaves the range; 255 where none does.
-#[derive(Drop)]
+#[derive(Clone, Copy)]
 pub struct Overflow {
     pub edge: u8,
     pub update: u8,

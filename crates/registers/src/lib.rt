@@ -1,5 +1,7 @@
 // The registers of eight nodes as numbers in two lent slices, 32 words and four variables a node, so that a choice touches one node and
 // copies no other.
+#![tactic(auto)]
+
 ghost use Rattle.std.specs.Prelude.{◌≡◌, List, ℕ, ◌+◌, ◌*◌, ◌%◌, ◌≤◌, ◌<◌, ℤ, length, set, take};
 ghost use Rattle.std.proofs.lemmas.List.Edits.{sets};
 ghost use Rattle.model.specs.Window.{clock_at, value_at};

@@ -1,4 +1,6 @@
 // Clocks and variables are not kept in the rows: they are found again along them, passage by passage.
+#![tactic(auto)]
+
 ghost use Rattle.std.specs.Prelude.{◌≤◌, ◌≡◌};
 ghost use Rattle.model.specs.Lists.{All};
 ghost use Rattle.model.specs.Schedule.{passage_arc};

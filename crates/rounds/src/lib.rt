@@ -1,4 +1,6 @@
 // The run to a horizon beyond the table's own (document 02, wish 14), in parts: one after the other by the same rows, each a period later.
+#![tactic(auto)]
+
 ghost use Rattle.std.specs.Prelude.{◌≡◌, List, [], ℕ, ◌+◌, ◌*◌, ◌≤◌, ◌<◌, length};
 ghost use Rattle.model.specs.Lists.{accepted};
 ghost use Rattle.model.specs.Reader.{byte};

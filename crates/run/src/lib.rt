@@ -1,4 +1,6 @@
 // The whole list of choices (document 01, 'The run'): the nodes at their programs' start, the choices one after the other, the end.
+#![tactic(auto)]
+
 ghost use Rattle.std.specs.Prelude.{◌≡◌, List, ℕ, ◌+◌, ◌*◌, ◌≤◌, ◌<◌, eqb, length, get_or};
 ghost use Rattle.model.specs.Lists.{any, below, accepted};
 ghost use Rattle.model.specs.Reader.{byte};
@@ -16,7 +18,7 @@ ghost use Rattle.run.specs.Ends.{Begun, PartEnds, EndsAs, FirstLate, Calm, Ticks
 const NO_WORK: u64 = 4294967295;
 
 // How a run ended: document 01's number of the end, the node, the tick, the choices used, the observations written.
-#[derive(Drop)]
+#[derive(Clone, Copy)]
 pub struct Ended {
     pub end: u8,
     pub node: u8,

@@ -1,4 +1,6 @@
 // A run in words, and its observations as a table.
+#![tactic(auto)]
+
 mod offsets;
 
 ghost use Rattle.std.specs.Prelude.{◌≡◌, List, ℕ, ◌+◌, ◌*◌, ◌≤◌, ◌<◌, length};

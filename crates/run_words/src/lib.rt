@@ -1,5 +1,7 @@
 // All that is said of a run of a table's programs under a list of choices: the end in words, the tick, the choices used, the offsets where one is
 // above 0, and the observations as a table; or `refused`, number, component and the question in words.
+#![tactic(auto)]
+
 ghost use Rattle.std.specs.Prelude.{◌≡◌, [], ◌++◌, ◌*◌, ◌≤◌, length, take};
 ghost use Rattle.io.specs.Counts.{IsPrefixLen};
 ghost use Rattle.model.specs.Run.{observation_width};

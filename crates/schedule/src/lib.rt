@@ -1,4 +1,6 @@
 // The schedule of a valid table, as rows in a lent slice: refusals 7 to 9, the messages, then checks 10 to 12.
+#![tactic(auto)]
+
 ghost use Rattle.std.specs.Prelude.{◌≡◌, [], ◌∷◌, ◌++◌, ℕ, ◌+◌, ◌*◌, ◌≤◌, ◌<◌, length, drop, pos};
 ghost use Rattle.std.proofs.lemmas.List.Edits.{sets};
 ghost use Rattle.model.specs.declared.Verdict.TheVariants.{Accepted, Refused};
@@ -16,7 +18,7 @@ use model::{Verdict, layout};
 use window::{Entry, Opening, TakenEdge};
 
 // The open passage of a component.
-#[derive(Drop)]
+#[derive(Clone, Copy)]
 pub struct Node {
     pub entry: Entry,
     pub place: usize,
@@ -24,7 +26,7 @@ pub struct Node {
 }
 
 // The message of a passage that closes, where it leads to, and what opens there.
-#[derive(Drop)]
+#[derive(Clone, Copy)]
 pub struct Turn {
     pub message: u8,
     pub at: Entry,
@@ -32,7 +34,7 @@ pub struct Turn {
 }
 
 // The verdict on the openings at tick 0, and the open passages with the ticks at which they end; after a refusal the entry of the opening refused.
-#[derive(Drop)]
+#[derive(Clone, Copy)]
 pub struct Opened {
     pub verdict: Verdict,
     pub nodes: [Node; 8],
@@ -41,14 +43,14 @@ pub struct Opened {
 }
 
 // The verdict, and how many passages there are (0 after a refusal).
-#[derive(Drop)]
+#[derive(Clone, Copy)]
 pub struct Scheduled {
     pub verdict: Verdict,
     pub count: usize,
 }
 
 // How the schedule ended; after a refusal how many passages were opened before, and the entry of the opening refused.
-#[derive(Drop)]
+#[derive(Clone, Copy)]
 pub struct Ended {
     pub scheduled: Scheduled,
     pub passage: usize,

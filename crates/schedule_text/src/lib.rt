@@ -1,4 +1,6 @@
 // A schedule as a text, from passages, written into a lent slice.
+#![tactic(auto)]
+
 ghost use Rattle.std.specs.Prelude.{◌≡◌, List, ◌++◌, map, ℕ, ◌+◌, ◌*◌, ◌≤◌, length, take};
 ghost use Rattle.rows.specs.Rows.{message_of};
 ghost use Rattle.text.specs.Words.{Added};

@@ -1,5 +1,7 @@
 // All that is said of a table's schedule: a line a passage, or `refused`, number, component. The passages are those that were written through a
 // lent list.
+#![tactic(auto)]
+
 ghost use Rattle.std.specs.Prelude.{◌≡◌, ◌≤◌, length, take};
 ghost use Rattle.io.specs.Counts.{IsPrefixLen};
 ghost use Rattle.schedule_text.specs.ScheduleText.{printed_schedule};

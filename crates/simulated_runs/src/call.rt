@@ -17,7 +17,7 @@ use generator::Generator;
 use model::Verdict;
 
 // The answer: the late runs in all, and of each node; and the generator afterwards. All 0 after a refusal.
-#[derive(Drop)]
+#[derive(Clone, Copy)]
 pub struct Simulation {
     pub verdict: Verdict,
     pub late: u32,

@@ -1,4 +1,6 @@
 // Simulated runs of a table, each going on with the generator of the last (document 02, wish 10). Here the loop over them.
+#![tactic(auto)]
+
 pub mod call;
 
 ghost use Rattle.std.specs.Prelude.{◌≡◌, List, ◌≤◌};
@@ -18,7 +20,7 @@ use model::layout;
 use simulator::runs::Tried;
 
 // The late runs in all, and of each node; and the generator afterwards.
-#[derive(Drop)]
+#[derive(Clone, Copy)]
 pub struct Tally {
     pub late: u32,
     pub nodes: [u32; 8],

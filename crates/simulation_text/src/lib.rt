@@ -1,4 +1,6 @@
 // Simulated runs in words: how many there were, how many of them ended late, in all and of each node, and the generator afterwards.
+#![tactic(auto)]
+
 ghost use Rattle.std.specs.Prelude.{◌≡◌, List, ℕ, ◌+◌, ◌*◌, ◌≤◌, ◌<◌, length};
 ghost use Rattle.text.specs.Words.{Added};
 ghost use Rattle.simulation_text.specs.SimulationText.{node_line, node_lines, simulation_text};

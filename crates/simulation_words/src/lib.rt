@@ -1,5 +1,7 @@
 // All that is said of simulated runs of a table with drawn work times: how many ended late, in all and of each node, and the generator afterwards.
 // Or `refused`, number, component and the question in words.
+#![tactic(auto)]
+
 ghost use Rattle.std.specs.Prelude.{◌≡◌, ◌≤◌, length, take};
 ghost use Rattle.io.specs.Counts.{IsPrefixLen};
 ghost use Rattle.simulation_text.specs.SimulationText.{printed_simulation};

@@ -1,4 +1,6 @@
 // Simulated runs of a table's programs with drawn work times (document 02, wish 10). Here the turns of one run.
+#![tactic(auto)]
+
 pub mod early;
 pub mod idle;
 pub mod runs;
@@ -13,7 +15,7 @@ use generator::Generator;
 use model::op;
 
 // Whether a node moved in its turn, and the generator afterwards.
-#[derive(Drop)]
+#[derive(Clone, Copy)]
 pub struct Outcome {
     pub moved: bool,
     pub state: u32,
@@ -21,7 +23,7 @@ pub struct Outcome {
 
 // A simulated run after a turn, or after many at once: whether it is over, and then the late node, 255 where none is; its tick, whose turn it is,
 // whether one has moved since turn 0, the generator; how many turns they were.
-#[derive(Drop)]
+#[derive(Clone, Copy)]
 pub struct Turn {
     pub over: bool,
     pub node: u8,

@@ -5,7 +5,7 @@ ghost use Rattle.machine.specs.Running.{setting_in, Running};
 ghost use Rattle.simulator.specs.Answers.{TriedAs};
 
 // How a simulated run ended: the late node, 255 where none is, and the generator afterwards.
-#[derive(Drop)]
+#[derive(Clone, Copy)]
 pub struct Tried {
     pub node: u8,
     pub state: u32,

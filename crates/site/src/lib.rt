@@ -1,4 +1,6 @@
 // Four networks under one airtime limit (document 02, wish 13): a table's airtime, and a site of four places, by value.
+#![tactic(auto)]
+
 ghost use Rattle.std.specs.Prelude.{◌≡◌, ◌≤◌, ◌<◌};
 ghost use Rattle.model.specs.declared.Verdict.TheVariants.{Refused};
 ghost use Rattle.model.specs.Lists.{all};
@@ -14,7 +16,7 @@ use model::{Verdict, layout};
 // A site: its limit, the horizon and the airtime of the network in each place (horizon 0: the place is empty); then what the last call said: the
 // airtime in use, and 0 or the number of its refusal with the component concerned.
 #[repr(C)]
-#[derive(Drop)]
+#[derive(Clone, Copy)]
 pub struct Networks {
     pub limit: u32,
     pub horizons: [u16; 4],
@@ -25,7 +27,7 @@ pub struct Networks {
 }
 
 // The verdict on a table, its horizon and its airtime; 0 and 0 after a refusal.
-#[derive(Drop)]
+#[derive(Clone, Copy)]
 pub struct Loaded {
     pub verdict: Verdict,
     pub horizon: u16,

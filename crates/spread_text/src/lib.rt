@@ -1,4 +1,6 @@
 // How far apart windows are, in words: nodes may wake up to a spread of ticks apart.
+#![tactic(auto)]
+
 ghost use Rattle.std.specs.Prelude.{◌≡◌, List, ◌++◌, ℕ, ◌+◌, ◌≤◌, ◌<◌, length};
 ghost use Rattle.text.specs.Words.{decimal, Added};
 ghost use Rattle.spread_text.specs.SpreadWords.{ticks, lacking, spread_line, meeting_words, near_words, start_margin, end_margin, from_words, until_words, listen_words, around_words};

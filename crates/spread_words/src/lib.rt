@@ -1,5 +1,7 @@
 // All that is said of the largest spread of the nodes' starts at which a table is accepted; or `refused`, number, component and the question in
 // words, where it is not accepted without one.
+#![tactic(auto)]
+
 ghost use Rattle.std.specs.Prelude.{◌≤◌, length, take};
 ghost use Rattle.io.specs.Counts.{IsPrefixLen};
 ghost use Rattle.text.specs.Words.{Added};

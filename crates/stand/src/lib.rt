@@ -1,5 +1,7 @@
 // What a node stands at: the channels it listens on, whether it may finish its statement, when it is due and when it is late
 // (document 01, 'The run').
+#![tactic(auto)]
+
 ghost use Rattle.std.specs.Prelude.{◌≡◌, List, ℕ, ◌+◌, ◌≤◌, eqb, ◌+ℤ◌, length, drop};
 ghost use Rattle.model.specs.Lists.{any};
 ghost use Rattle.model.specs.Reader.{word, complement};

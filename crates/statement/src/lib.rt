@@ -1,5 +1,7 @@
 // One statement, over the words of a node in the slices: only the words that it uses are read, and only those that it changes are put
 // (document 01, 'The program', last paragraph). What it does is told by the leaf functions of `node`, which the lent registers share.
+#![tactic(auto)]
+
 ghost use Rattle.std.specs.Prelude.{◌≡◌, true, List, ◌≤◌, ◌<◌, ℤ, length, drop};
 ghost use Rattle.model.specs.Lists.{All};
 ghost use Rattle.model.specs.Reader.{byte};

@@ -1,4 +1,6 @@
 // The reader: checks 1 to 6 of document 01, over the table's bytes.
+#![tactic(auto)]
+
 ghost use Rattle.std.specs.Prelude.{◌≡◌, ℕ, ◌+◌, ◌≤◌, ◌<◌, length, drop, get_or};
 ghost use Rattle.model.specs.Reader.{head_fine, header_at, read_body, read_component, read_components, length_fine, count_fine, body_start, bands_fine};
 ghost use Rattle.table.specs.Directory.{tried_of, refusal, header_of, reading_from, reading_of, reading_at};
@@ -7,14 +9,14 @@ use model::{Sizes, TableHeader, Verdict, layout};
 use parts::{Kind, Next};
 
 // Whether a component is fine, or the number of the question that it fails.
-#[derive(Drop)]
+#[derive(Clone, Copy)]
 pub enum Tried {
     Fine,
     Fails(u8),
 }
 
 // The reader's answer: the verdict, and where each component starts (0 for an absent one, and after a refusal).
-#[derive(Drop)]
+#[derive(Clone, Copy)]
 pub struct Reading {
     pub verdict: Verdict,
     pub starts: [u16; 8],

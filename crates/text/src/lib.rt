@@ -1,5 +1,7 @@
 // Words, numbers and columns, written into a lent slice: each function adds its words after those that stand there, and answers
 // where they end. And numbers, read from their digits.
+#![tactic(auto)]
+
 mod columns;
 mod numbers;
 

@@ -3,7 +3,7 @@ ghost use Rattle.std.specs.Prelude.{◌≡◌, List, ◌∷◌, ℕ, ◌≤◌};
 ghost use Rattle.text.specs.Numbers.{read_on, number_of};
 
 // What a word is: a number of 32 bits, or none.
-#[derive(Drop)]
+#[derive(Clone, Copy)]
 pub enum Number {
     Read(u32),
     Unreadable,

@@ -6,7 +6,7 @@ use crate::verdict_numbers;
 
 // The answer of the call for positions: the verdict as two numbers, and how many passages were read, 0 after a refusal.
 #[repr(C)]
-#[derive(Drop)]
+#[derive(Clone, Copy)]
 pub struct PositionNumbers {
     pub number: u8,
     pub component: u8,

@@ -6,7 +6,7 @@ use crate::verdict_numbers;
 
 // The answer of the call for reasons: the verdict as two numbers, the number of the passage, and how many edges are told; both are 0 after a refusal.
 #[repr(C)]
-#[derive(Drop)]
+#[derive(Clone, Copy)]
 pub struct ReasonNumbers {
     pub number: u8,
     pub component: u8,

@@ -1,5 +1,7 @@
 // The library for other languages: every exported call and nothing else. Each is a thin function over the call of the same
 // name in a crate below, with the answer written out as numbers.
+#![tactic(auto)]
+
 pub mod component_positions;
 pub mod early;
 pub mod edge_reasons;
@@ -40,7 +42,7 @@ use window::Entry;
 
 // A verdict as two numbers: 0 for accepted, else the number of the refusal; and the component concerned, 255 for none.
 #[repr(C)]
-#[derive(Drop)]
+#[derive(Clone, Copy)]
 pub struct VerdictNumbers {
     pub number: u8,
     pub component: u8,
@@ -48,7 +50,7 @@ pub struct VerdictNumbers {
 
 // The same with the size of the result, 0 after a refusal.
 #[repr(C)]
-#[derive(Drop)]
+#[derive(Clone, Copy)]
 pub struct CallNumbers {
     pub number: u8,
     pub component: u8,
@@ -57,7 +59,7 @@ pub struct CallNumbers {
 
 // The part of one node as a range of the program's bytes; 0 and 0 where there is none.
 #[repr(C)]
-#[derive(Drop)]
+#[derive(Clone, Copy)]
 pub struct PartNumbers {
     pub start: usize,
     pub length: usize,
@@ -65,7 +67,7 @@ pub struct PartNumbers {
 
 // The answer of a run as numbers.
 #[repr(C)]
-#[derive(Drop)]
+#[derive(Clone, Copy)]
 pub struct RunNumbers {
     pub number: u8,
     pub component: u8,
@@ -77,7 +79,7 @@ pub struct RunNumbers {
 }
 
 // A run's end as two numbers: document 01's number of the end, and the node, 255 unless it is late.
-#[derive(Drop)]
+#[derive(Clone, Copy)]
 struct EndNumbers {
     number: u8,
     node: u8,
@@ -106,7 +108,7 @@ fn end_numbers(end: End) -> EndNumbers
 // The answer of the call for meetings: its own as two numbers, the verdict of checks 1 to 12 on the table likewise, and how many passages
 // are listed.
 #[repr(C)]
-#[derive(Drop)]
+#[derive(Clone, Copy)]
 pub struct MeetingsNumbers {
     pub number: u8,
     pub component: u8,
@@ -117,7 +119,7 @@ pub struct MeetingsNumbers {
 
 // A component as it enters a location, as numbers.
 #[repr(C)]
-#[derive(Drop)]
+#[derive(Clone, Copy)]
 pub struct EntryNumbers {
     pub component: u8,
     pub location: u8,
@@ -127,7 +129,7 @@ pub struct EntryNumbers {
 
 // The answer of the edge choice as numbers: the edge taken, if any, its window counted from the entry, and how many edges were looked at.
 #[repr(C)]
-#[derive(Drop)]
+#[derive(Clone, Copy)]
 pub struct EdgeChoiceNumbers {
     pub number: u8,
     pub component: u8,

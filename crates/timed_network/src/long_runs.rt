@@ -11,7 +11,7 @@ use long_run::LongRan;
 
 // The answer of a run to a horizon as numbers.
 #[repr(C)]
-#[derive(Drop)]
+#[derive(Clone, Copy)]
 pub struct RunToNumbers {
     pub number: u8,
     pub component: u8,

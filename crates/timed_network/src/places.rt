@@ -9,7 +9,7 @@ use crate::EntryNumbers;
 
 // The place of a refusal as numbers, each as in `refusal_place::Place`; the number 0 where none of 4 to 6 refuses the table.
 #[repr(C)]
-#[derive(Drop)]
+#[derive(Clone, Copy)]
 pub struct PlaceNumbers {
     pub number: u8,
     pub component: u8,
@@ -51,7 +51,7 @@ pub extern "C" fn timed_network_refusal_place(table: &[u8]) -> PlaceNumbers
 // The opening that is refused as numbers, each as in `opening_place::RefusedOpening`, with the entry in the form that the edge choice takes; the number 0
 // where none of 7 to 9 refuses the table.
 #[repr(C)]
-#[derive(Drop)]
+#[derive(Clone, Copy)]
 pub struct OpeningNumbers {
     pub number: u8,
     pub component: u8,

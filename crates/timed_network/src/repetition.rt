@@ -6,7 +6,7 @@ use crate::verdict_numbers;
 
 // The answer of the call for the pair: the verdict as two numbers, whether there is a pair, and its two ticks, 0 and 0 where there is none.
 #[repr(C)]
-#[derive(Drop)]
+#[derive(Clone, Copy)]
 pub struct PeriodNumbers {
     pub number: u8,
     pub component: u8,

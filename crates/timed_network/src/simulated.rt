@@ -10,7 +10,7 @@ use simulated_runs::call::Simulation;
 // The answer of the calls for simulated runs: the verdict as two numbers, the runs that ended late, those of each node, and the generator afterwards; all
 // but the verdict are 0 after a refusal.
 #[repr(C)]
-#[derive(Drop)]
+#[derive(Clone, Copy)]
 pub struct SimulationNumbers {
     pub number: u8,
     pub component: u8,

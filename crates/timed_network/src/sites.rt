@@ -10,7 +10,7 @@ use site::Networks;
 
 // A table's verdict as two numbers, its horizon and its airtime; 0 and 0 after a refusal.
 #[repr(C)]
-#[derive(Drop)]
+#[derive(Clone, Copy)]
 pub struct AirtimeNumbers {
     pub number: u8,
     pub component: u8,

@@ -16,7 +16,7 @@ use crate::{
 
 // The answer of the call for the largest spread: the verdict without a spread as two numbers, and the spread, 0 after a refusal.
 #[repr(C)]
-#[derive(Drop)]
+#[derive(Clone, Copy)]
 pub struct SpreadNumbers {
     pub number: u8,
     pub component: u8,

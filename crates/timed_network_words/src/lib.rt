@@ -1,5 +1,7 @@
 // The words of the programs for other languages: every exported call and nothing else. Each is a thin function over the function that its program
 // prints the words of, laid over the front of the bytes lent.
+#![tactic(auto)]
+
 ghost use Rattle.std.specs.Prelude.{◌≡◌, ◌≤◌, length, take};
 ghost use Rattle.io.specs.Counts.{IsPrefixLen};
 ghost use Rattle.refusal_text.specs.RefusalText.{refusal_text};
@@ -14,7 +16,7 @@ ghost use Rattle.timed_network_words.specs.Laid.{WordsOf, SpreadWordsOf};
 
 // 0, or 13 where the bytes lent do not hold the text; and how many bytes it has, in both cases.
 #[repr(C)]
-#[derive(Drop)]
+#[derive(Clone, Copy)]
 pub struct WordsNumbers {
     pub number: u8,
     pub size: usize,

@@ -1,5 +1,7 @@
 // The call `timing_chart`: the schedule of an accepted table as a chart. The contract equates the answer, and every lent byte afterwards,
 // with the call's definition in model's specs/Chart.antt, for all inputs.
+#![tactic(auto)]
+
 ghost use Rattle.std.specs.Prelude.{◌≡◌, ◌≤◌};
 ghost use Rattle.model.specs.declared.Verdict.TheVariants.{Refused};
 ghost use Rattle.model.specs.Reader.{byte};

@@ -1,4 +1,6 @@
 // The translator: how long the program of a valid table is, and its bytes (document 01, 'The program').
+#![tactic(auto)]
+
 ghost use Rattle.std.specs.Prelude.{◌≡◌, cond, [], ◌∷◌, ◌++◌, map, ◌+◌, ◌-◌, ◌*◌, ◌/◌, ◌≤◌, ◌<◌, length, drop};
 ghost use Rattle.model.specs.Lists.{be16, each};
 ghost use Rattle.model.specs.Reader.{byte, clock_guard_at};

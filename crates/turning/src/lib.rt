@@ -1,4 +1,6 @@
 // Between two parts of a run to a horizon beyond the table's own: the rows are a period later, and the nodes stand a period's sleeps back.
+#![tactic(auto)]
+
 ghost use Rattle.std.specs.Prelude.{◌≡◌, List, map, ℕ, ◌+◌, ◌-◌, ◌*◌, ◌≤◌, ◌<◌, ℤ, length, get_or, set};
 ghost use Rattle.recurrence.proofs.Turned.{capped};
 ghost use Rattle.later_runs.proofs.Front.{delayed};

@@ -1,6 +1,8 @@
 // The call `uppaal`: an accepted table as a text for UPPAAL. The contract equates the answer, and every lent byte afterwards, with the call's
 // definition in uppaal's specs/UppaalCall.antt, for all inputs; the parts that are written have the table's paths; and the bytes of an accepted
 // table, read by the tool's grammar, are a network that has them.
+#![tactic(auto)]
+
 ghost use Rattle.std.specs.Prelude.{◌≡◌, true, ◌≤◌, length, take};
 ghost use Rattle.model.specs.declared.Verdict.TheVariants.{Accepted, Refused};
 ghost use Rattle.model.specs.Reader.{byte};
@@ -17,7 +19,7 @@ ghost use Rattle.uppaal_call.specs.LaidText.{laid_text};
 use model::{Verdict, layout};
 
 // The answer: the verdict, and how many bytes the text has, 0 after a refusal.
-#[derive(Drop)]
+#[derive(Clone, Copy)]
 pub struct Exported {
     pub verdict: Verdict,
     pub size: usize,

@@ -82,7 +82,7 @@ pub fn put_updates(bytes: &[u8], count: u8, out: &mut [u8], at: usize) -> usize
 }
 
 // Where the text stands, and whether no assignment was written yet.
-#[derive(Drop)]
+#[derive(Clone, Copy)]
 pub struct Led {
     pub at: usize,
     pub first: bool,

@@ -1,4 +1,6 @@
 // The pieces of a guard for UPPAAL, from the bytes of an edge: upper bounds, lows and data bounds.
+#![tactic(auto)]
+
 ghost use Rattle.std.specs.Prelude.{◌≡◌, ◌++◌, ℕ, pred, ◌+◌, ◌*◌, ◌≤◌, length};
 ghost use Rattle.model.specs.Reader.{complement, clock_guard_at, data_guard_at};
 ghost use Rattle.blocks.specs.Put.{Put};
@@ -11,7 +13,7 @@ pub mod assignments;
 pub mod ranges;
 
 // Where the text stands, and which of the upper bounds that follow is reached.
-#[derive(Drop)]
+#[derive(Clone, Copy)]
 pub struct Mark {
     pub at: usize,
     pub tight: u8,

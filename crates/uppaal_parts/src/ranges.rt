@@ -9,7 +9,7 @@ ghost use Rattle.uppaal.specs.Export.{number, more, plus, after, summed};
 ghost use Rattle.uppaal_parts.specs.Marks.{less_bias, total_of, stays_text, range_of, ranges_text};
 
 // What a variable is worth while the updates act: a number, or a number more than its value at entry. The number is kept 16,777,216 larger.
-#[derive(Drop)]
+#[derive(Clone, Copy)]
 pub struct Total {
     pub known: bool,
     pub sum: u32,

@@ -1,4 +1,6 @@
 // Writes the waiting locations and the transitions of an edge for UPPAAL, from the edge's bytes.
+#![tactic(auto)]
+
 ghost use Rattle.std.specs.Prelude.{◌≡◌, true, map, ℕ, ◌+◌, ◌-◌, ◌*◌, ◌≤◌, length};
 ghost use Rattle.model.specs.Lists.{each, from};
 ghost use Rattle.model.specs.Reader.{pair_at};
@@ -17,7 +19,7 @@ pub mod heard;
 pub mod names;
 
 // An edge besides its bytes: its number, the invariant of its location, the clocks of its component, and whether edges have a budget.
-#[derive(Drop)]
+#[derive(Clone, Copy)]
 pub struct Origin {
     pub number: u8,
     pub location: Location,

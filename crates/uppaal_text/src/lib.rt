@@ -1,4 +1,6 @@
 // Writes a valid table for UPPAAL: its processes and the system. What lies past the buffer's end is counted and not stored.
+#![tactic(auto)]
+
 ghost use Rattle.std.specs.Prelude.{◌≡◌, ◌++◌, ℕ, ◌+◌, ◌-◌, ◌*◌, ◌≤◌, ◌<◌, length, drop};
 ghost use Rattle.model.specs.Lists.{each, from};
 ghost use Rattle.model.specs.Table.{location_of};

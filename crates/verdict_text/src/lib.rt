@@ -1,4 +1,6 @@
 // Which windows met, in words; where a send is not heard well, also the remedy. The spread is 0 where there is none.
+#![tactic(auto)]
+
 pub mod remedy;
 
 ghost use Rattle.std.specs.Prelude.{◌≡◌, List, ◌++◌, ℕ, ◌+◌, ◌*◌, ◌-◌, ◌≤◌, ◌<◌, length, drop};

@@ -1,6 +1,8 @@
 // All that is said of a table at a spread: its verdict in words: the number, the question that was asked, and the component; after 4 to 6 also
 // where in the bytes the reader stopped, after 7 to 9 at which opening the schedule did, after 10 to 12 and 15 to 17 which windows met, and where
 // a send is not heard well the remedy.
+#![tactic(auto)]
+
 ghost use Rattle.std.specs.Prelude.{◌≡◌, ◌++◌, ◌+◌, ◌*◌, ◌≤◌, ◌<◌, length, take};
 ghost use Rattle.io.specs.Counts.{IsPrefixLen};
 ghost use Rattle.model.specs.declared.Verdict.TheVariants.{Refused};

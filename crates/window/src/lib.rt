@@ -1,4 +1,6 @@
 // The window of an edge, the edge taken, and what a passage leads to (document 01, 'Passage and schedule').
+#![tactic(auto)]
+
 ghost use Rattle.std.specs.Prelude.{◌≡◌, cond, ◌&&◌, ℕ, suc, ◌+◌, ◌-◌, ◌*◌, min, max, ◌≤◌, ◌<◌, eqb, ltb, length};
 ghost use Rattle.std.specs.Int.Signed.{le_z};
 ghost use Rattle.model.specs.Lists.{All};
@@ -16,7 +18,7 @@ pub mod updates;
 use model::{Action, ClockGuard, DataGuard, Location, layout};
 
 // A component as it enters a location. The clocks and variables that it lacks stand among the four and are never read.
-#[derive(Drop)]
+#[derive(Clone, Copy)]
 pub struct Entry {
     pub location: u8,
     pub tick: u32,
@@ -25,14 +27,14 @@ pub struct Entry {
 }
 
 // The delays at which invariant and clock bounds hold: from ready up to, and without, past.
-#[derive(Drop)]
+#[derive(Clone, Copy)]
 pub struct Delays {
     pub ready: u32,
     pub past: u32,
 }
 
 // An edge, the place of its first byte, and its window, both ends included, counted from the entry.
-#[derive(Drop)]
+#[derive(Clone, Copy)]
 pub struct TakenEdge {
     pub edge: u8,
     pub place: usize,
@@ -41,7 +43,7 @@ pub struct TakenEdge {
 }
 
 // The best edge so far, as plain numbers without gaps between them. A ready above 65535 says that there is none.
-#[derive(Drop)]
+#[derive(Clone, Copy)]
 pub struct Choice {
     pub edge: usize,
     pub place: usize,
@@ -51,7 +53,7 @@ pub struct Choice {
 
 // What an edge is at an entry: it leaves another location, a data bound fails (the first that does), it has no window of at least one tick's length and
 // the budget's, or it is a candidate, with its ready and the first delay past its end.
-#[derive(Drop)]
+#[derive(Clone, Copy)]
 pub enum Standing {
     Elsewhere,
     Blocked(u8),
@@ -60,26 +62,26 @@ pub enum Standing {
 }
 
 // What the search found: the edge taken, and how many edges were looked at.
-#[derive(Drop)]
+#[derive(Clone, Copy)]
 pub struct Search {
     pub choice: Choice,
     pub looked: usize,
 }
 
-#[derive(Drop)]
+#[derive(Clone, Copy)]
 pub struct Updated {
     pub fits: bool,
     pub values: [i16; 4],
 }
 
-#[derive(Drop)]
+#[derive(Clone, Copy)]
 enum NewValue {
     Fits(i16),
     Out,
 }
 
 // An edge opens a passage, or the number of the refusal (8 or 9).
-#[derive(Drop)]
+#[derive(Clone, Copy)]
 pub enum Opening {
     Opens(TakenEdge),
     Fails(u8),
