@@ -1,10 +1,10 @@
 -- What is printed, from what the call answers: 552 bytes are never too few. Assumes nothing.
-use mathlib.Core.Path.{◌≡◌, refl, sym, ap, subst, ◌∙◌}
+use mathlib.Core.Path.{◌≡◌, refl, ap}
 use mathlib.Core.Bool.{Bool, true, false, cond}
 use mathlib.Core.List.{List, ◌++◌}
-use Prim.Native.Nat.{ℕ, ◌*◌, ◌≤◌}
+use Prim.Native.Nat.{ℕ, ◌≤◌}
 use native.Mathlib.Omega.{arith}
-use borrow.Author.Tests.{leb-true, leb-false}
+use borrow.Author.Tests.{leb-false}
 use lib.Dec.{leb}
 use lib.ListN.{length, take, drop}
 use lib.Seq.{take-append_seam}
@@ -14,7 +14,7 @@ use Rattle.model.specs.Table.{Read}
 use Rattle.model.specs.Reader.{read_table}
 use Rattle.model.specs.Schedule.{Passage}
 use Rattle.model.specs.Checks.{accepted_schedule_of}
-use Rattle.model.specs.Calls.{Call, refusing, laid, bytes_with}
+use Rattle.model.specs.Calls.{refusing, bytes_with}
 use Rattle.model.specs.Chart.{chart, chart_in, chart_call}
 use Rattle.model.proofs.Reader.RoundTrip.{written_read}
 use Rattle.model.proofs.Schedule.Charted.{chart_length}

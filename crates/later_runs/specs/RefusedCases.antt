@@ -46,6 +46,7 @@ none_there a b r =
       where
         go : {x : ℕ} (v : Passage) → v.entry.tick ≡ x → v ∈ once → x ≡ 0
         go v q (here h) = sym q ∙ ap (λ (w : Passage). w.entry.tick) h
+        go v q (there x5) = elim x5 [ ]
 
 -- to 6 there is 0 and 5
 again : Recurs (anew 6).table 6 twice 0 5

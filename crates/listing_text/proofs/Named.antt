@@ -1,9 +1,9 @@
 -- The names of statements by their op. Assumes nothing.
-use mathlib.Core.Path.{◌≡◌, sym, ap, ap₂, ◌∙◌}
-use mathlib.Core.List.{List, [], ◌∷◌, ◌++◌}
+use mathlib.Core.Path.{◌≡◌, sym, ap, ap₂}
+use mathlib.Core.List.{List, [], ◌∷◌}
 use Prim.Native.Nat.{ℕ, ◌/◌, ◌%◌, ◌≤◌}
-use lib.ListN.{take, get_or-eq_default}
-use Rattle.text.specs.Words.{Added, decimal}
+use lib.ListN.{get_or-eq_default}
+use Rattle.text.specs.Words.{Added}
 use Rattle.text.proofs.Appended.{same_words}
 use Rattle.listing_text.specs.StatementText.{hex_digit, hex_byte, named, no_statement, statement_words}
 

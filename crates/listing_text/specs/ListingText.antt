@@ -1,6 +1,6 @@
 -- A program's listing, for any bytes (document 01, "The program"). What a damaged program states and does not hold is said in a
 -- line of its own, and the listing goes on with what can still be read.
-use Rattle.std.specs.Prelude.{cond, List, [], ◌∷◌, ◌++◌, ℕ, zero, suc, ◌+◌, ◌*◌, ◌-◌, ◌/◌, ◌%◌, leb, ltb, eqb, length}
+use Rattle.std.specs.Prelude.{cond, List, [], ◌++◌, ℕ, zero, suc, ◌+◌, ◌*◌, ◌-◌, ◌/◌, ◌%◌, ltb, eqb, length}
 use Rattle.model.specs.Reader.{byte, word}
 use Rattle.model.specs.Program.{part_of, within}
 use Rattle.text.specs.Words.{ascii, decimal, field}

@@ -112,17 +112,17 @@ module _ {H c : ℕ} {C : Component} where
       (link {v = v} {w = y} (omega arith) o (plant K x l k w m e z zs p q))
 
   -- the chain from the passage entered at x on
-  suffix : (x : ℕ) {v : Passage} {ws : List Passage} → Chain H c C v ws → v.entry.tick < v.end → (u : Passage) → u ∈ (v ∷ ws) → u.entry.tick ≡ x
+  suffix : (x : ℕ) (u : Passage) {v : Passage} {ws : List Passage} → Chain H c C v ws → v.entry.tick < v.end → u ∈ (v ∷ ws) → u.entry.tick ≡ x
       → (us : List Passage) × (only (enters_from x) (v ∷ ws) ≡ u ∷ us) × Chain H c C u us
-  suffix x {v} {ws} k b u (here i) e =
+  suffix x u {v} {ws} k b (here i) e =
       let g : v.entry.tick ≡ x = ap (λ (n : Passage). n.entry.tick) (sym i) ∙ e in
       let all = (none_left x {S = v ∷ ws} (more {x = v} (omega arith) (all_then (λ n t. omega (arith, t.0)) (chain_rising k)))).1 in
       (ws, all ∙ ap (λ (n : Passage). n ∷ ws) (sym i), subst (λ (n : Passage). Chain H c C n ws) (sym i) k)
-  suffix x (last h) b u (there m) e = absurd (not_in m)
-  suffix x (link {v = v} {w = y} {ws = ys} h o k) b u (there m) e =
+  suffix x u (last h) b (there m) e = absurd (not_in m)
+  suffix x u (link {v = v} {w = y} {ws = ys} h o k) b (there m) e =
       let r = all_in (chain_rising (link {v = v} {w = y} {ws = ys} h o k)) m in
       let wide = (all_in (chain_rising (link {v = v} {w = y} {ws = ys} h o k)) (here refl)).1 in
-      let s = suffix x k wide u m e in
+      let s = suffix x u k wide m e in
       let late : leb x v.entry.tick ≡ false = lt-leb x v.entry.tick (omega (arith, r.0, e)) in
       (s.0, ap (λ (t : Bool). cond t (v ∷ only (enters_from x) (y ∷ ys)) (only (enters_from x) (y ∷ ys))) late ∙ s.1, s.2)
 
@@ -219,7 +219,7 @@ module _ (limit : ℕ) (T : Table) (H : ℕ) (S : List Passage) (sched : IsSched
       let w∈ = subst (λ (l : List Passage). r.1 ∈ l) k.is r.3 in
       let wb : r.1.entry.tick ≡ a + P = ap (λ (n : Entry). n.tick) r.5 ∙ ap (λ (n : ℕ). n + P) r.4 in
       let wt : r.1 ∈ k.tail = elim w∈ [ here i ↦ absurd (omega (arith, zero, wb, longer, ap (λ (n : Passage). n.entry.tick) i)) | there m ↦ m ] in
-      let s = suffix a k.chain (omega (arith, zero, o.early, o.wide, ap (λ (n : Entry). n.tick) o.entry)) r.0 u∈ r.4 in
+      let s = suffix a r.0 k.chain (omega (arith, zero, o.early, o.wide, ap (λ (n : Entry). n.tick) o.entry)) u∈ r.4 in
       let mine = own_in c S r.2 in
       let e : Entered H c C r.0 = subst (λ (n : ℕ). Entered H n (component_of T n) r.0) mine.1 (all_in (entered sched) mine.0) in
       let opens : Opens c C r.1.entry (later P r.0) = ap (λ (n : Entry). opening c C n) r.5 ∙ opening_later P c C r.0.entry _ e.opens in

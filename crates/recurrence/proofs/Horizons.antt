@@ -84,3 +84,8 @@ module _ (g : Setting) (H X : ℕ) (nearer : H < X) where
       go (over t a n) (over t' a' n') e (both-late u m) ih = same (λ z. omega arith) (ap (λ (o : Outcome). continue s o (λ v. run_from (at_horizon g X) cs v)) e)
       go (over t a n) (on t') e (one_arrives u f k) ih =
           reached refl k 1 (omega (arith, f)) (omega arith) (λ ys. ap (λ (o : Outcome). continue s o (λ v. run_from (at_horizon g X) ys v)) e)
+      go forbidden (on t') e x8 ih = elim x8 [ ]
+      go forbidden (over t' a' n') e x9 ih = elim x9 [ ]
+      go (on t) forbidden e x7 ih = elim x7 [ ]
+      go (on t) (over t' a' n') e x8 ih = elim x8 [ ]
+      go (over t a n) forbidden e x8 ih = elim x8 [ ]

@@ -24,13 +24,16 @@ use Rattle.model.proofs.Meaning.Pass.{later-entry}
 -- of two passages of one component, the one entered first ends before the other is entered
 pub links_apart : {H : ℕ} {C : Component} {v : Passage} {vs : List Passage} → Links H C v vs → (u w : Passage) → u ∈ (v ∷ vs) → w ∈ (v ∷ vs)
     → u.entry.tick < w.entry.tick → u.end ≤ w.entry.tick
-links_apart k u w (here e) (here f) h = absurd (omega (arith, ap (λ (z : Passage). z.entry.tick) e, ap (λ (z : Passage). z.entry.tick) f))
-links_apart k u w (here e) (there m) h = omega (arith, later-entry k w m, ap (λ (z : Passage). z.end) e)
-links_apart k u w (there m) (here f) h =
-    let g = first_fits k in
-    absurd (omega (arith, later-entry k u m, from_entry g, g.window, ap (λ (z : Passage). z.entry.tick) f))
-links_apart (final a b) u w (there m) (there n) h = absurd (not_in m)
-links_apart (leads a b c k) u w (there m) (there n) h = links_apart k u w m n h
+links_apart {H = H} {C = C} k u w m n h = go k m n
+  where
+    go : {v : Passage} {vs : List Passage} → Links H C v vs → u ∈ (v ∷ vs) → w ∈ (v ∷ vs) → u.end ≤ w.entry.tick
+    go k (here e) (here f) = absurd (omega (arith, h, ap (λ (z : Passage). z.entry.tick) e, ap (λ (z : Passage). z.entry.tick) f))
+    go k (here e) (there m) = omega (arith, later-entry k w m, ap (λ (z : Passage). z.end) e)
+    go k (there m) (here f) =
+        let g = first_fits k in
+        absurd (omega (arith, h, later-entry k u m, from_entry g, g.window, ap (λ (z : Passage). z.entry.tick) f))
+    go (final a b) (there m) (there n) = absurd (not_in m)
+    go (leads a b c k) (there m) (there n) = go k m n
 
 module _ (limit : ℕ) (T : Table) (H : ℕ) (S : List Passage) (sched : IsSchedule limit T H S) where
   -- all components enter at x

@@ -31,6 +31,7 @@ twice first second = passing 0 first ∷ passing 0 second ∷ []
 one_of : {v w x : Passage} → x ∈ (v ∷ w ∷ []) → (x ≡ v) ⊎ (x ≡ w)
 one_of (here e) = inl e
 one_of (there (here e)) = inr e
+one_of {v = v} {w = w} (there (there x7)) = elim x7 [ ]
 
 -- ## Equal locations, clocks and variables
 
@@ -103,6 +104,7 @@ one_stays r =
   where
     go : (y : Passage) → y.entry.tick ≡ 5 → y ∈ (passing 1 (entering 0 0 3 7) ∷ []) → ⊥
     go y f (here e) = omega (arith, ap (λ (v : Passage). v.entry.tick) e, f)
+    go y f (there x3) = elim x3 [ ]
 
 -- ## "the first such b in the schedule and the first a for it"
 

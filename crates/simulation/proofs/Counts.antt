@@ -1,5 +1,5 @@
 -- The counts of late runs: each late run counts for one node, so that the nodes' counts add up to that of all. Assumes nothing.
-use mathlib.Core.Path.{◌≡◌, refl, sym, ap, subst, ◌∙◌}
+use mathlib.Core.Path.{◌≡◌, refl}
 use mathlib.Core.Logic.{by_cases}
 use mathlib.Core.Bool.{Bool, true, false, cond, ◌&&◌}
 use mathlib.Core.List.{List, [], ◌∷◌, map}
@@ -9,13 +9,12 @@ use native.Mathlib.Decide.{ℕ_discrete}
 use borrow.Author.Tests.{eqb-true, eq-eqb, ne_eqb}
 use lib.Dec.{eqb}
 use lib.ListN.{length}
-use Rattle.model.specs.Lists.{only, from, below, All, empty, more, Answer, accepted, refused}
-use Rattle.model.specs.Table.{Read, size}
+use Rattle.model.specs.Lists.{only, from, below, Answer, accepted, refused}
+use Rattle.model.specs.Table.{Read}
 use Rattle.model.specs.Reader.{read_table}
 use Rattle.model.specs.Schedule.{Passage}
 use Rattle.model.specs.Checks.{accepted_schedule_of}
 use Rattle.model.specs.Run.{Setting, setting_of, run}
-use Rattle.model.specs.Demand3.{Demand3}
 use Rattle.model.proofs.Reader.Limits.{read_limits}
 use Rattle.model.proofs.Run.Promise.{promised}
 use Rattle.simulation.specs.Simulated.{Span, ends_late, ends_late_at, trials, sum_of, SimulateCall, not_simulated, simulated_all, simulate_planned, simulate_read, simulate_call, tryable, LateAdds}

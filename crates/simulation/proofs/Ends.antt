@@ -9,20 +9,19 @@ use native.Mathlib.Decide.{ℕ_discrete}
 use borrow.Author.Tests.{ltb-true, ltb-false, lt-ltb, le-leb, ne_eqb}
 use lib.Dec.{ltb, eqb}
 use lib.ListN.{length}
-use Rattle.model.specs.Table.{Read, size}
-use Rattle.model.specs.Window.{in_range}
+use Rattle.model.specs.Table.{Read}
 use Rattle.model.specs.Schedule.{Passage}
 use Rattle.model.specs.Machine.{Node}
-use Rattle.model.specs.Run.{Setting, setting_to, Run, Stand, sleeping, sending, listening, finishing, adding, working, taking, elsewhere, nowhere, stand_of, node_of, offset_of, own_tick, awake, window_end, Outcome, forbidden, on, over, ticked, ends, continue, sent, listeners, finishes, due, some_due, late_nodes, after_tick, choose1, run_from}
+use Rattle.model.specs.Run.{Setting, setting_to, Run, Stand, sleeping, sending, listening, finishing, adding, working, taking, elsewhere, nowhere, stand_of, node_of, offset_of, own_tick, awake, window_end, Outcome, forbidden, on, over, ticked, continue, finishes, due, some_due, late_nodes, after_tick, choose1, run_from}
 use Rattle.model.proofs.Basics.Bools.{clash, and_is}
-use Rattle.model.proofs.Run.Tied.{Given, Tied}
+use Rattle.model.proofs.Run.Tied.{Given}
 use Rattle.model.proofs.Run.Tick.{Live, Leads, no, onward, arrives, breaks, due_some, due_zero}
 use Rattle.model.proofs.Run.Send.{choice_leads}
 use Rattle.model.proofs.Run.Together.{same_clock}
 use Rattle.model.proofs.Progress.Move.{choice_falls}
 use Rattle.model.proofs.Progress.Tick.{tick_is}
 use Rattle.model.proofs.Progress.Run.{left}
-use Rattle.simulation.specs.Simulated.{Span, waits, Trying, until_of, Trial, chosen, next_turn, anew, draws_at, went, tried, attempt, passed, after, try_from}
+use Rattle.simulation.specs.Simulated.{Span, waits, Trying, until_of, Trial, next_turn, anew, went, tried, attempt, passed, after, try_from}
 
 -- a node that waits for its work is not due
 waits_free : (g : Setting) (own now until : ℕ) (r : Node) (x : Stand) → waits now until x ≡ true → due g own r x ≡ false

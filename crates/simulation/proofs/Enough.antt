@@ -1,23 +1,19 @@
 -- No run takes all turns, so every simulated run ends at the horizon or late; and demand 3 holds of it. Assumes nothing.
-use mathlib.Core.Path.{◌≡◌}
 use mathlib.Core.List.{List, []}
-use Prim.Native.Nat.{ℕ, zero, suc, ◌+◌, ◌*◌, ◌≤◌}
+use Prim.Native.Nat.{ℕ, zero, suc, ◌≤◌}
 use native.Mathlib.Omega.{arith}
 use lib.ListN.{length}
-use Rattle.model.specs.Lists.{All, empty, more, accepted}
-use Rattle.model.specs.Table.{Read, size}
-use Rattle.model.specs.Limits.{InLimits}
-use Rattle.model.specs.Reader.{read_table}
+use Rattle.model.specs.Lists.{All, empty, more}
+use Rattle.model.specs.Table.{Read}
 use Rattle.model.specs.Schedule.{Passage}
-use Rattle.model.specs.Checks.{accepted_schedule_of, limit}
-use Rattle.model.specs.Run.{setting_to, setting_of, start_run, run, run_from}
+use Rattle.model.specs.Checks.{limit}
+use Rattle.model.specs.Run.{setting_to, run}
 use Rattle.model.specs.Demand3.{Demand3}
 use Rattle.model.proofs.Reader.Limits.{read_limits}
 use Rattle.model.proofs.Run.Tied.{Given, schedule_at, given}
 use Rattle.model.proofs.Run.Promise.{promised}
-use Rattle.model.proofs.Progress.Run.{left}
 use Rattle.model.proofs.Progress.Count.{start_live, start_toil}
-use Rattle.simulation.specs.Simulated.{Span, start_trying, turns, try_from, simulated, trials, EndsWell, SimulatedOf}
+use Rattle.simulation.specs.Simulated.{Span, start_trying, turns, simulated, trials, EndsWell, SimulatedOf}
 use Rattle.simulation.proofs.Ends.{turns_left, ends_well}
 
 module _ {t : Read} {H : ℕ} {S : List Passage} (G : Given t H S []) (w : Span) (few : length S ≤ 1024) (soon : H ≤ 60000) where

@@ -1,16 +1,15 @@
 -- One turn of a simulated run, and many ticks at which nobody moves: for the code, which never has the list of choices. Assumes nothing.
 use mathlib.Core.Path.{◌≡◌, refl, sym, ap, ap₂, subst, ◌∙◌}
-use mathlib.Core.Logic.{◌⊎◌, inl, inr}
+use mathlib.Core.Logic.{inl, inr}
 use mathlib.Core.Bool.{Bool, true, false, cond}
-use mathlib.Core.List.{List, [], ◌∷◌}
+use mathlib.Core.List.{[]}
 use Prim.Native.Nat.{ℕ, zero, suc, ◌+◌, ◌*◌, ◌≤◌, ◌<◌}
 use native.Mathlib.Nat.{suc-mul}
 use native.Mathlib.Omega.{arith}
 use borrow.Author.Tests.{lt-ltb, le-ltb}
-use lib.Dec.{ltb}
 use lib.ListN.{length}
 use Rattle.model.specs.Run.{Setting, Run, stand_of, node_of, Outcome, forbidden, on, over, Result, ends, continue, choose1, run_from}
-use Rattle.simulation.specs.Simulated.{Span, waits, Trying, until_of, Trial, chosen, next_turn, anew, went, tried, attempt, Stuck, passed, after, try_from}
+use Rattle.simulation.specs.Simulated.{Span, waits, Trying, until_of, Trial, next_turn, anew, went, tried, attempt, Stuck, passed, after, try_from}
 
 module _ (g : Setting) (w : Span) where
   -- what a simulated run comes to, with so many turns left

@@ -1,6 +1,6 @@
 -- The words of simulated runs, computed.
 use Rattle.std.specs.Prelude.{◌≡◌, refl, [], ◌∷◌, ◌++◌}
-use Rattle.text.specs.Words.{ascii, decimal}
+use Rattle.text.specs.Words.{ascii}
 use Rattle.simulation_text.specs.SimulationText.{node_lines, simulation_text}
 
 -- of two nodes, those of six more are not told

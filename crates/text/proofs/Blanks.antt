@@ -1,15 +1,13 @@
 -- Blanks, and columns that they fill. Assumes nothing.
-use mathlib.Core.Path.{◌≡◌, refl, sym, ap, ap₂, ◌∙◌}
+use mathlib.Core.Path.{◌≡◌, refl, sym, ap, ◌∙◌}
 use mathlib.Core.List.{List, [], ◌∷◌, ◌++◌, append_assoc}
-use Prim.Native.Nat.{ℕ, zero, suc, ◌+◌, ◌-◌, ◌≤◌, ◌<◌}
+use Prim.Native.Nat.{ℕ, zero, suc, ◌+◌, ◌-◌, ◌<◌}
 use native.Mathlib.Nat.{add-suc}
 use native.Mathlib.Numerals.{add-one}
-use native.Mathlib.Omega.{arith}
-use lib.ListN.{length, take, set, replicate, length-append}
-use lib.Seq.{length-take-le}
+use lib.ListN.{length, take, set, replicate}
 use Rattle.text.specs.Words.{decimal, Added}
 use Rattle.text.specs.Columns.{column, signed_text}
-use Rattle.text.proofs.Appended.{take_set, next}
+use Rattle.text.proofs.Appended.{take_set}
 use Rattle.text.proofs.Appended.{same_words}
 
 -- one blank more

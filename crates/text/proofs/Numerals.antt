@@ -1,7 +1,7 @@
 -- The fewest decimal digits of a number are its numeral. Assumes nothing.
 use mathlib.Core.Path.{◌≡◌, refl, ap₂, subst, subst⁻¹}
 use mathlib.Core.Bool.{Bool, true, false}
-use mathlib.Core.List.{List, [], ◌∷◌, ◌++◌}
+use mathlib.Core.List.{[], ◌∷◌, ◌++◌}
 use Prim.Native.Nat.{ℕ, zero, suc, ◌+◌, ◌*◌, ◌-◌, ◌/◌, ◌%◌, ◌^◌, ◌≤◌, ◌<◌}
 use native.Mathlib.Nat.{pow-suc, not-suc-le-zero, le_refl, add-zero, add-suc}
 use native.Mathlib.Omega.{arith}

@@ -151,7 +151,7 @@ module _ {program rows : List ℕ} {n : ℕ} {l : List ℕ} {v : List ℤ} {coun
   wakes_same = word 28 (omega arith) (λ p. omega arith) (λ p. omega arith)
 
   due_same : due_tick (view_in program l' v c) (stand_of (view_in program l' v c)) ≡ due_tick (view_in program l v c) (stand_of (view_in program l v c))
-  due_same = ap (λ (q : Node). due_tick q (stand_of q)) view_back ∙ due_rested (view_in program l v c) _ (stand_of (view_in program l v c))
+  due_same = ap (λ (q : Node). due_tick q (stand_of q)) view_back ∙ due_rested (view_in program l v c) ((node_in l v c).sleeps - between (rows_of rows n) first second c) (stand_of (view_in program l v c))
 
   -- the ready of its row is that of the row before
   ready_same : ready_at (rows_of rows' n) (row_in l' c) ≡ ready_at (rows_of rows n) (row_in l c)
@@ -160,7 +160,7 @@ module _ {program rows : List ℕ} {n : ℕ} {l : List ℕ} {v : List ℤ} {coun
   last_same : last_tick (view_in program l' v c) (ready_at (rows_of rows' n) (row_in l' c)) (stand_of (view_in program l' v c)) ≡ last_tick (view_in program l v c) (ready_at (rows_of rows n) (row_in l c)) (stand_of (view_in program l v c))
   last_same =
       ap₂ (λ (q : Node) (x : ℕ). last_tick q x (stand_of q)) view_back ready_same
-      ∙ last_rested (view_in program l v c) _ (ready_at (rows_of rows n) (row_in l c)) (stand_of (view_in program l v c))
+      ∙ last_rested (view_in program l v c) ((node_in l v c).sleeps - between (rows_of rows n) first second c) (ready_at (rows_of rows n) (row_in l c)) (stand_of (view_in program l v c))
 
   pub node_turned : NodeTurned program rows' n l v c (between (rows_of rows n) first second c) (first + c) l' v
   node_turned =

@@ -207,6 +207,7 @@ module _ {header : TableHeader} (C : Component) (k : ComponentIn header C) where
   ends_in (more {x = u} {xs = us} h a) g (there m) =
       let r = from_map (λ g'. Rattle.uppaal.specs.Xta.below u ∷ g') (ends us) m in
       subst (All (AtomIn (process_for C))) (sym r.2) (more h (ends_in a r.0 r.1))
+  ends_in empty g x3 = elim x3 [ ]
 
   lows_in : {gs : List ClockGuard} → All (ClockGuardIn (sizes_of header C)) gs → All (AtomIn (process_for C)) (lows gs)
   unfolding process_for

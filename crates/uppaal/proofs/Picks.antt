@@ -71,7 +71,7 @@ picked C t k =
 
 -- ## And back
 
-with_in : (C : Component) (e : ℕ) (a : Arc) (t : Transition) {ms : List (Option ℕ)} {m : Option ℕ} → m ∈ ms → Picked C t e a m → t ∈ transitions_with C e a ms
+with_in : (C : Component) (e : ℕ) (a : Arc) (t : Transition) {m : Option ℕ} {ms : List (Option ℕ)} → m ∈ ms → Picked C t e a m → t ∈ transitions_with C e a ms
 unfolding transitions_with
 with_in C e a t {m = m} (here {y = n} {xs = ms} q) p = at (subst (Picked C t e a) q p)
   where

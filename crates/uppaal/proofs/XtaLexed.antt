@@ -129,6 +129,10 @@ breaks : (e : Stage) (b : ℕ) → Open e → is_letter b || is_digit b ≡ fals
 breaks between b at_rest h = (refl, refl)
 breaks (in_word w) b a_word h = (rw h, rw h)
 breaks (in_number n) b a_number h = let d = neither (is_letter b) (is_digit b) h in (rw d, rw d)
+breaks (in_sign _) b x3 h = elim x3 [ ]
+breaks in_line b x3 h = elim x3 [ ]
+breaks (in_comment _) b x5 h = elim x5 [ ]
+breaks lost b x5 h = elim x5 [ ]
 
 -- the same words behind it
 behind_it : {e : Stage} {bs : List ℕ} {us : List Token} {f : Stage} → Open e → (b : ℕ) → is_letter b || is_digit b ≡ false → Lexed between (b ∷ bs) us f → Lexed e (b ∷ bs) (flush e ++ us) f
@@ -187,6 +191,10 @@ tokens_of {text} {ts} w = ap₂ (λ (s : Stage) (l : List Token). ended s l) w.l
     go between at_rest e = ap some (sym (append-nil w.before) ∙ e)
     go (in_word v) a_word e = ap some e
     go (in_number n) a_number e = ap some e
+    go (in_sign _) x3 e = elim x3 [ ]
+    go in_line x3 e = elim x3 [ ]
+    go (in_comment _) x5 e = elim x5 [ ]
+    go lost x5 e = elim x5 [ ]
 
 -- ## More of it
 

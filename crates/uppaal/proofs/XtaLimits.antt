@@ -177,6 +177,7 @@ module _ {header : TableHeader} (C : Component) (k : ComponentIn header C) (few 
   ends_small (more {x = u} {xs = us} h a) g (there m) =
       let r = from_map (λ g'. Rattle.uppaal.specs.Xta.below u ∷ g') (ends us) m in
       subst (All SmallAtom) (sym r.2) (more h (ends_small a r.0 r.1))
+  ends_small empty g x3 = elim x3 [ ]
 
   lows_small : {gs : List ClockGuard} → All (ClockGuardIn Z) gs → All SmallAtom (lows gs)
   lows_small empty = empty

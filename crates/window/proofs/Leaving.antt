@@ -42,8 +42,11 @@ older false x tick end p q = omega arith
 
 pub aged_young : (mask i tick end : ℕ) {xs : List ℕ} → tick ≤ end → All (λ x. x ≤ tick) xs → All (λ x. x ≤ end) (aged mask (end - tick) i xs)
 unfolding aged
-aged_young mask i tick end h empty = empty
-aged_young mask i tick end h (more {x = x} p a) = more (older (masked mask i) x tick end p h) (aged_young mask (suc i) tick end h a)
+aged_young mask i tick end h a = go i a
+  where
+    go : {xs : List ℕ} (i : ℕ) → All (λ x. x ≤ tick) xs → All (λ x. x ≤ end) (aged mask (end - tick) i xs)
+    go i empty = empty
+    go i (more {x = x} p a) = more (older (masked mask i) x tick end p h) (go (suc i) a)
 
 pub all_up : (m n : ℕ) {xs : List ℕ} → m ≤ n → All (λ x. x ≤ m) xs → All (λ x. x ≤ n) xs
 all_up m n h a = all_as (λ x q. omega arith) a

@@ -21,6 +21,7 @@ module _ {A : Type 0} where
   -- the member of a list of one
   pub alone : {x y : A} → x ∈ (y ∷ []) → x ≡ y
   alone (here e) = e
+  alone {y = y} (there x4) = elim x4 [ ]
 
   -- what holds of the first and of each later one holds of each
   pub each_of : (P : A → Type 0) {y : A} {S : List A} → P y → ((x : A) → x ∈ S → P x) → (x : A) → x ∈ (y ∷ S) → P x
@@ -51,7 +52,7 @@ module _ {A : Type 0} where
   in_at d (y ∷ S) (suc i) h = there (in_at d S i (omega arith))
 
   -- each member has a number
-  pub number-of : (d : A) {S : List A} {x : A} → x ∈ S → (i : ℕ) × (i < length S) × (get_or S i d ≡ x)
+  pub number-of : (d : A) {x : A} {S : List A} → x ∈ S → (i : ℕ) × (i < length S) × (get_or S i d ≡ x)
   number-of d (here e) = (0, omega arith, sym e)
   number-of d (there m) = let h = number-of d m in (suc h.0, omega arith, h.2)
 
@@ -114,7 +115,7 @@ module _ {A : Type 0} (p : A → Bool) where
           go ih true h (there k) = let r = ih k in (there r.0, r.1)
           go ih false h k = let r = ih k in (there r.0, r.1)
 
-      into : {S : List A} {x : A} → x ∈ S → p x ≡ true → x ∈ only p S
+      into : {x : A} {S : List A} → x ∈ S → p x ≡ true → x ∈ only p S
       into {x = x} (here {y = y} e) h = let k : p y ≡ true = ap p (sym e) ∙ h in rw k (here e)
       into {x = x} (there {y = y} {xs = S} m) h = go (into m h) (p y)
         where
@@ -149,7 +150,7 @@ module _ {A : Type 0} (p : A → Bool) where
           go ih true h k = (y, here refl, h)
           go ih false h k = let r = ih k in (r.0, there r.1, r.2)
 
-      if : {S : List A} {x : A} → x ∈ S → p x ≡ true → any p S ≡ true
+      if : {x : A} {S : List A} → x ∈ S → p x ≡ true → any p S ≡ true
       if (here {y = y} e) h = let k : p y ≡ true = ap p (sym e) ∙ h in rw k
       if (there {y = y} {xs = S} m) h = go (if m h) (p y)
         where

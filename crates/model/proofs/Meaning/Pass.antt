@@ -80,8 +80,11 @@ split_at {left} {q} {vs} k =
 module _ {H : ℕ} {C : Component} where
   -- each passage after the first is entered at its end or later
   pub later-entry : {v : Passage} {vs : List Passage} → Links H C v vs → (w : Passage) → w ∈ vs → v.end ≤ w.entry.tick
-  later-entry k w (here e) = omega (arith, next_entry k, ap (λ (x : Passage). x.entry.tick) e)
-  later-entry k w (there m) = let l = next_later k in omega (arith, later-entry (next_links k) w m)
+  later-entry k w m = go k m
+    where
+      go : {v : Passage} {vs : List Passage} → Links H C v vs → w ∈ vs → v.end ≤ w.entry.tick
+      go k (here e) = omega (arith, next_entry k, ap (λ (x : Passage). x.entry.tick) e)
+      go k (there m) = let l = next_later k in omega (arith, go (next_links k) m)
 
   -- the passages after the first, where they are those
   further : {v : Passage} (us past : List Passage) (w : Passage) (next : List Passage) → Links H C v us → us ≡ past ++ (w ∷ next)

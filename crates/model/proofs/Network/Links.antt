@@ -56,13 +56,20 @@ module _ {H : ℕ} {C : Component} where
 
   -- each of them fits
   pub each_fits : {v : Passage} {vs : List Passage} → Links H C v vs → (w : Passage) → w ∈ (v ∷ vs) → Fits C w
-  each_fits k w (here e) = subst (Fits C) (sym e) (first_fits k)
-  each_fits (leads f h e k) w (there m) = each_fits k w m
+  each_fits k w m = go k m
+    where
+      go : {v : Passage} {vs : List Passage} → Links H C v vs → w ∈ (v ∷ vs) → Fits C w
+      go k (here e) = subst (Fits C) (sym e) (first_fits k)
+      go (leads f h e k) (there m) = go k m
+      go (final _ _) (there {y = y} m) = elim m [ ]
 
   -- each passage after the first is ready at its end or later
   pub later_ready : {v : Passage} {vs : List Passage} → Links H C v vs → (w : Passage) → w ∈ vs → v.end ≤ w.ready
-  later_ready k w (here e) = omega (arith, (next_later k).0, ap (λ (x : Passage). x.ready) e)
-  later_ready k w (there m) = let l = next_later k in omega (arith, later_ready (next_links k) w m)
+  later_ready k w m = go k m
+    where
+      go : {v : Passage} {vs : List Passage} → Links H C v vs → w ∈ vs → v.end ≤ w.ready
+      go k (here e) = omega (arith, (next_later k).0, ap (λ (x : Passage). x.ready) e)
+      go k (there m) = let l = next_later k in omega (arith, go (next_links k) m)
 
 -- ## The passages of a schedule
 

@@ -31,12 +31,12 @@ abbrev pub Fresh : List ℕ → List Pair → Type 0
 Fresh seen ps = All (λ q. listed q.channel seen ≡ false) ps
 
 -- one more channel that no pair names
-fresh_more : {ps : List Pair} (c : ℕ) (seen : List ℕ) → All (λ p. p.channel ≡ c → ⊥) ps → Fresh seen ps → Fresh (c ∷ seen) ps
+fresh_more : (c : ℕ) (seen : List ℕ) {ps : List Pair} → All (λ p. p.channel ≡ c → ⊥) ps → Fresh seen ps → Fresh (c ∷ seen) ps
 fresh_more c seen empty empty = empty
 fresh_more c seen (more {x = p} h a) (more f b) = more {x = p} (rw (ne_eqb c p.channel (λ e. h (sym e)), f)) (fresh_more c seen a b)
 
 -- one channel less
-pub fresh_less : {ps : List Pair} (c : ℕ) (seen : List ℕ) → Fresh (c ∷ seen) ps → All (λ p. p.channel ≡ c → ⊥) ps × Fresh seen ps
+pub fresh_less : (c : ℕ) (seen : List ℕ) {ps : List Pair} → Fresh (c ∷ seen) ps → All (λ p. p.channel ≡ c → ⊥) ps × Fresh seen ps
 fresh_less c seen empty = (empty, empty)
 fresh_less c seen (more {x = p} h a) =
     let t = neither (eqb c p.channel) (listed p.channel seen) h in

@@ -25,6 +25,7 @@ module _ {A : Type 0} {P : A → Type 0} where
   pub all_in : {x : A} {xs : List A} → All P xs → x ∈ xs → P x
   all_in (more p a) (here e) = subst P (sym e) p
   all_in (more p a) (there i) = all_in a i
+  all_in empty x4 = elim x4 [ ]
 
   -- what holds of every one of them holds of each
   pub in_all : (xs : List A) → ((x : A) → x ∈ xs → P x) → All P xs

@@ -38,10 +38,10 @@ length_aged mask grown i [] = refl
 length_aged mask grown i (x ∷ xs) = ap suc (length_aged mask grown (suc i) xs)
 
 -- clocks that are at most t are at most t + grown when aged
-aged_below : (mask grown i : ℕ) {t : ℕ} {xs : List ℕ} → All (λ x. x ≤ t) xs → All (λ x. x ≤ t + grown) (aged mask grown i xs)
+aged_below : {t : ℕ} (mask grown i : ℕ) {xs : List ℕ} → All (λ x. x ≤ t) xs → All (λ x. x ≤ t + grown) (aged mask grown i xs)
 unfolding aged
 aged_below mask grown i empty = empty
-aged_below mask grown i {t} (more {x = x} h a) = more (go (masked mask i)) (aged_below mask grown (suc i) a)
+aged_below {t} mask grown i (more {x = x} h a) = more (go (masked mask i)) (aged_below mask grown (suc i) a)
   where
     go : (b : Bool) → cond b 0 (x + grown) ≤ t + grown
     go true = omega arith
