@@ -1,0 +1,25 @@
+use mathlib.Core.Path.{sym, ap, ◌∙◌}
+use native.Mathlib.Omega.{arith}
+use Rattle.model.specs.Calls.{Call}
+use Rattle.table.proofs.Answered.{was_valid, its_starts, was_refused}
+use Rattle.calls.proofs.Answering.{call_refused}
+use borrow.Author.Rules.{rules}
+use Rattle.calls.proofs.schedule.Reads as reads
+use Rattle.calls.proofs.schedule.Lts as lts
+use Rattle.table.proofs.read.Reads as read-reads
+use Rattle.calls.proofs.plan_into.Reads as plan-into-reads
+use Rattle.calls.proofs.refused.Reads as refused-reads
+use Rattle.calls.proofs.schedule.Goals as goal
+
+-- src/lib.rt:123:13
+pub plan_into-requires : goal.plan_into-requires
+plan_into-requires c =
+    let bs = c.args.table.now in
+    (was_valid bs c.read-r.result c.read-r.ensures c.in-Accepted.is, its_starts bs c.read-r.result c.read-r.ensures c.in-Accepted.is)
+
+-- src/lib.rt:114:1
+pub returns-in-Refused : goal.returns-in-Refused
+returns-in-Refused c =
+    let a = c.args in
+    let k = call_refused a.table.now a.list.now (was_refused a.table.now c.read-r.result c.read-r.ensures c.in-Refused.is) in
+    (c.refused.ensures.0 ∙ sym (ap (λ (x : Call). x.verdict) k), c.refused.ensures.1 ∙ sym (ap (λ (x : Call). x.size) k), sym (ap (λ (x : Call). x.lent) k), omega (arith, c.refused.ensures.1), omega (arith, c.refused.ensures.1))

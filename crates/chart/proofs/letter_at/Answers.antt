@@ -1,0 +1,23 @@
+-- `chart::letter_at` meets its contract. Assumes nothing.
+use mathlib.Core.Path.{sym, ◌∙◌}
+use borrow.Author.Rules.{rules}
+use Rattle.model.specs.Places.{read_of}
+use Rattle.model.specs.Schedule.{passage_arc}
+use Rattle.rows.specs.Rows.{row_passage}
+use Rattle.chart.proofs.Painting.{receive_letter, internal_letter, send_letter}
+use Rattle.chart.proofs.letter_at.Goals as goal
+
+pub returns-then-row_receives : goal.returns-then-row_receives
+returns-then-row_receives c =
+    let a = c.args in
+    receive_letter (passage_arc (read_of a.table.now).table (row_passage a.rows.now a.i)).edge.action (sym c.row_receives.ensures ∙ c.if-row_receives.true)
+
+pub returns-then-row_sent : goal.returns-then-row_sent
+returns-then-row_sent c =
+    let a = c.args in
+    internal_letter (passage_arc (read_of a.table.now).table (row_passage a.rows.now a.i)).edge.action c.row_sent.result (sym c.row_receives.ensures ∙ c.if-row_receives.false) c.row_sent.ensures c.if-row_sent.true
+
+pub returns : goal.returns
+returns c =
+    let a = c.args in
+    send_letter (passage_arc (read_of a.table.now).table (row_passage a.rows.now a.i)).edge.action c.row_sent.result (sym c.row_receives.ensures ∙ c.if-row_receives.false) c.row_sent.ensures c.if-row_sent.false

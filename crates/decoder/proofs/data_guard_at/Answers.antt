@@ -1,0 +1,8 @@
+-- `decoder::data_guard_at` meets its contract. Assumes nothing.
+use mir.Syntax.{w16}
+use mir.ValLaws.{to_z-of_z}
+use borrow.Author.Rules.{rules, sfits_of}
+use Rattle.decoder.proofs.data_guard_at.Goals as goal
+
+pub returns : goal.returns
+returns c = rw (to_z-of_z w16 c.signed_at-2.result (sfits_of c.signed_at-2.type_inv), to_z-of_z w16 c.signed_at.result (sfits_of c.signed_at.type_inv), c.signed_at-2.ensures, c.signed_at.ensures)

@@ -1,0 +1,6 @@
+-- `decoder::location_at` meets its contract. Assumes nothing.
+use borrow.Author.Rules.{rules}
+use Rattle.decoder.proofs.location_at.Goals as goal
+
+pub returns : goal.returns
+returns c = rw c.word_at.ensures

@@ -1,0 +1,6 @@
+-- `node::candidate::raised` meets its contract. Assumes nothing.
+use borrow.Author.Rules.{rules}
+use Rattle.node.proofs.candidate.raised.Goals as goal
+
+pub returns : goal.returns
+returns c = rw (c.greater.ensures, c.left_of.ensures)

@@ -1,0 +1,12 @@
+-- `node_events::goes_on` meets its contract. Assumes nothing.
+use mathlib.Core.Path.{◌≡◌, refl, sym, ap, ◌∙◌}
+use borrow.Author.Tests.{not-true, not-false}
+use Rattle.node_events.proofs.Laws.{goes_is}
+use borrow.Author.Rules.{rules}
+use Rattle.node_events.proofs.goes_on.Goals as goal
+
+-- src/lib.rt:32:1
+pub returns : goal.returns
+returns c =
+    let a = c.args in
+    goes_is a.part.now a.registers a.first a.last c.op_at-op.ensures c.both.ensures c.either-free.ensures c.both-2.ensures

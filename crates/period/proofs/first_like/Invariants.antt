@@ -1,0 +1,19 @@
+-- `period::first_like` meets its contract. Assumes nothing.
+use mathlib.Core.Path.{◌≡◌, refl, sym, ap, ◌∙◌}
+use mathlib.Core.Bool.{true}
+use Prim.Native.Nat.{ℕ, ◌+◌, ◌-◌, ◌≤◌, ◌<◌}
+use native.Mathlib.Omega.{arith}
+use Rattle.model.proofs.Basics.Bools.{clash}
+use Rattle.schedule.proofs.Tables.{some_components, few_components}
+use Rattle.rows.specs.Rows.{num}
+use Rattle.period.specs.Walking.{On, Joins}
+use Rattle.period.proofs.Searches.{not_beyond, Tried, tried_start, tried_late, is_early, tried_early, tried_all}
+use Rattle.period.proofs.first_like.Given as goal
+
+abbrev pub invariant-loop-late : goal.invariant-loop-late
+invariant-loop-late l =
+    On l.table l.count l.early × On l.table l.count l.late × Joins l.rows l.count l.components l.early.row × (l.late.row < l.count → Joins l.rows l.count l.components l.late.row)
+    × (l.early.row ≤ l.late.row) × Tried l.table l.rows l.count l.components l.distance l.early.row l.late.row
+
+abbrev pub decreases-loop-late : goal.decreases-loop-late
+decreases-loop-late l = (l.count - l.early.row) + (l.count - l.late.row)

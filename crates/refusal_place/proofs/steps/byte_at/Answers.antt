@@ -1,0 +1,9 @@
+-- `refusal_place::steps::byte_at` meets its contract. Assumes nothing.
+use mathlib.Core.Path.{sym}
+use native.Mathlib.Omega.{arith}
+use lib.ListN.{get_or-eq_default}
+use borrow.Author.Rules.{rules}
+use Rattle.refusal_place.proofs.steps.byte_at.Goals as goal
+
+pub returns-else-at-table : goal.returns-else-at-table
+returns-else-at-table c = sym (get_or-eq_default c.args.table.now 0 (omega arith))

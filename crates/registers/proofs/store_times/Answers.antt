@@ -1,0 +1,27 @@
+-- `registers::store_times` meets its contract. Assumes nothing.
+use native.Mathlib.Numerals.{towards_suc}
+use native.Mathlib.Omega.{arith}
+use borrow.Author.Rules.{rules}
+use lib.ListN.{length-set}
+use Rattle.registers.proofs.store_times.Goals as goal
+
+pub bounds-words-at-2 : goal.bounds-words-at-2
+bounds-words-at-2 c = simp length-set (omega arith)
+
+pub bounds-words-at-3 : goal.bounds-words-at-3
+bounds-words-at-3 c = simp length-set (omega arith)
+
+pub bounds-words-at-4 : goal.bounds-words-at-4
+bounds-words-at-4 c = simp length-set (omega arith)
+
+pub bounds-words-at-5 : goal.bounds-words-at-5
+bounds-words-at-5 c = simp length-set (omega arith)
+
+pub bounds-words-at-6 : goal.bounds-words-at-6
+bounds-words-at-6 c = simp length-set (omega arith)
+
+pub shape_of-words : goal.shape_of-words
+shape_of-words c = simp length-set
+
+pub returns : goal.returns
+returns c = simp towards_suc

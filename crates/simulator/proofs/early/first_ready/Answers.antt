@@ -1,0 +1,23 @@
+-- `simulator::early::first_ready` meets its contract. Assumes nothing.
+use Prim.Native.Nat.{◌-◌}
+use native.Mathlib.Omega.{arith}
+use borrow.Author.Tests.{not-false}
+use Rattle.simulator.specs.Tries.{PassedTo}
+use Rattle.simulator.proofs.Passing.{passed_none, passed_next}
+use borrow.Author.Rules.{rules}
+use Rattle.simulator.proofs.early.first_ready.Goals as goal
+
+pub returns-then-left-le8 : goal.returns-then-left-le8
+returns-then-left-le8 c = passed_none c.args.words.now c.args.count c.args.tick c.args.turn c.args.left c.requires.2
+
+pub loop-c-init : goal.loop-c-init
+loop-c-init c = passed_none c.args.words.now c.args.count c.args.tick c.args.turn c.args.left c.requires.2
+
+pub returns-then-not-is_early : goal.returns-then-not-is_early
+returns-then-not-is_early c = c.loop-c.invariant
+
+pub loop-c-preserved : goal.loop-c-preserved
+loop-c-preserved c = passed_next c.args.words.now c.args.count c.args.tick c.args.turn c.args.left c.loop-c.invariant c.loop-c-test.true c.requires.1 (omega (arith, c.if-left-le8.false)) (c.is_early.ensures (not-false c.is_early.result c.if-not-is_early.false-raw))
+
+pub returns : goal.returns
+returns c = c.loop-c.invariant

@@ -1,0 +1,17 @@
+-- `spread_text::put_around` meets its contract. Assumes nothing.
+use native.Mathlib.Omega.{arith}
+use borrow.Author.Tests.{eq-eqb, ne_eqb}
+use Rattle.text.proofs.Appended.{next}
+use Rattle.spread_text.proofs.put_around.Goals as goal
+
+pub returns-then-spread-eq0 : goal.returns-then-spread-eq0
+returns-then-spread-eq0 c =
+    let p1 = c.put_field-to in
+    let p2 = c.put_field in
+    rw (eq-eqb c.args.spread 0 c.if-spread-eq0.true) (next p1.ensures.0 p2.ensures.0, omega (arith, p1.ensures.1, p2.ensures.1))
+
+pub returns : goal.returns
+returns c =
+    let p1 = c.put_away-to in
+    let p2 = c.put_away in
+    rw (ne_eqb c.args.spread 0 c.if-spread-eq0.false) (next p1.ensures.0 p2.ensures.0, omega (arith, p1.ensures.1, p2.ensures.1))

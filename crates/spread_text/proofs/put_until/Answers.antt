@@ -1,0 +1,14 @@
+-- `spread_text::put_until` meets its contract. Assumes nothing.
+use native.Mathlib.Omega.{arith}
+use borrow.Author.Tests.{eq-eqb, ne_eqb}
+use Rattle.spread_text.proofs.put_until.Goals as goal
+
+pub returns-then-spread-eq0 : goal.returns-then-spread-eq0
+returns-then-spread-eq0 c =
+    let p1 = c.put_field in
+    rw (eq-eqb c.args.spread 0 c.if-spread-eq0.true) (p1.ensures.0, omega (arith, p1.ensures.1))
+
+pub returns : goal.returns
+returns c =
+    let p1 = c.put_away in
+    rw (ne_eqb c.args.spread 0 c.if-spread-eq0.false) (p1.ensures.0, omega (arith, p1.ensures.1))

@@ -1,0 +1,12 @@
+-- `stand::lists_channel` meets its contract. Assumes nothing.
+use borrow.Author.Rules.{rules}
+use mathlib.Core.Path.{◌≡◌, refl, sym, ◌∙◌}
+use Prim.Native.Nat.{◌+◌, ◌*◌, ◌≤◌}
+use Rattle.stand.proofs.Pairs.{listed, found, passed, none_listed}
+use Rattle.stand.proofs.lists_channel.Given as goal
+
+abbrev pub invariant-loop-i : goal.invariant-loop-i
+invariant-loop-i l = (l.at + l.i * 4 ≤ l.from + l.count * 4) × (listed l.part l.channel l.at l.i ≡ listed l.part l.channel l.from l.count)
+
+abbrev pub decreases-loop-i : goal.decreases-loop-i
+decreases-loop-i l = l.i

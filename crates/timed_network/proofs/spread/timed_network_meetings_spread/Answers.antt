@@ -1,0 +1,33 @@
+-- `timed_network::spread::timed_network_meetings_spread` meets its contract. Assumes nothing.
+use mathlib.Core.Path.{refl, ap, ◌∙◌}
+use native.Mathlib.Omega.{arith}
+use Rattle.model.specs.Calls.{number_of, concerned_of}
+use Rattle.model.specs.Meetings.{MeetingsCall, meetings_call_at}
+use Rattle.meetings.proofs.Bounds.{spread_few}
+use Rattle.timed_network.proofs.Header.{no_meetings_at}
+use Rattle.timed_network.proofs.Whole.{whole}
+use borrow.Author.Rules.{rules}
+use Rattle.timed_network.proofs.spread.timed_network_meetings_spread.Goals as goal
+
+pub returns-then-header-ne0 : goal.returns-then-header-ne0
+returns-then-header-ne0 c =
+    let a = c.args in
+    rw (no_meetings_at a.table.now c.header-header.result c.header-header.ensures (λ z. omega (arith, z, c.if-header-ne0.true)) a.spread a.list.now) (c.header_meetings.ensures.0, c.header_meetings.ensures.1, c.header_meetings.ensures.2, c.header_meetings.ensures.3, c.header_meetings.ensures.4, refl)
+
+pub meetings_numbers-requires : goal.meetings_numbers-requires
+meetings_numbers-requires c =
+    let a = c.args in
+    let w = ap (λ t. (meetings_call_at a.spread t a.list.now).size) (whole a.table.now) in
+    omega (arith, c.meetings_spread-listed.ensures.2, w, spread_few a.spread a.table.now a.list.now)
+
+pub returns : goal.returns
+returns c =
+    let a = c.args in
+    let w = ap (λ t. meetings_call_at a.spread t a.list.now) (whole a.table.now) in (
+      c.meetings_numbers.ensures.0 ∙ ap number_of (c.meetings_spread-listed.ensures.1 ∙ ap (λ (k : MeetingsCall). k.verdict) w),
+      c.meetings_numbers.ensures.1 ∙ ap concerned_of (c.meetings_spread-listed.ensures.1 ∙ ap (λ (k : MeetingsCall). k.verdict) w),
+      c.meetings_numbers.ensures.2 ∙ ap number_of (c.meetings_spread-listed.ensures.0 ∙ ap (λ (k : MeetingsCall). k.table) w),
+      c.meetings_numbers.ensures.3 ∙ ap concerned_of (c.meetings_spread-listed.ensures.0 ∙ ap (λ (k : MeetingsCall). k.table) w),
+      c.meetings_numbers.ensures.4 ∙ c.meetings_spread-listed.ensures.2 ∙ ap (λ (k : MeetingsCall). k.size) w,
+      c.meetings_spread-listed.ensures.3 ∙ ap (λ (k : MeetingsCall). k.lent) w,
+    )

@@ -1,0 +1,28 @@
+-- `timed_network::timed_network_schedule` meets its contract. Assumes nothing.
+use mathlib.Core.Path.{refl, ap, ◌∙◌}
+use native.Mathlib.Omega.{arith}
+use Rattle.model.specs.Calls.{Call, number_of, concerned_of, schedule_call}
+use Rattle.timed_network.proofs.Header.{no_schedule}
+use Rattle.timed_network.proofs.Whole.{whole}
+use borrow.Author.Rules.{rules}
+use Rattle.timed_network.proofs.Told.{budgets_kept}
+use Rattle.timed_network.proofs.timed_network_schedule.Goals as goal
+
+pub returns-then-header-ne0 : goal.returns-then-header-ne0
+returns-then-header-ne0 c =
+    let a = c.args in
+    rw (no_schedule a.table.now c.header-header.result c.header-header.ensures (λ z. omega (arith, z, c.if-header-ne0.true)) a.list.now) (c.header_numbers.ensures.0, c.header_numbers.ensures.1, c.header_numbers.ensures.2, refl, budgets_kept _)
+
+pub numbers_of-requires : goal.numbers_of-requires
+numbers_of-requires c = omega (arith, c.schedule-c.ensures.3)
+
+pub returns : goal.returns
+returns c =
+    let a = c.args in
+    let w = ap (λ t. schedule_call t a.list.now) (whole a.table.now) in (
+      c.numbers_of.ensures.0 ∙ ap number_of (c.schedule-c.ensures.0 ∙ ap (λ (k : Call). k.verdict) w),
+      c.numbers_of.ensures.1 ∙ ap concerned_of (c.schedule-c.ensures.0 ∙ ap (λ (k : Call). k.verdict) w),
+      c.numbers_of.ensures.2 ∙ c.schedule-c.ensures.1 ∙ ap (λ (k : Call). k.size) w,
+      c.schedule-c.ensures.2 ∙ ap (λ (k : Call). k.lent) w,
+      budgets_kept _,
+    )

@@ -1,0 +1,6 @@
+-- `verdict_words::write` meets its contract. Assumes nothing.
+use borrow.Author.Rules.{rules}
+use Rattle.verdict_words.proofs.write.Goals as goal
+
+pub returns : goal.returns
+returns c = record { prefix_len = c.put_printed.ensures.prefix_len; out_after = c.put_printed.ensures.out_after; out_after_2 = c.put_printed.ensures.out_after_2; upper_bound = search rules }
