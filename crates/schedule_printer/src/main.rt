@@ -1,14 +1,17 @@
 // Reads a table from standard input and prints its schedule, a line a passage, or `refused`, number, component (crate `schedule_words`).
-use libc::{STDERR_FILENO, STDOUT_FILENO};
+#![tactic(auto)]
 
 // The words are made, then written: what is put in out is all that is written.
-fn main() {
+fn main(rt: HostRuntime) {
     // One byte more than a table may have, so that a longer input is seen.
     let mut input = [0u8; 8193];
-    let n = io::read_full(0, &mut input);
+    let n = streams::read_full(&mut rt.stdin(), &mut input);
     let mut out = [0u8; schedule_words::ROOM];
     let size = schedule_words::write(&input[..n], &mut out);
-    if !io::write_all(STDOUT_FILENO, &out[..size]) {
-        io::write_all(STDERR_FILENO, b"The schedule could not be written.\n");
-    }
+    streams::write_or_say(
+        &rt.stdout(),
+        &rt.stderr(),
+        &out[..size],
+        b"The schedule could not be written.\n",
+    );
 }

@@ -1,15 +1,18 @@
 // Reads a table from standard input and prints the largest spread of the nodes' starts at which it is accepted, or `refused`, number, component
 // and the question in words, where it is not accepted without one (crate `spread_words`).
-use libc::{STDERR_FILENO, STDOUT_FILENO};
+#![tactic(auto)]
 
 // The words are made, then written: what is put in out is all that is written.
-fn main() {
+fn main(rt: HostRuntime) {
     // One byte more than a table may have, so that a longer input is seen.
     let mut input = [0u8; 8193];
-    let n = io::read_full(0, &mut input);
+    let n = streams::read_full(&mut rt.stdin(), &mut input);
     let mut out = [0u8; spread_words::ROOM];
     let size = spread_words::write(&input[..n], &mut out);
-    if !io::write_all(STDOUT_FILENO, &out[..size]) {
-        io::write_all(STDERR_FILENO, b"The spread could not be written.\n");
-    }
+    streams::write_or_say(
+        &rt.stdout(),
+        &rt.stderr(),
+        &out[..size],
+        b"The spread could not be written.\n",
+    );
 }

@@ -5,7 +5,7 @@ ghost use Rattle.trial_run.specs.OffsetList.{parts_of, split_at, is_dash, number
 use text::Number;
 
 // So many numbers stand at the front of the list lent, or the word is none.
-#[derive(Drop)]
+#[derive(Clone, Copy)]
 pub enum Listed {
     Count(usize),
     IllFormed,

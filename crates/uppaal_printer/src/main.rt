@@ -1,9 +1,10 @@
 // Reads a table from standard input and prints it as a text for UPPAAL, or `refused`, number, component.
+#![tactic(auto)]
+
 ghost use Rattle.std.specs.Prelude.{◌≡◌, ◌≤◌, length, take};
 ghost use Rattle.io.specs.Counts.{IsPrefixLen};
 ghost use Rattle.uppaal_printer.specs.PrintedText.{printed_text};
 
-use libc::{STDERR_FILENO, STDOUT_FILENO};
 use model::Verdict;
 
 // All that is printed of a table, at the front of out; answers how many bytes.
@@ -21,24 +22,27 @@ fn put_printed(table: &[u8], out: &mut [u8]) -> usize
 }
 
 // The text is made, then written. What is put in out is all that is written.
-fn print(table: &[u8], out: &mut [u8])
+fn print(output: &impl Print, errors: &impl Print, table: &[u8], out: &mut [u8])
     requires { 64 ≤ length out.old }
 {
     let n = put_printed(table, out);
-    if !io::write_all(STDOUT_FILENO, &out[..n]) {
-        io::write_all(STDERR_FILENO, b"The text could not be written.\n");
-    }
+    streams::write_or_say(
+        output,
+        errors,
+        &out[..n],
+        b"The text could not be written.\n",
+    );
 }
 
 // The array is lent as an array first: no proof has to count its zeros then.
-fn print_in_array(table: &[u8], out: &mut [u8; 2621440]) {
-    print(table, out);
+fn print_in_array(output: &impl Print, errors: &impl Print, table: &[u8], out: &mut [u8; 2621440]) {
+    print(output, errors, table, out);
 }
 
-fn main() {
+fn main(rt: HostRuntime) {
     // One byte more than a table may have, so that a longer input is seen.
     let mut input = [0u8; 8193];
-    let n = io::read_full(0, &mut input);
+    let n = streams::read_full(&mut rt.stdin(), &mut input);
     let mut out = [0u8; 2621440];
-    print_in_array(&input[..n], &mut out);
+    print_in_array(&rt.stdout(), &rt.stderr(), &input[..n], &mut out);
 }

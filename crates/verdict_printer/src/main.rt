@@ -2,41 +2,45 @@
 //
 // The one argument, in decimal, is the spread: how many ticks apart the nodes may wake. Without it they wake together. What is wrong with
 // the argument goes to standard error, and standard output is empty then.
-use libc::{STDERR_FILENO, STDOUT_FILENO};
+#![tactic(auto)]
+
+use std::env::Env;
+use std::io::Read;
 use text::Number;
 
-// The table on standard input, at a spread. The words are made, then written: what is put in out is all that is written.
-fn print(spread: u32) {
+// The table that is read, at a spread. The words are made, then written: what is put in out is all that is written.
+fn print(table: &mut impl Read, output: &impl Print, errors: &impl Print, spread: u32) {
     // One byte more than a table may have, so that a longer input is seen.
     let mut input = [0u8; 8193];
-    let n = io::read_full(0, &mut input);
+    let n = streams::read_full(table, &mut input);
     let mut out = [0u8; verdict_words::ROOM];
     let size = verdict_words::write(&input[..n], spread, &mut out);
-    if !io::write_all(STDOUT_FILENO, &out[..size]) {
-        io::write_all(STDERR_FILENO, b"The verdict could not be written.\n");
-    }
+    streams::write_or_say(
+        output,
+        errors,
+        &out[..size],
+        b"The verdict could not be written.\n",
+    );
 }
 
 // The spread that is asked for, of so many words with the program's own name.
-fn spread_asked(words: usize) -> Number {
+fn spread_asked(env: &impl Env, words: usize) -> Number {
     if words < 2 {
         return Number::Read(0);
     }
     if 2 < words {
         return Number::Unreadable;
     }
-    arguments::argument(1)
+    arguments::argument(env, 1)
 }
 
-fn main() {
-    let spread = spread_asked(os::arg_count());
+fn main(rt: HostRuntime) {
+    let spread = spread_asked(&rt, arguments::count(&rt));
     match spread {
-        Number::Read(ticks) => print(ticks),
-        Number::Unreadable => {
-            io::write_all(
-                STDERR_FILENO,
-                b"usage: verdict_printer [SPREAD], a number up to 4294967295\n",
-            );
-        }
+        Number::Read(ticks) => print(&mut rt.stdin(), &rt.stdout(), &rt.stderr(), ticks),
+        Number::Unreadable => streams::say(
+            &rt.stderr(),
+            b"usage: verdict_printer [SPREAD], a number up to 4294967295\n",
+        ),
     }
 }
