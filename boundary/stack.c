@@ -32,10 +32,9 @@ enum { WIDE = 200 * 1024 };
 /* The most bytes for a refusal with one of the first numbers, and how many there are. */
 enum { EARLY = 512, EARLY_NUMBERS = 3 };
 
-/* The calls that try the header first. */
-static const int header_first[] = {
-    CHECK,     CHECK_SPREAD, SCHEDULE,        TIMING_CHART,   TRANSLATE,      RUN,
-    RUN_APART, MEETINGS,     MEETINGS_SPREAD, LARGEST_SPREAD, REFUSED_OPENING};
+/* The calls that try the header first and take the stack of the rows behind it. */
+static const int header_first[] = {CHECK,     CHECK_SPREAD, SCHEDULE,       RUN,
+                                   RUN_APART, MEETINGS,     MEETINGS_SPREAD};
 enum { HEADER_FIRST = sizeof header_first / sizeof header_first[0] };
 
 static uint8_t *wide;

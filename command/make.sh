@@ -13,6 +13,7 @@ crates_of() {
     local name rest more=() queue=("$@") listed=()
     [[ -r $root/crates.txt ]] || return 0
     while IFS=: read -r name rest; do
+        name=${name%% *}
         needs[${name:-#}]=$rest
         listed+=("${name:-#}")
     done <"$root/crates.txt"
@@ -60,7 +61,7 @@ listed() {
 }
 
 # The sources of a crate. Code and definitions alone decide what a program does and what is proved of it: a proof, a must-fail edit or the
-# data of a test that is changed leaves both as they were, and `rt check` and the tests try it. Folders are listed for what is added to
+# data of a test that is changed leaves both as they were, and `rt ci` and the tests try it. Folders are listed for what is added to
 # them, or taken away.
 crate_sources() {
     local name names
@@ -163,7 +164,9 @@ build() {
 make_current() {
     local built=$1 sources=("$2" "$3") name=${named:-${1##*/}}
     shift 3
-    command -v "$1" >/dev/null || stop "$broken" "${built##*/} has to be built, and '$1' is not installed"
+    local needed=$1
+    [[ $needed != bash ]] || needed=rt
+    command -v "$needed" >/dev/null || stop "$broken" "${built##*/} has to be built, and '$needed' is not installed"
     note_sources "$name" "${sources[@]}"
     if ! is_made_by_hand "$built" "$name"; then
         [[ -z ${before-} ]] || "$before"
@@ -179,7 +182,7 @@ make_program() {
     names="$(crates_of "$1")" || exit
     count_units "program:$1"
     # shellcheck disable=SC2086 # a list of names
-    make_current "$tool" crate_sources "$1" rt check $names
+    make_current "$tool" crate_sources "$1" bash tools/build $names
 }
 
 # The crates below a library's, a line each.
@@ -187,26 +190,20 @@ below_library() {
     crates_of "$1" | grep -v -x "$1"
 }
 
-# They are proved first, by `rt check`: two at a time, where `rt staticlib` proves one after the other. The library's crate is $crate.
-prove_below_library() {
-    local names
-    names="$(below_library "$crate")" || exit
-    # shellcheck disable=SC2086 # a list of names
-    build "lib$crate.a" rt check $names
-}
-
 make_library() {
-    local crate=$1 before=prove_below_library
-    count_units "library:$crate"
-    make_current "$library" crate_sources "$crate" rt staticlib "$crate"
+    local names
+    names="$(crates_of "$1")" || exit
+    count_units "library:$1"
+    # shellcheck disable=SC2086 # a list of names
+    make_current "$library" crate_sources "$1" bash tools/build $names
 }
 
-# The crates below the library of one node are proved first, likewise.
+# The crates below the library of one node are proved first.
 prove_below_node() {
     local names
-    names="$(crates_of timed_node | grep -v -x timed_node)" || exit
+    names="$(below_library timed_node)" || exit
     # shellcheck disable=SC2086 # a list of names
-    build libtimed_node.a rt check $names
+    build libtimed_node.a bash tools/build $names
 }
 
 # Its archive, its module and the objects are made together; the last of them stands for all.
@@ -238,7 +235,7 @@ make_early() {
     tell_packages vanillatarn
 }
 
-# Proves several programs and the libraries' crates at once, two at a time, so that each is found proved when it is its turn.
+# Proves several programs and the libraries' crates in one call, so that each is found proved when it is its turn.
 prove_together() {
     local names=() item
     for item in "$@"; do
@@ -250,5 +247,5 @@ prove_together() {
     done
     mapfile -t names < <(crates_of "${names[@]}")
     count_units "$@"
-    build 'what is needed' rt check "${names[@]}"
+    build 'what is needed' bash tools/build "${names[@]}"
 }

@@ -1,15 +1,15 @@
-# What is built on first use, tried in a root of its own with an `rt` that only says that it was called. Part of test.sh.
+# What is built on first use, tried in a root of its own with a `tools/build` that only says that it was called, and an `rt` that is never asked. Part of test.sh.
 # shellcheck shell=bash
 # shellcheck disable=SC2034,SC2154 # test.sh sets root and work, and looks at what and status
 
-mkdir -p "$work/tools" "$work/tree/crates"/{parts,schedule_printer,other}/{src,proofs,must-fail} "$work/tree/crates/parts/specs/deep"
+mkdir -p "$work/tools" "$work/tree/tools" "$work/tree/crates"/{parts,schedule_printer,other}/{src,proofs,must-fail} "$work/tree/crates/parts/specs/deep"
 for name in parts schedule_printer other; do
     touch "$work/tree/crates/$name"/{src/lib.rt,proofs/Lib.antt,must-fail/fault.edit}
 done
 touch "$work/tree/crates/parts/specs/deep/Words.antt"
 cp -r "$root/vanillatarn" "$root/command" "$work/tree"
 touch -d '5 hours ago' "$work/tree/vanillatarn"
-printf '# A comment.\nparts:\nschedule_printer: parts io\nother: parts\ntimed_network: parts\n' >"$work/tree/crates.txt"
+printf '# A comment.\nparts:\nschedule_printer: parts io\nother: parts\ntimed_network staticlib: parts\n' >"$work/tree/crates.txt"
 for name in bash cat head wc find basename dirname readlink mktemp mkfifo rm mkdir touch grep env chmod sleep sort cp mv; do
     ln -s "$(command -v "$name")" "$work/tools/$name"
 done
@@ -35,36 +35,39 @@ call_there schedule cellar.bin
 says 3
 complains "schedule_printer has to be built, and 'rt' is not installed"
 
-# An rt that fails.
-cat >"$work/tools/rt" <<'TEXT'
+printf '#!/usr/bin/env bash\nexit 1\n' >"$work/tools/rt"
+chmod +x "$work/tools/rt"
+
+# A build that fails.
+cat >"$work/tree/tools/build" <<'TEXT'
 #!/usr/bin/env bash
 echo 'a reason'
 exit 1
 TEXT
-chmod +x "$work/tools/rt"
+chmod +x "$work/tree/tools/build"
 call_there schedule cellar.bin
 says 3
 complains 'a reason'
-complains 'schedule_printer could not be built: rt check parts schedule_printer'
+complains 'schedule_printer could not be built: bash tools/build parts schedule_printer'
 
-# An rt that builds nothing.
-printf '#!/usr/bin/env bash\n' >"$work/tools/rt"
+# One that builds nothing.
+printf '#!/usr/bin/env bash\n' >"$work/tree/tools/build"
 call_there schedule cellar.bin
 says 3
-complains 'schedule_printer was not built by: rt check parts schedule_printer'
+complains 'schedule_printer was not built by: bash tools/build parts schedule_printer'
 
 # A folder that cannot be written, whoever asks: a file stands in its place.
-printf '#!/usr/bin/env bash\nmkdir -p target/bin\n' >"$work/tools/rt"
+printf '#!/usr/bin/env bash\nmkdir -p target/bin\n' >"$work/tree/tools/build"
 rm -r "$work/tree/target"
 : >"$work/tree/target"
 mkdir -p "$work/tree/rust/vanillatarn/src"
 touch "$work/tree/rust/Cargo.toml" "$work/tree/rust/Cargo.lock" "$work/tree/rust/vanillatarn/Cargo.toml" "$work/tree/VERSION"
 call_there schedule cellar.bin
 says 3
-complains 'schedule_printer could not be built: rt check parts schedule_printer'
+complains 'schedule_printer could not be built: bash tools/build parts schedule_printer'
 rm "$work/tree/target"
 # shellcheck disable=SC2016 # meant for the file
-printf '#!/usr/bin/env bash\nmkdir -p target/bin\n: >"target/bin/${*: -1}"\n' >"$work/tools/rt"
+printf '#!/usr/bin/env bash\nmkdir -p target/bin\n: >"target/bin/${*: -1}"\n' >"$work/tree/tools/build"
 mkdir "$work/tree/target"
 : >"$work/tree/target/command"
 call_there schedule cellar.bin
@@ -73,8 +76,8 @@ complains 'target/command cannot be written'
 rm -r "$work/tree/target"
 give_binary
 
-# An rt that leaves a program as it is, if there is one.
-cat >"$work/tools/rt" <<'TEXT'
+# One that leaves a program as it is, if there is one.
+cat >"$work/tree/tools/build" <<'TEXT'
 #!/usr/bin/env bash
 mkdir -p target/bin
 echo asked >>asked
@@ -92,7 +95,7 @@ says 0
 starts 'c e l entry'
 check 'nothing is built twice' test ! -s err
 
-## When rt is asked
+## When it is asked
 
 # Makes the sources three hours old, and what was built two.
 age() {
@@ -100,12 +103,12 @@ age() {
     find "$work/tree/target" -exec touch -d '2 hours ago' {} +
 }
 
-# How often rt was asked.
+# How often it was asked.
 asked() {
     wc -l <"$work/tree/asked"
 }
 
-# What has happened since the build, in words, and the command that makes it so: rt is asked by the next call, and by none after it, though
+# What has happened since the build, in words, and the command that makes it so: it is asked by the next call, and by none after it, though
 # the program stays as old as it is.
 asks_after() {
     age
@@ -114,14 +117,14 @@ asks_after() {
     call_there schedule cellar.bin
     says 0
     starts 'c e l entry'
-    check "rt is asked after: $1" test "$(asked)" -eq 1
+    check "it is asked after: $1" test "$(asked)" -eq 1
     sed -E 's/about [0-9]+ s/about N s/' err >"$work/told"
     call_there schedule cellar.bin
-    check "rt is asked once after: $1" test "$(asked)" -eq 1
+    check "it is asked once after: $1" test "$(asked)" -eq 1
     check 'and nothing is said' test ! -s err
 }
 
-# The same where rt has nothing to do with it.
+# The same where it has nothing to do with it.
 asks_not_after() {
     age
     "${@:2}"
@@ -129,7 +132,7 @@ asks_not_after() {
     call_there schedule cellar.bin
     says 0
     starts 'c e l entry'
-    check "rt is not asked after: $1" test "$(asked)" -eq 0
+    check "it is not asked after: $1" test "$(asked)" -eq 0
 }
 
 crates="$work/tree/crates" target="$work/tree/target"
@@ -166,18 +169,18 @@ build_by_hand() {
 asks_not_after 'code was changed, and the program was built by hand' build_by_hand 50
 asks_after 'the program was built by hand, and code was changed' build_by_hand 70
 
-# What is changed while rt is at work is newer than what it has built.
-cp "$work/tools/rt" "$work/kept"
+# What is changed while it is at work is newer than what it has built.
+cp "$work/tree/tools/build" "$work/kept"
 # shellcheck disable=SC2016 # meant for the file
-printf '%s\n' 'sleep 0.1; touch crates/parts/src/lib.rt; sleep 0.1; touch "target/bin/${*: -1}"' >>"$work/tools/rt"
+printf '%s\n' 'sleep 0.1; touch crates/parts/src/lib.rt; sleep 0.1; touch "target/bin/${*: -1}"' >>"$work/tree/tools/build"
 age
 touch "$crates/parts/src/lib.rt"
 : >"$work/tree/asked"
 for _ in 1 2; do
     call_there schedule cellar.bin
 done
-check 'rt is asked again after a change during its work' test "$(asked)" -eq 2
-cp "$work/kept" "$work/tools/rt"
+check 'it is asked again after a change during its work' test "$(asked)" -eq 2
+cp "$work/kept" "$work/tree/tools/build"
 
 # A program and the binary without the library are counted as one, and so are the library and the binary.
 rm -r "$work/tree/target" "$work/tree/rust/target"
@@ -189,13 +192,12 @@ mkdir -p \$folder
 echo '   Compiling vanillatarn v0.1.0 (somewhere)'
 cp "$root/rust/target/release/vanillatarn" \$folder
 TEXT
-cat >"$work/tools/rt" <<'TEXT'
+cat >"$work/tree/tools/build" <<'TEXT'
 #!/usr/bin/env bash
 mkdir -p target/bin target/staticlib
 echo "rt: parts proved (unchanged since it was last proved)"
 case $* in
-    'check parts') ;;
-    'staticlib timed_network')
+    *timed_network)
         : >target/staticlib/libtimed_network.a
         echo 'rt: target/staticlib/libtimed_network.a has 1 call'
         ;;
@@ -263,10 +265,10 @@ call_there schedule cellar.bin
 says 3
 complains 'vanillatarn failed'
 
-# An rt that finds nothing to do says nothing, one that is slow gives signs of life.
+# One that finds nothing to do says nothing, one that is slow gives signs of life.
 rm -r "$work/tree/target"
 give_binary
-cat >"$work/tools/rt" <<'TEXT'
+cat >"$work/tree/tools/build" <<'TEXT'
 #!/usr/bin/env bash
 mkdir -p target/bin
 echo "rt: parts proved (unchanged since it was last proved)"
@@ -279,8 +281,8 @@ says 0
 check 'nothing is said of what is unchanged' test ! -s err
 rm -r "$work/tree/target"
 give_binary
-{ cat "$work/tools/rt"; echo 'sleep 10; printf "rt: half a "; sleep 1; echo line'; } >slow
-cp slow "$work/tools/rt"
+{ cat "$work/tree/tools/build"; echo 'sleep 10; printf "rt: half a "; sleep 1; echo line'; } >slow
+cp slow "$work/tree/tools/build"
 call_there schedule cellar.bin
 says 0
 check 'a sign of life' grep -q -E '^vanillatarn: \[2 of 2\] at work for ([89]|10) s, about 0 s left$' err
@@ -299,7 +301,7 @@ has_ended() {
 # A signal ends the tool with what it has in the background: Ctrl-C, which goes to the whole group and which what is in the background ignores by
 # itself, and each signal to the command's process alone. Nothing else is said. A signal that is ignored where the tests are started, as in the
 # background, is not ignored here.
-cat >"$work/tools/rt" <<'TEXT'
+cat >"$work/tree/tools/build" <<'TEXT'
 #!/usr/bin/env bash
 (echo "$BASHPID" >worker; echo 'rt: parts proved (2 s)'; sleep 60) &
 wait

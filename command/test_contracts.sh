@@ -57,22 +57,22 @@ takes 'the tree'
 
 with refuses 'a hypothesis three files away (uppaal_export.rt, UppaalCall, SamePaths, XtaNetwork)' crates/uppaal/specs/XtaNetwork.antt \
     's/^  meet : \(.*\) → (p ≡ q → ⊥)$/  meet : \1 → (p ≡ q → ⊥) → p < q/' 'is not what docs/promises.txt has'
-with refuses 'a hypothesis in a type whose name has a small letter' crates/model/specs/Demand3.antt 's/^readyIs \(.*\) = /&0 < 1 → /' \
+with refuses 'a hypothesis in a type whose name has a small letter' crates/model/specs/Demand3.antt 's/^ready_is \(.*\) = /&0 < 1 → /' \
     'is not what docs/promises.txt has'
-with refuses 'a hypothesis in a promise itself' crates/later_runs/specs/RunTo.antt 's/H ≤ 4294967295 → runToCall/H ≤ 60000 → runToCall/' \
+with refuses 'a hypothesis in a promise itself' crates/later_runs/specs/RunTo.antt 's/H ≤ 4294967295 → (run_to_call/H ≤ 60000 → (run_to_call/' \
     'is not what docs/promises.txt has'
 with refuses 'a field less' crates/later_runs/specs/RunTo.antt '/^  pub demand3 : /d' 'is not what docs/promises.txt has'
 with refuses 'another definition under the same name' crates/later_runs/specs/RunTo.antt \
-    's/^use Rattle·model.specs.Demand3.{Demand3}$/use Rattle·model.specs.Apart.{Demand3Apart as Demand3}/' 'is not what docs/promises.txt has'
+    's/^use Rattle.model.specs.Demand3.{Demand3}$/use Rattle.model.specs.Apart.{Demand3Apart as Demand3}/' 'is not what docs/promises.txt has'
 with refuses 'another parameter of the module around a promise' crates/slot_plan/specs/PlanSchedule.antt \
-    's/^module _ (slots : Slots) where$/module _ (slots : Slots) (few : slots .probes ≤ 2) where/' 'is not what docs/promises.txt has'
+    's/^module _ (slots : Slots) where$/module _ (slots : Slots) (few : slots.probes ≤ 2) where/' 'is not what docs/promises.txt has'
 with refuses 'a variant less of what is asked of a site' crates/site/specs/Airtime.antt '/^pub data Request/,/^$/{/^  take/d}' 'is not what docs/promises.txt has'
 with refuses 'a spare byte in the padding of an exported struct' crates/timed_network/src/component_positions.rt \
     's/^    pub component: u8,$/    pub component: u8,\n    pub spare: u8,/' 'is not what docs/promises.txt has'
 with refuses 'a spare byte in a struct of another crate' crates/site/src/lib.rt '/^pub struct Networks/,/^}/s/^    pub component: u8,$/&\n    pub spare: u8,/' \
     'is not what docs/promises.txt has'
 with refuses 'a struct without its layout' crates/node/src/lib.rt '/^#\[repr(C)\]$/d' 'is not what docs/promises.txt has'
-with refuses 'a weaker contract' crates/timed_network/src/lib.rt 's/ × Demand3Of (now (table .entry)) (now (choices .entry))//' 'is not what docs/contracts.txt has'
+with refuses 'a weaker contract' crates/timed_network/src/lib.rt 's/ × Demand3Of table\.now choices\.now//' 'is not what docs/contracts.txt has'
 with refuses 'a promise that no law takes apart' crates/refused_opening/specs/PromisedSaid.antt 's/ → OpeningTold bs$//' 'refused_opening/Promised/OpeningTold'
 with refuses 'a function that no header declares' include/timed_network_words.h 's/timed_network_words_chart/timed_network_words_picture/' 'does not declare exactly'
 with takes 'a comment more in a definition' crates/later_runs/specs/RunTo.antt 's/^  pub demand3 : /  -- document 01\n&/'

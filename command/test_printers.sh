@@ -11,7 +11,7 @@ corpus="$root/corpus"
 work="$(mktemp -d)"
 trap 'rm -rf -- "$work"' EXIT
 cd "$root"
-rt check schedule_printer chart_printer verdict_printer spread_printer reason_printer plan_table translate_table program_listing trial_run uppaal_printer >"$work/built" || { cat "$work/built"; exit 1; }
+bash "$root/tools/build" schedule_printer chart_printer verdict_printer spread_printer reason_printer plan_table translate_table program_listing trial_run uppaal_printer >"$work/built" || { cat "$work/built"; exit 1; }
 cd "$work"
 
 passed=0 failed=0

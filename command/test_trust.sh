@@ -5,15 +5,15 @@ set -euo pipefail
 cd "$(dirname "$0")/.."
 
 programs=(schedule_printer chart_printer verdict_printer spread_printer reason_printer plan_table translate_table program_listing trial_run simulate_runs uppaal_printer)
-built="$(rt check realised timed_network timed_network_words timed_node "${programs[@]}" 2>&1)" || {
+built="$(bash tools/build realised timed_network timed_network_words timed_node "${programs[@]}" 2>&1)" || {
     printf '%s\n' "$built"
     exit 1
 }
 
-# The words of the proved line of a crate's last check, which stays in .say where nothing had to be proved again. A crate whose graph has
-# no axiom has no word for them.
+# The words of the proved line of a crate's last check, which stays in .say where nothing had to be proved again; those of the crates below stand above it. A
+# crate whose graph has no axiom has no word for them. That tools/build goes on from what earlier checks kept is no matter of the proofs: `rt ci` does not.
 printed() {
-    sed -n 's/^logic=proved //p' "target/log/$1.say" | tr ' ' '\n' | grep -E '^(foreign|axioms|native|logic-built|libraries-built|pinned|cache|incremental)=' | xargs
+    sed -n 's/^logic=proved //p' "target/log/$1.say" | tail -n 1 | tr ' ' '\n' | grep -E '^(foreign|axioms|native|logic-built|libraries-built|pinned|cache)=' | xargs
 }
 
 # The words of the row of docs/REVIEWERS.md that names the crate, else of the row of the library's crates.

@@ -90,12 +90,12 @@ fact "no refusal has a name" test -s "$out/named"
 # The words are those of the proved texts: of a refusal the whole question, of an end what stands before its colon. A number that has none
 # gets the question of 0, an end that there is not words of its own.
 questions=crates/refusal_text/specs/RefusalText.antt ends=crates/run_text/specs/RunText.antt
-none=$(sed -n -E 's/^noQuestion = ascii "(.*)\\n"$/\1/p' $questions)
-sed -n '/^questions =$/,/^$/p' $questions | grep -o -E 'noQuestion|ascii "[^"]*"' |
-    sed -E 's/^ascii "(.*)\\n"$/\1/; s/^noQuestion$/'"$none/" >"$out/questions"
+none=$(sed -n -E 's/^no_question = ascii "(.*)\\n"$/\1/p' $questions)
+sed -n '/^questions =$/,/^$/p' $questions | grep -o -E 'no_question|ascii "[^"]*"' |
+    sed -E 's/^ascii "(.*)\\n"$/\1/; s/^no_question$/'"$none/" >"$out/questions"
 fact "not 29 questions and that of none were read" test "$(wc -l <"$out/questions")" = 30
-sed -n -E 's/^endText [(A-Z][^"]*"([^":]*).*/\1/p' $ends >"$out/ends"
-sed -n -E '/^notAllowed choices used =$/{n;s/^[^"]*"([^":]*).*/\1/p}' $ends >>"$out/ends"
+sed -n -E 's/^end_text [(A-Z][^"]*"([^":]*).*/\1/p' $ends >"$out/ends"
+sed -n -E '/^not_allowed choices used =$/{n;s/^[^"]*"([^":]*).*/\1/p}' $ends >>"$out/ends"
 fact "not four ends were read" test "$(wc -l <"$out/ends")" = 4
 
 # Whether the words of a program, made by a compiler, are these.

@@ -53,7 +53,7 @@ room_of() {
 }
 contract_of() {
     awk -v name="timed_network_words_${1,,}(" 'index($0, name) { inside = 1 } inside && /ensures/ { print; exit }' crates/timed_network_words/src/lib.rt |
-        sed -n 's/.*(r \.size ≤ \([0-9]*\)).*/\1/p'
+        sed -n 's/.*(result\.size ≤ \([0-9]*\)).*/\1/p'
 }
 for name in VERDICT SCHEDULE CHART SPREAD REASONS RUN SIMULATION REFUSAL; do
     room=$(room_of $name)
@@ -68,7 +68,7 @@ done
 cc -std=c99 $strict -o "$out/verdict_c" examples/c/verdict.c $words_archive "$archive"
 g++ -std=c++98 $strict -o "$out/verdict_cxx" -x c++ examples/c/verdict.c -x none "$archive" $words_archive
 cp "$out/cargo/release/verdict" "$out/verdict_rust"
-fact "the verdict's program cannot be built" rt check verdict_printer >"$out/built"
+fact "the verdict's program cannot be built" bash tools/build verdict_printer >"$out/built"
 verdicts=0
 for table in corpus/probe_and_hub.bin corpus/spread_*.bin corpus/check4_*.bin corpus/check8_*.bin corpus/check11_*.bin; do
     for spread in 0 5; do

@@ -4,8 +4,8 @@
  * Timed cellar networks: the exported calls.
  *
  * A table is a string of bytes, laid out as document 01 says under "The
- * table". Link with libtimed_network.a, which `rt staticlib timed_network`
- * writes to target/staticlib.
+ * table". Link with libtimed_network.a, which `bash tools/archive` puts to
+ * target/staticlib.
  *
  * What holds for every call here: it always returns, whatever the bytes are,
  * and it keeps nothing from one call to the next. Memory that is lent is

@@ -5,7 +5,7 @@
  *
  * Each call writes what one of the verified programs prints, byte for byte:
  * the words of a verdict, of a schedule, of a run. Link with
- * libtimed_network_words.a, which `rt staticlib timed_network_words` writes to
+ * libtimed_network_words.a, which `bash tools/archive` puts to
  * target/staticlib. It needs no other archive, and may be linked beside
  * libtimed_network.a: the two share no name. Of the C library it calls memcpy
  * and memset.

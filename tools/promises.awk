@@ -18,15 +18,15 @@ function fail(what) {
 
 # What a path names: a definition D/CRATE/FILE/NAME, a declaration R/CRATE/NAME, nothing of this tree K, or a proof P.
 function target(path, name,    crate, parts, n) {
-    if (path !~ /^Rattle·[a-z_]+(·specs)?\.(specs|proofs)\./) return "K"
+    if (path !~ /^Rattle\.[a-z0-9_]+\.(specs|proofs)\./) return "K"
     crate = path
-    sub(/^Rattle·/, "", crate)
-    sub(/(·specs)?\.(specs|proofs)\..*$/, "", crate)
-    if (path ~ /^Rattle·[a-z_]+(·specs)?\.proofs\./) return "P/" crate "/" name
-    sub(/^[^.]*\.specs\./, "", path)
+    sub(/^Rattle\./, "", crate)
+    sub(/\.(specs|proofs)\..*$/, "", crate)
+    if (path ~ /^Rattle\.[a-z0-9_]+\.proofs\./) return "P/" crate "/" name
+    sub(/^Rattle\.[a-z0-9_]+\.specs\./, "", path)
     if (path !~ /^declared\./) return "D/" crate "/" path "/" name
     n = split(path, parts, ".")
-    return "R/" crate "/" (parts[n] == "the-variants" ? parts[n - 1] : parts[n])
+    return "R/" crate "/" (parts[n] == "TheVariants" ? parts[n - 1] : parts[n])
 }
 
 function import(line,    path, names, n, i, pair) {
@@ -39,7 +39,7 @@ function import(line,    path, names, n, i, pair) {
     for (i = 1; i <= n; i++) {
         if (split(names[i], pair, " as ") < 2) pair[2] = pair[1]
         used[file, pair[2]] = target(path, pair[1])
-        if (pair[2] ~ /^_[^A-Za-z]+_$/) signs[file] = signs[file] " " pair[2]
+        if (pair[2] ~ /^◌[^A-Za-z]+◌$/) signs[file] = signs[file] " " pair[2]
     }
 }
 
@@ -66,7 +66,7 @@ function add(line,    i, sign) {
         }
         sign = line
         sub(/^ *(abbrev |unfoldable |pub |data |record )*/, "", sign)
-        if (match(sign, /^_[^A-Za-z ]+_ /)) signs[file] = signs[file] " " item
+        if (match(sign, /^◌[^A-Za-z ]+◌ /)) signs[file] = signs[file] " " item
         said[file, item] = line ~ /^ *(pub )?[a-z][^ ]* : /
         open = 1
     }
@@ -191,8 +191,8 @@ function meaning(name, from) {
 }
 
 # Calls `reach`, or notes in `noted`, for each name with a capital letter or of a type, each sign of a relation and each whole path in a text.
-function follow(words, from, noting, strict,    name, to, list, n, i) {
-    while (match(words, /Rattle·[a-z_]+(·specs)?(\.[A-Za-z0-9_-]+)+/)) {
+function follow(words, from, noting, strict,    name, to, list, sign, n, i) {
+    while (match(words, /Rattle\.[a-z0-9_]+(\.[A-Za-z0-9_-]+)+/)) {
         name = substr(words, RSTART, RLENGTH)
         words = substr(words, 1, RSTART - 1) " " substr(words, RSTART + RLENGTH)
         to = name
@@ -201,8 +201,11 @@ function follow(words, from, noting, strict,    name, to, list, n, i) {
         if (name ~ /^[A-Z]/) met(target(to, name), noting)
     }
     n = split(signs[from], list, " ")
-    for (i = 1; i <= n; i++)
-        if (index(words, " " substr(list[i], 2, length(list[i]) - 2) " ")) met(meaning(list[i], from), noting)
+    for (i = 1; i <= n; i++) {
+        sign = list[i]
+        gsub(/◌/, "", sign)
+        if (index(words, " " sign " ")) met(meaning(list[i], from), noting)
+    }
     while (match(words, /[A-Za-z_][A-Za-z0-9_'-]*/)) {
         name = substr(words, RSTART, RLENGTH)
         words = substr(words, RSTART + RLENGTH)
@@ -293,7 +296,7 @@ function laws(    i, pair, from, crate) {
 
 # Whether a text has a name: as a word, or its sign anywhere.
 function has(words, name,    at, before, after) {
-    if (name !~ /^[A-Za-z]/) { gsub(/^_|_$/, "", name); return index(words, name) }
+    if (name !~ /^[A-Za-z]/) { gsub(/◌/, "", name); return index(words, name) }
     while (at = index(words, name)) {
         before = at == 1 ? " " : substr(words, at - 1, 1)
         after = substr(words, at + length(name), 1)

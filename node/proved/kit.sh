@@ -1,5 +1,5 @@
 # The kit of `rt`, and its own clang.
 # shellcheck shell=bash
 # shellcheck disable=SC2034 # read by those that read this file
-kit="${RATTLE_HOME:-$(cd "$(dirname "$(readlink -f "$(command -v rt)")")/.." && pwd -P)}"
-clang="$kit/on/$(uname -m)/toolchain/bin/clang"
+kit="$(cd "$(dirname "$(readlink -f "$(command -v rt)")")/.." && pwd -P)"
+clang="$kit/toolchain/bin/clang"

@@ -1,9 +1,10 @@
 # A module of the proved code, for another processor. The variables triple and layout are those of that processor.
 #
-# What is changed, in this order: (1) the data layout, (2) the triple, (3) the two attributes that name x86, (4) the width of the length that
-# memmove is handed, (5) the same where memmove is declared. Every other line stays as it is, and has to be one of those below: numbers of 1 to
+# What is changed, in this order: (1) the data layout, (2) the triple, (3) the three attributes that name x86 or its stack, (4) the width of the length that
+# memmove or memset is handed, (5) the same where the two are declared. Every other line stays as it is, and has to be one of those below: numbers of 1 to
 # 64 bits and pointers, bytes at written-out offsets, calls of the module's own functions. No number is made of a pointer or the other way
-# round, no type but an array of bytes has a layout of its own, no global, no other function of LLVM's. Anything else ends this with 1.
+# round (a pointer may be compared with null), no type but an array of bytes has a layout of its own, no global, no other function of LLVM's. Anything else
+# ends this with 1.
 
 function refuse(why) {
     printf "retarget: line %d: %s: %s\n", FNR, why, $0 >"/dev/stderr"
@@ -24,6 +25,7 @@ function is_statement() {
         is("  " name " = getelementptr( inbounds nuw)? i8, ptr " name ", i64 " value) ||
         is("  " name " = (add|sub|mul|xor)( nuw)?( nsw)? " number " " value ", " value) ||
         is("  " name " = icmp (eq|ne|ult|ule|ugt|uge|slt|sle|sgt|sge) " number " " value ", " value) ||
+        is("  " name " = icmp eq ptr " name ", null") ||
         is("  " name " = (zext|sext|trunc)( nuw)?( nsw)? " number " " value " to " number) ||
         is("  (" name " = )?call (void|" number ") " called "\\((" handed "(, " handed ")*)?\\)") ||
         is("  br (label|i1 " name ", label " name ", label) " name) ||
@@ -35,7 +37,7 @@ function is_frame() {
     return is("") || is("}") || is("[a-z]+(\\.[0-9]+)?:( *; preds = [%a-z0-9., ]+)?") ||
         is("define (internal )?(noundef (zeroext |signext )?)?(void|ptr|" number ") " called "\\((" taken "(, " taken ")*)?\\) #0 \\{") ||
         is("; (ModuleID = '[^']*'|Function Attrs: [a-z() :]+)") || is("source_filename = \"rattle\"") ||
-        is("attributes #1 = \\{ nocallback nofree nounwind willreturn memory\\(argmem: readwrite\\) \\}") ||
+        is("attributes #[12] = \\{ nocallback nofree nounwind willreturn memory\\(argmem: (read)?write\\) \\}") ||
         is("!llvm.ident = !\\{!0\\}") || is("!0 = !\\{!\"rattle logic=[0-9a-f]+\"\\}") || is("!1 = !\\{i8 0, i8 2\\}") || is("!2 = !\\{\\}")
 }
 
@@ -52,7 +54,7 @@ BEGIN {
     called = "@(timed_node_[a-z_]+|\"[a-z0-9_]+(::[a-z0-9_]+)+\")"
     handed = "(ptr|" number ") " value
     taken = "(ptr|" number ") noundef( zeroext| signext)? " name
-    moved = "@llvm\\.memmove\\.p0\\.p0\\.i64\\(ptr " name ", ptr " name ", i64 [0-9]+, i1 false\\)"
+    moved = "@llvm\\.mem(move\\.p0\\.p0\\.i64\\(ptr " name ", ptr " name "|set\\.p0\\.i64\\(ptr " name ", i8 0), i64 [0-9]+, i1 false\\)"
     if (triple == "" || layout == "") {
         print "retarget: no triple or no data layout of the processor" >"/dev/stderr"
         refused = 1
@@ -72,7 +74,7 @@ is("target triple = \"x86_64-unknown-linux-gnu\"") {
     next
 }
 
-is("attributes #0 = \\{ nounwind \"probe-stack\"=\"inline-asm\" \"target-cpu\"=\"x86-64\" \\}") {
+is("attributes #0 = \\{ nounwind \"probe-stack\"=\"inline-asm\" \"stack-probe-size\"=\"3072\" \"target-cpu\"=\"x86-64\" \\}") {
     used(3)
     print "attributes #0 = { nounwind }"
     next
@@ -86,7 +88,7 @@ is("  call void " moved) {
     next
 }
 
-is("declare void @llvm\\.memmove\\.p0\\.p0\\.i64\\(ptr writeonly captures\\(none\\), ptr readonly captures\\(none\\), i64, i1 immarg\\) #1") {
+is("declare void @llvm\\.mem(move\\.p0\\.p0\\.i64\\(ptr writeonly captures\\(none\\), ptr readonly captures\\(none\\)|set\\.p0\\.i64\\(ptr writeonly captures\\(none\\), i8), i64, i1 immarg\\) #[12]") {
     used(5)
     sub(/\.i64\(/, ".i32(")
     sub(/, i64, /, ", i32, ")
@@ -104,7 +106,7 @@ is_statement() || is_frame() {
 END {
     if (refused) exit 1
     for (rule = 1; rule <= 5; rule++)
-        if (uses[rule] == 0 || (rule != 4 && uses[rule] != 1)) {
+        if (uses[rule] == 0 || (rule < 4 && uses[rule] != 1) || (rule == 5 && uses[rule] != 2)) {
             printf "retarget: rule %d was used %d times\n", rule, uses[rule] >"/dev/stderr"
             exit 1
         }

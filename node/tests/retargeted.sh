@@ -9,8 +9,8 @@ module=target/node/timed_node.ll
 undone() {
     sed -E -e 's/^target triple = .*/target triple = "x86_64-unknown-linux-gnu"/' \
         -e "s/^target datalayout = .*/$(grep '^target datalayout' $module | sed 's/[\/&]/\\&/g')/" \
-        -e 's/^attributes #0 = \{ nounwind \}$/attributes #0 = { nounwind "probe-stack"="inline-asm" "target-cpu"="x86-64" }/' \
-        -e 's/llvm\.memmove\.p0\.p0\.i32\((.*), i32( [0-9]+|), i1 /llvm.memmove.p0.p0.i64(\1, i64\2, i1 /' "$1" | cmp -s - $module
+        -e 's/^attributes #0 = \{ nounwind \}$/attributes #0 = { nounwind "probe-stack"="inline-asm" "stack-probe-size"="3072" "target-cpu"="x86-64" }/' \
+        -e 's/llvm\.(memmove\.p0|memset)\.p0\.i32\((.*), i32( [0-9]+|), i1 /llvm.\1.p0.i64(\2, i64\3, i1 /' "$1" | cmp -s - $module
 }
 
 # Whether as many lines were changed as there are of the rules, and each is one of them.
@@ -18,9 +18,9 @@ changed_alone() {
     diff $module "$1" | grep '^[<>]' >"$out/changes" || true
     local lines moves
     lines=$(grep -c '^<' "$out/changes")
-    moves=$(grep -c '  call void @llvm\.memmove\.' $module)
-    test "$lines" = $((moves + 4)) && test "$(grep -c '^>' "$out/changes")" = "$lines" &&
-        ! grep -v -q -E '^. (target (triple|datalayout) = |attributes #0 = |declare void @llvm\.memmove\.|  call void @llvm\.memmove\.)' "$out/changes"
+    moves=$(grep -c '  call void @llvm\.mem\(move\|set\)\.' $module)
+    test "$lines" = $((moves + 5)) && test "$(grep -c '^>' "$out/changes")" = "$lines" &&
+        ! grep -v -q -E '^. (target (triple|datalayout) = |attributes #0 = |declare void @llvm\.mem(move|set)\.|  call void @llvm\.mem(move|set)\.)' "$out/changes"
 }
 while read -r name triple cpu; do
     [[ $name != '#'* ]] || continue
@@ -45,7 +45,7 @@ done <<'EDITS'
 0,/alloca i8/s//alloca { i8, i64 }/|a struct of LLVM's
 0,/getelementptr i8/s//getelementptr i64/|steps of another width
 0,/load ptr, ptr/s//load ptr, ptr addrspace(1)/|another address space
-0,/(memmove.*), i64 16, i1 false/s//\1, i64 %a9, i1 false/|a length that is not written out
+0,/(memmove.*), i64 [0-9]+, i1 false/s//\1, i64 %a9, i1 false/|a length that is not written out
 0,/i1 false\)/s//i1 true)/|a volatile copy
 0,/call void @llvm.memmove/s//call void @llvm.memcpy/|another function of LLVM's
 0,/call void @"[a-z_:]+"/s//call void @malloc/|a function from outside
@@ -53,10 +53,12 @@ done <<'EDITS'
 s/^source_filename.*/&\n@state = global i64 0/|a global
 s/^source_filename.*/&\ndeclare i32 @puts(ptr)/|a declaration
 s/^source_filename.*/&\nmodule asm "nop"/|assembler text
-0,/= add nuw i64/s//= fadd double/|numbers with a point
+0,/= add( nuw)?( nsw)? i[0-9]+/s//= fadd double/|numbers with a point
 s/^target triple.*/target triple = "aarch64-unknown-linux-gnu"/|a module of another processor
 s/^target datalayout = "e/target datalayout = "E/|a module with the highest byte first
-/^declare/d|a module without its memmove
+/^declare.*memmove/d|a module without its memmove
+0,/(memset.*), i8 0, /s//\1, i8 1, /|bytes set to anything but 0
+/^declare.*memset/d|a module without its memset
 EDITS
 
 # What is made twice is the same: the objects' bytes hang on the sources and the kit alone.

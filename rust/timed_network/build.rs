@@ -1,4 +1,4 @@
-//! Links the static library that `rt staticlib timed_network` writes.
+//! Links the static library that `tools/archive` makes.
 
 use std::env;
 use std::path::{Path, PathBuf};
@@ -18,9 +18,7 @@ fn main() {
 fn demand(library: &Path) {
     if !library.is_file() {
         eprintln!("The static library is missing: {}", library.display());
-        eprintln!(
-            "Run `rt staticlib timed_network` in the root of the repository, then build again."
-        );
+        eprintln!("Run `bash tools/archive` in the root of the repository, then build again.");
         exit(1);
     }
 }

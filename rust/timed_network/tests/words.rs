@@ -26,7 +26,7 @@ fn between<'a>(text: &'a str, from: &str, to: &str) -> &'a str {
 fn questions_are_those_of_the_definition() {
     let definition = text("crates/refusal_text/specs/RefusalText.antt");
     let listed = between(&definition, "\nquestions =\n", "\n\n");
-    assert!(listed.trim_start().starts_with("noQuestion"));
+    assert!(listed.trim_start().starts_with("no_question"));
     let questions = quoted(listed);
     let told: Vec<String> = Refusal::ALL
         .iter()
@@ -39,11 +39,11 @@ fn questions_are_those_of_the_definition() {
 #[test]
 fn ends_are_those_of_the_definition() {
     let definition = text("crates/run_text/specs/RunText.antt");
-    let mut words = quoted(between(&definition, "\nendText Horizon", "\n\n"));
+    let mut words = quoted(between(&definition, "\nend_text Horizon", "\n\n"));
     words.push(
         quoted(between(
             &definition,
-            "\nnotAllowed choices used =\n",
+            "\nnot_allowed choices used =\n",
             "\n\n",
         ))[0]
             .clone(),

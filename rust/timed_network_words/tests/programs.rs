@@ -1,5 +1,5 @@
 //! Each text is held to what its verified program prints: to the stored output of each program,
-//! which `rt check` holds the program to, and to the answers, schedules and charts of the corpus,
+//! which `rt ci` holds the program to, and to the answers, schedules and charts of the corpus,
 //! which `command/test_printers.sh` holds the programs to. And each is tried with bytes lent of
 //! every length around its own.
 
