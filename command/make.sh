@@ -62,12 +62,13 @@ listed() {
 
 # The sources of a crate. Code and definitions alone decide what a program does and what is proved of it: a proof, a must-fail edit or the
 # data of a test that is changed leaves both as they were, and `rt ci` and the tests try it. Folders are listed for what is added to
-# them, or taken away.
+# them, or taken away; `out`, where rt keeps its work, is made before, since it would make the crate's folder newer than the build.
 crate_sources() {
     local name names
     names="$(crates_of "$1")" || exit
     printf '%s\n' crates crates.txt
     for name in $names; do
+        [[ ! -d $root/crates/$name || -d $root/crates/$name/out ]] || mkdir "$root/crates/$name/out" || exit
         listed "crates/$name" src specs
     done
 }
