@@ -21,16 +21,22 @@ pub enum Kind {
     Pairs,
 }
 
+// Bytes from a place on; the place behind them is answered.
+pub fn put_bytes<const N: usize>(out: &mut [u8], at: usize, bytes: [u8; N]) -> usize
+    requires { Room out.old at bytes }
+    ensures { Put out.old at bytes.entry result out.new }
+{
+    let end = at + N;
+    out[at..end].copy_from_slice(&bytes);
+    end
+}
+
 // A statement: op, a, k.
 fn put_quad(out: &mut [u8], at: usize, op: u8, a: u8, k: u16) -> usize
     requires { at + 4 ≤ length out.old }
     ensures { Put out.old at (quad op a k) result out.new }
 {
-    out[at] = op;
-    out[at + layout::STATEMENT_A] = a;
-    out[at + layout::STATEMENT_K] = (k / 256) as u8;
-    out[at + 3] = (k % 256) as u8;
-    at + layout::STATEMENT_WIDTH
+    put_bytes(out, at, [op, a, (k / 256) as u8, (k % 256) as u8])
 }
 
 // The tests of a clock bound.
@@ -125,11 +131,9 @@ fn put_parts(kind: Kind, bytes: &[u8], count: u8, out: &mut [u8], at: usize) -> 
     let w = width(kind);
     let mut place: usize = 0;
     let mut next = at;
-    let mut k = count;
-    while 0 < k {
+    for _ in 0..count {
         next = put_part(kind, &bytes[place..], out, next);
         place += w;
-        k -= 1;
     }
     next
 }
@@ -220,11 +224,9 @@ pub fn put_location_block(
 {
     let mut place: usize = 0;
     let mut next = at;
-    let mut e: u8 = 0;
-    while e < count {
+    for e in 0..count {
         next = put_trial_from(&bytes[place..], here, location, e, out, next, budgets);
         place += decoder::arc_length(&bytes[place..], budgets);
-        e += 1;
     }
     put_quad(out, next, op::TAKE, 0, 0)
 }
@@ -279,11 +281,9 @@ fn put_clocks(mask: u8, clocks: u8, out: &mut [u8], at: usize) -> usize
 {
     let mut bits = mask;
     let mut next = at;
-    let mut i: u8 = 0;
-    while i < clocks {
+    for i in 0..clocks {
         next = put_ageing(bits, i, out, next);
         bits = bits / 2;
-        i += 1;
     }
     next
 }

@@ -1,14 +1,14 @@
 -- The calls' definitions, from what the reader and the schedule answer. Assumes nothing.
 use mathlib.Core.Path.{◌≡◌, sym, ap, ◌∙◌}
 use mathlib.Core.List.{List, ◌++◌}
-use Prim.Native.Nat.{ℕ, ◌+◌, ◌*◌, ◌≤◌, ◌<◌}
+use Prim.Native.Nat.{ℕ, ◌*◌, ◌≤◌, ◌<◌}
 use lib.ListN.{length, drop}
 use Rattle.model.specs.declared.Verdict.TheVariants.{Accepted, Refused}
 use Rattle.model.specs.Lists.{Answer, accepted, refused, ◌after◌, each}
 use Rattle.model.specs.Table.{Read}
 use Rattle.model.specs.Places.{Valid}
-use Rattle.model.specs.Schedule.{Passage, schedule, seven_of}
-use Rattle.model.specs.Checks.{accepted_schedule, accepted_schedule_of}
+use Rattle.model.specs.Schedule.{Passage, seven_of}
+use Rattle.model.specs.Checks.{accepted_schedule_of}
 use Rattle.model.specs.Calls.{refusing, laid, accepted_schedule_in, schedule_with, schedule_call}
 use Rattle.model.proofs.Reader.Located.{valid_read}
 use Rattle.table.proofs.Answered.{verdict_refused, verdict_accepted}

@@ -1,13 +1,12 @@
 -- The call `run_apart`, from what the checks and the run answer. Assumes nothing.
-use mathlib.Core.Path.{◌≡◌, refl, sym, ap, subst, ◌∙◌}
+use mathlib.Core.Path.{◌≡◌, sym, ap, ◌∙◌}
 use mathlib.Core.Bool.{Bool, true, false, cond}
 use mathlib.Core.List.{List, [], ◌∷◌, ◌++◌}
-use Prim.Native.Nat.{ℕ, zero, suc, ◌+◌, ◌-◌, ◌*◌, ◌≤◌, ◌<◌}
+use Prim.Native.Nat.{ℕ, zero, suc, ◌*◌, ◌≤◌, ◌<◌}
 use native.Mathlib.Omega.{arith}
-use borrow.Author.Tests.{lt-ltb, le-ltb, le-leb, lt-leb}
-use lib.Dec.{leb, ltb, eqb}
-use lib.ListN.{length, take, drop, get_or, length-drop}
-use lib.Seq.{get_or-drop, drop-drop}
+use borrow.Author.Tests.{lt-ltb, le-ltb}
+use lib.Dec.{eqb}
+use lib.ListN.{length, take, drop}
 use Rattle.model.specs.Lists.{Answer, accepted, refused, each}
 use Rattle.model.specs.Table.{Read, size}
 use Rattle.model.specs.Places.{Valid, read_of}
@@ -16,7 +15,7 @@ use Rattle.model.specs.Checks.{accepted_schedule_at}
 use Rattle.model.specs.Run.{Setting, Result, setting_at, run, observation_width, written_bytes, written_in}
 use Rattle.model.specs.Demand3.{ticks_in}
 use Rattle.model.specs.Apart.{Permitted, Demand3Apart}
-use Rattle.model.specs.Calls.{read_at, offsets_fine, RunCall, not_run, ran, run_with_at, run_planned_at, run_read_at, run_call_at}
+use Rattle.model.specs.Calls.{read_at, offsets_fine, not_run, ran, run_with_at, run_planned_at, run_read_at, run_call_at}
 use Rattle.model.proofs.Reader.Located.{valid_read}
 use Rattle.model.proofs.Observations.Size.{all_long}
 use Rattle.model.proofs.Run.CallsApart.{offsets-fine, demanded_apart}
@@ -24,59 +23,7 @@ use Rattle.model.proofs.Run.Few.{few_apart}
 use Rattle.run.specs.Ends.{PlannedApart}
 use Rattle.calls.proofs.Spreading.{read_at_is}
 
--- ## The offsets, one by one
-
-module _ (G : ℕ) where
-  none_left : (n : ℕ) (os : List ℕ) → length os ≡ 0 → true ≡ offsets_fine G n os
-  unfolding offsets_fine
-  none_left zero os e = refl
-  none_left (suc n) [] e = refl
-  none_left (suc n) (o ∷ os) e = absurd (omega (arith, e))
-
-  one_above : (n : ℕ) (os : List ℕ) → 0 < n → 0 < length os → G < get_or os 0 0 → false ≡ offsets_fine G n os
-  unfolding offsets_fine
-  one_above zero os h k e = absurd (omega (arith, h))
-  one_above (suc n) [] h k e = absurd (omega (arith, k))
-  one_above (suc n) (o ∷ os) h k e = rw (lt-leb o G e)
-
-  one_within : (n : ℕ) (os : List ℕ) → 0 < length os → get_or os 0 0 ≤ G → offsets_fine G (suc n) os ≡ offsets_fine G n (drop 1 os)
-  unfolding offsets_fine
-  one_within n [] k e = absurd (omega (arith, k))
-  one_within n (o ∷ os) k e = rw (le-leb o G e)
-
-  -- the offset of node c stands at the front of those from it on
-  front : (c : ℕ) (os : List ℕ) → get_or (drop c os) 0 0 ≡ get_or os c 0
-  front c os = get_or-drop c os 0 0 ∙ ap (λ (k : ℕ). get_or os k 0) (let e : c + 0 ≡ c = omega arith in e)
-
-  -- at the first node
-  pub offsets_first : (n : ℕ) (os : List ℕ) → offsets_fine G (n - 0) (drop 0 os) ≡ offsets_fine G n os
-  offsets_first n os = ap (λ (k : ℕ). offsets_fine G k os) (let e : n - 0 ≡ n = omega arith in e)
-
-  -- no node is left
-  pub offsets_through : (n c : ℕ) (os : List ℕ) → n ≤ c → offsets_fine G (n - c) (drop c os) ≡ offsets_fine G n os → true ≡ offsets_fine G n os
-  unfolding offsets_fine
-  offsets_through n c os h inv =
-      let z : n - c ≡ 0 = omega (arith, h) in
-      sym (ap (λ (k : ℕ). offsets_fine G k (drop c os)) z) ∙ inv
-
-  module _ (n c : ℕ) (os : List ℕ) (h : c < n) (inv : offsets_fine G (n - c) (drop c os) ≡ offsets_fine G n os) where
-    -- no offset is left for node c
-    pub offsets_past : length os ≤ c → true ≡ offsets_fine G n os
-    offsets_past k = none_left (n - c) (drop c os) (omega (arith, length-drop c os, k)) ∙ inv
-
-    module _ (k : c < length os) where
-      -- it is above the spread, or not
-      pub offset_above : G < get_or os c 0 → false ≡ offsets_fine G n os
-      offset_above e =
-          one_above (n - c) (drop c os) (omega (arith, h)) (omega (arith, length-drop c os, k)) (omega (arith, front c os, e)) ∙ inv
-
-      pub offset_within : get_or os c 0 ≤ G → offsets_fine G (n - (c + 1)) (drop (c + 1) os) ≡ offsets_fine G n os
-      offset_within e =
-          let next : n - c ≡ suc (n - (c + 1)) = omega (arith, h) in
-          sym
-          (sym inv ∙ ap (λ (m : ℕ). offsets_fine G m (drop c os)) next
-          ∙ one_within (n - (c + 1)) (drop c os) (omega (arith, length-drop c os, k)) (omega (arith, front c os, e))
-          ∙ ap (offsets_fine G (n - (c + 1))) (drop-drop 1 c os))
+-- ## The offsets
 
 -- the answer, for as many nodes as the table has
 pub fine_as : (G nodes count : ℕ) (os : List ℕ) (answer : Bool) → answer ≡ offsets_fine G nodes os → nodes ≡ count → {told : Bool} → answer ≡ told → offsets_fine G count os ≡ told

@@ -1,11 +1,8 @@
 -- The call `translate`, from what the checks answer. Assumes nothing.
-use mathlib.Core.Path.{◌≡◌, refl, sym, ap, ◌∙◌}
-use mathlib.Core.Bool.{Bool, true, false, cond}
+use mathlib.Core.Path.{◌≡◌, sym, ap, ◌∙◌}
 use mathlib.Core.List.{List, ◌++◌}
 use Prim.Native.Nat.{ℕ, ◌≤◌, ◌<◌}
-use native.Mathlib.Omega.{arith}
 use borrow.Author.Tests.{le-leb, lt-leb}
-use lib.Dec.{leb}
 use lib.ListN.{length, drop}
 use Rattle.model.specs.declared.Verdict.{Verdict}
 use Rattle.model.specs.declared.Verdict.TheVariants.{Accepted, Refused}
@@ -16,7 +13,7 @@ use Rattle.model.specs.Places.{Valid, read_of}
 use Rattle.model.specs.Schedule.{Passage}
 use Rattle.model.specs.Checks.{accepted_schedule_of}
 use Rattle.model.specs.Program.{program_bytes}
-use Rattle.model.specs.Calls.{verdict_of, Call, refusing, laid, accepted_schedule_in, program_in, bytes_with, check_call, translate_call}
+use Rattle.model.specs.Calls.{refusing, laid, accepted_schedule_in, bytes_with, check_call, translate_call}
 use Rattle.model.proofs.Reader.Located.{valid_read}
 use Rattle.table.proofs.Answered.{verdict_refused, verdict_accepted}
 

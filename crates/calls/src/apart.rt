@@ -6,7 +6,7 @@ ghost use Rattle.model.specs.Places.{Valid, read_of};
 ghost use Rattle.model.specs.Schedule.{Passage};
 ghost use Rattle.model.specs.Checks.{accepted_schedule_at};
 ghost use Rattle.model.specs.Run.{setting_at, run, observation_width};
-ghost use Rattle.model.specs.Calls.{not_run, ran, end_of, offsets_fine, run_call_at, Demand3ApartOf};
+ghost use Rattle.model.specs.Calls.{not_run, ran, offsets_fine, run_call_at, Demand3ApartOf};
 ghost use Rattle.model.specs.Observations.{ObservationsReadAt};
 ghost use Rattle.model.specs.Finishes.{FinishesApartOf};
 ghost use Rattle.table.specs.Directory.{starts_of};
@@ -15,18 +15,6 @@ ghost use Rattle.calls.specs.Ran.{Answers};
 
 use crate::Ran;
 use model::{End, Verdict, layout};
-
-// The end that has this number and this node.
-fn end_of(number: u8, node: u8) -> End
-    ensures { result ≡ end_of number node }
-{
-    match number {
-        0 => End::Horizon,
-        1 => End::UsedUp,
-        2 => End::Late(node),
-        _ => End::NotAllowed,
-    }
-}
 
 fn not_run(number: u8, component: u8) -> Ran
     ensures { (lent : List ℕ) → Answers (not_run number component lent) result lent }
@@ -44,17 +32,8 @@ fn not_run(number: u8, component: u8) -> Ran
 fn offsets_fine(offsets: &[u32], nodes: usize, spread: u32) -> bool
     ensures { result ≡ offsets_fine spread nodes offsets.now }
 {
-    let mut c: usize = 0;
-    while c < nodes {
-        if offsets.len() <= c {
-            return true;
-        }
-        if spread < offsets[c] {
-            return false;
-        }
-        c += 1;
-    }
-    true
+    let handed = &offsets[..nodes.min(offsets.len())];
+    handed.iter().all(|offset| *offset <= spread)
 }
 
 // The run of a table whose schedule stands in the rows, nothing being refused.
@@ -73,7 +52,7 @@ fn run_permitted(
     let e = run::run_table(table, starts, rows, count, offsets, choices, observations);
     Ran {
         verdict: Verdict::Accepted,
-        end: end_of(e.end, e.node),
+        end: e.end,
         tick: e.tick as u32,
         used: e.used as u32,
         size: e.written,

@@ -5,7 +5,7 @@
 pub mod apart;
 pub mod spread;
 
-ghost use Rattle.std.specs.Prelude.{◌≡◌, ◌↔◌, ◌*◌, ◌≤◌, length};
+ghost use Rattle.std.specs.Prelude.{◌≡◌, ◌↔◌, ◌*◌, ◌≤◌, IfErr, length};
 ghost use Rattle.model.specs.declared.Verdict.TheVariants.{Accepted, Refused};
 ghost use Rattle.model.specs.Reader.{byte};
 ghost use Rattle.model.specs.Places.{Valid};
@@ -14,10 +14,11 @@ ghost use Rattle.model.specs.Calls.{check_call, schedule_call, translate_call, r
 ghost use Rattle.model.specs.Acceptance.{Accepts};
 ghost use Rattle.model.specs.Observations.{ObservationsRead};
 ghost use Rattle.model.specs.Finishes.{FinishesOf};
-ghost use Rattle.table.specs.Directory.{starts_of};
+ghost use Rattle.table.specs.Directory.{starts_of, question_number};
 ghost use Rattle.calls.specs.Ran.{Answers};
 
 use model::{End, Verdict, layout};
+use table::HeaderFault;
 
 // The answer of a run: the end, the tick, the choices used and the observations written; after a refusal `Horizon`, 0, 0 and 0.
 #[derive(Clone, Copy)]
@@ -53,9 +54,9 @@ fn plan_verdict(table: &[u8], starts: [u16; 8]) -> Verdict
     spread::plan_verdict(table, starts, 0)
 }
 
-// Checks 1 to 3 alone: the number of the one that refuses the table, 0 if they are passed. No more is read than the header.
-pub fn check_header(table: &[u8]) -> u8
-    ensures { ((result ≡ 0 → ⊥) → check_call table.now ≡ Refused result 255) × ((check_call table.now ≡ Accepted) ↔ Accepts table.now) }
+// Checks 1 to 3 alone: the one that refuses the table. No more is read than the header.
+pub fn check_header(table: &[u8]) -> Result<(), HeaderFault>
+    ensures { IfErr result (λ fault. check_call table.now ≡ Refused (question_number fault) 255) × ((check_call table.now ≡ Accepted) ↔ Accepts table.now) }
 {
     table::header(table)
 }

@@ -1,14 +1,15 @@
 // Document 02, wish 6: the check at a spread of the nodes' starts, and the largest spread at which a table is accepted.
-ghost use Rattle.std.specs.Prelude.{◌≡◌, ◌↔◌, true, ◌+◌, ◌≤◌, ◌<◌};
+ghost use Rattle.std.specs.Prelude.{◌≡◌, ◌↔◌, true, ◌+◌, ◌≤◌, ◌<◌, IfErr};
 ghost use Rattle.model.specs.declared.Verdict.TheVariants.{Accepted, Refused};
 ghost use Rattle.model.specs.Reader.{byte};
 ghost use Rattle.model.specs.Places.{Valid, read_of};
 ghost use Rattle.model.specs.Calls.{check_call_at, check_call, LargestSpread};
 ghost use Rattle.model.specs.Acceptance.{AcceptsAt};
-ghost use Rattle.table.specs.Directory.{starts_of};
+ghost use Rattle.table.specs.Directory.{starts_of, question_number};
 ghost use Rattle.calls.specs.Spread.{ScheduleRows};
 
 use model::{Verdict, layout};
+use table::HeaderFault;
 
 // The answer of `largest_spread`: the verdict without a spread, and the largest spread at which the table is accepted, 0 after a refusal.
 #[derive(Clone, Copy)]
@@ -27,10 +28,10 @@ pub fn plan_verdict(table: &[u8], starts: [u16; 8], spread: u32) -> Verdict
     r.verdict
 }
 
-// Checks 1 to 3 alone, which come before the question of the spread: the number of the one that refuses the table, 0 if they are passed. No more is
-// read than the header.
-pub fn check_header_spread(table: &[u8], spread: u32) -> u8
-    ensures { ((result ≡ 0 → ⊥) → check_call_at spread table.now ≡ Refused result 255) × ((check_call_at spread table.now ≡ Accepted) ↔ (spread ≤ 1000) × AcceptsAt spread table.now) }
+// Checks 1 to 3 alone, which come before the question of the spread: the one that refuses the table. No more is read than the
+// header.
+pub fn check_header_spread(table: &[u8], spread: u32) -> Result<(), HeaderFault>
+    ensures { IfErr result (λ fault. check_call_at spread table.now ≡ Refused (question_number fault) 255) × ((check_call_at spread table.now ≡ Accepted) ↔ (spread ≤ 1000) × AcceptsAt spread table.now) }
 {
     table::header(table)
 }
@@ -90,6 +91,7 @@ fn bisect(table: &[u8], rows: &[u32], count: usize) -> u32
     let guess = checks::distances::likely(table, rows, count, horizon);
     let mut fits: u32 = 0;
     let mut fails: u32 = 1001;
+    // A while: the two bounds close in on each other, and how soon is told by what is accepted between.
     while fits + 1 < fails {
         let middle = between(fits, fails, guess);
         if is_accepted(table, rows, count, horizon, middle) {

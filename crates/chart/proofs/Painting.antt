@@ -1,12 +1,11 @@
 -- Bytes of the lent slice one by one: cells raised, cells and rows without windows. Assumes nothing.
 use mathlib.Core.Path.{◌≡◌, refl, sym, ◌∙◌}
-use mathlib.Core.Bool.{Bool, true, false, cond}
+use mathlib.Core.Bool.{true, false}
 use mathlib.Core.List.{List, []}
-use mathlib.Core.Option.{Option, none, some}
-use Prim.Native.Nat.{ℕ, suc, ◌+◌, ◌*◌, ◌≤◌, ◌<◌}
+use mathlib.Core.Option.{none, some}
+use Prim.Native.Nat.{ℕ, ◌+◌, ◌*◌, ◌≤◌, ◌<◌}
 use native.Mathlib.Omega.{arith}
 use native.Mathlib.Decide.{ℕ_discrete}
-use borrow.Author.Tests.{eq-eqb, ne_eqb}
 use lib.ListN.{length, get_or, set, length-set}
 use lib.Seq.{get_or-set_same, get_or-set_other}
 use Rattle.model.specs.declared.Action.{Action}
@@ -15,7 +14,10 @@ use Rattle.model.specs.Table.{Table, size}
 use Rattle.model.specs.Places.{read_of}
 use Rattle.model.specs.Window.{sends, receives}
 use Rattle.model.specs.Chart.{letter_of}
-use Rattle.rows.specs.Rows.{message_of, row_passage, RowsPlaced}
+use Rattle.rows.specs.Rows.{option_of, row_passage, RowsPlaced}
+use Rattle.std.specs.Prelude.{is_some}
+use Rattle.std.specs.declared.option.Option.{Option as Found}
+use Rattle.std.specs.declared.option.Option.TheVariants.{Some, None}
 use Rattle.model.proofs.Basics.Bools.{clash}
 use Rattle.chart.specs.declared.Window.{Window}
 use Rattle.chart.specs.Drawn.{empty_cell, raised_of, Tells, Painted, EmptyCells, Frame, EmptyRow, Drawn}
@@ -27,15 +29,17 @@ receive_letter Internal e = clash e
 receive_letter (Send k) e = clash e
 receive_letter Receive e = refl
 
-pub internal_letter : (a : Action) (m : ℕ) → receives a ≡ false → message_of m ≡ sends a → m ≡ 255 → 87 ≡ letter_of a
-internal_letter Internal m e f h = refl
-internal_letter (Send k) m e f h = let z : none ≡ some k = sym (rw (eq-eqb m 255 h)) ∙ f in let z : ◌≡◌ {A = ℕ} 0 1 = cc in absurd (omega arith)
-internal_letter Receive m e f h = clash (sym e)
+pub internal_letter : (a : Action) (o : Found ℕ) → receives a ≡ false → option_of o ≡ sends a → is_some o ≡ false → 87 ≡ letter_of a
+internal_letter Internal o e f h = refl
+internal_letter (Send k) None e f h = let z : none ≡ some k = f in absurd (cc)
+internal_letter (Send k) (Some m) e f h = clash (sym h)
+internal_letter Receive o e f h = clash (sym e)
 
-pub send_letter : (a : Action) (m : ℕ) → receives a ≡ false → message_of m ≡ sends a → (m ≡ 255 → ⊥) → 83 ≡ letter_of a
-send_letter Internal m e f h = let z : some m ≡ none = sym (rw (ne_eqb m 255 h)) ∙ f in let z : ◌≡◌ {A = ℕ} 0 1 = cc in absurd (omega arith)
-send_letter (Send k) m e f h = refl
-send_letter Receive m e f h = clash (sym e)
+pub send_letter : (a : Action) (o : Found ℕ) → receives a ≡ false → option_of o ≡ sends a → is_some o ≡ true → 83 ≡ letter_of a
+send_letter Internal None e f h = clash h
+send_letter Internal (Some m) e f h = let z : some m ≡ none = f in absurd (cc)
+send_letter (Send k) o e f h = refl
+send_letter Receive o e f h = clash (sym e)
 
 -- ## One byte stored
 

@@ -52,7 +52,7 @@ fn letter_at(table: &[u8], rows: &[u32], i: usize) -> u8
     if rows::row_receives(table, rows, i) {
         return RECEIVE;
     }
-    if rows::row_sent(table, rows, i) == 255 {
+    if rows::row_sent(table, rows, i).is_none() {
         return INTERNAL;
     }
     SEND
@@ -116,10 +116,8 @@ fn put_cells(chart: &mut [u8], at: usize, horizon: u32)
     requires { (at + 64 ≤ length chart.old) × (at ≤ 1000) × (horizon ≤ 60000) }
     ensures { EmptyCells horizon at 64 chart.old chart.new }
 {
-    let mut i: usize = 0;
-    while i < 64 {
+    for i in 0..64 {
         chart[at + i] = empty_cell(i as u32, horizon);
-        i += 1;
     }
 }
 
@@ -130,11 +128,11 @@ fn put_row(chart: &mut [u8], component: usize, horizon: u32)
 {
     let at = component * ROW_WIDTH;
     put_cells(chart, at + ROW_CELLS, horizon);
-    chart[at] = 67;
-    chart[at + ROW_DIGIT] = 48 + (component as u8);
-    chart[at + ROW_COLON] = 58;
-    chart[at + ROW_SPACE] = 32;
-    chart[at + ROW_LINE_FEED] = 10;
+    chart[at] = b'C';
+    chart[at + ROW_DIGIT] = b'0' + (component as u8);
+    chart[at + ROW_COLON] = b':';
+    chart[at + ROW_SPACE] = b' ';
+    chart[at + ROW_LINE_FEED] = b'\n';
 }
 
 // The chart of no passage.
@@ -142,10 +140,8 @@ fn put_rows(chart: &mut [u8], components: usize, horizon: u32)
     requires { (components * 69 ≤ length chart.old) × (components ≤ 8) × (horizon ≤ 60000) }
     ensures { (T : Table) → Drawn T horizon [] components chart.old chart.new }
 {
-    let mut c: usize = 0;
-    while c < components {
+    for c in 0..components {
         put_row(chart, c, horizon);
-        c += 1;
     }
 }
 
@@ -154,10 +150,8 @@ fn paint(chart: &mut [u8], from: usize, until: usize, letter: u8)
     requires { (from ≤ until) × (until ≤ length chart.old) × (until ≤ 1000) }
     ensures { Painted from until letter chart.old chart.new }
 {
-    let mut k = from;
-    while k < until {
+    for k in from..until {
         chart[k] = raised(chart[k], letter);
-        k += 1;
     }
 }
 
@@ -197,11 +191,9 @@ fn draw_rows(
     requires { RowsPlaced table.now rows.now count × (components ≡ size (read_of table.now).table) × (components ≤ 8) × (horizon ≤ 60000) × (components * 69 ≤ length chart.old) }
     ensures { (old : List ℕ) → Drawn (read_of table.now).table horizon [] components old chart.old → Drawn (read_of table.now).table horizon (rows_of rows.now count) components old chart.new }
 {
-    let mut i: usize = 0;
-    while i < count {
+    for i in 0..count {
         let window = window_at(table, rows, i);
         draw(chart, window, horizon);
-        i += 1;
     }
 }
 

@@ -8,10 +8,10 @@ fn main(rt: HostRuntime) {
     let n = streams::read_full(&mut rt.stdin(), &mut input);
     let mut out = [0u8; chart_words::ROOM];
     let size = chart_words::write(&input[..n], &mut out);
-    streams::write_or_say(
+    streams::write_or_say_line(
         &rt.stdout(),
         &rt.stderr(),
         &out[..size],
-        b"The chart could not be written.\n",
+        "The chart could not be written.",
     );
 }

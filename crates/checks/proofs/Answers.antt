@@ -1,20 +1,13 @@
--- The first row at fault, and the verdict. Assumes nothing.
+-- The first row at fault. Assumes nothing.
 use mathlib.Core.Path.{◌≡◌, sym, ap, ◌∙◌}
 use mathlib.Core.Bool.{Bool, true, false}
 use mathlib.Core.List.{List}
 use mathlib.Core.Option.{none, some}
 use Prim.Native.Nat.{ℕ, ◌+◌, ◌-◌, ◌≤◌, ◌<◌}
 use native.Mathlib.Omega.{arith}
-use Rattle.model.specs.declared.Verdict.{Verdict}
-use Rattle.model.specs.declared.Verdict.TheVariants.{Refused}
-use Rattle.model.specs.Lists.{first, Answer}
+use Rattle.model.specs.Lists.{first}
 use Rattle.model.specs.Schedule.{Passage}
-use Rattle.model.specs.Checks.{fault_by}
-use Rattle.model.specs.Calls.{verdict_of}
-use Rattle.rows.specs.Rows.{num, row_passage, rows_from, rows_of}
-use Rattle.checks.specs.declared.Fault.{Fault}
-use Rattle.checks.specs.declared.Fault.TheVariants.{Nothing, At}
-use Rattle.checks.specs.Faults.{fault_view}
+use Rattle.rows.specs.Rows.{row_passage, rows_from, rows_of}
 use Rattle.checks.proofs.Swept.{rest, rest_more, rest_none}
 
 -- ## The first row at fault
@@ -44,14 +37,3 @@ module _ (p : Passage → Bool) (l : List ℕ) (n : ℕ) where
 
     pub ahead_none : n ≤ i → Ahead p l n i → none ≡ first p (rows_of l n)
     ahead_none h q = sym (ap (first p) (rest_none l n i h)) ∙ q
-
--- ## The verdict
-
-module _ (p : Passage → Bool) (S : List Passage) (l : List ℕ) (f : Fault) (seen : fault_view l f ≡ first p S) (number : Passage → ℕ) (further : Answer (List Passage)) (r : Verdict) where
-  -- no row is at fault: the next question ..
-  pub passed : f ≡ Nothing → r ≡ verdict_of further → r ≡ verdict_of (fault_by number (first p S) further)
-  passed e q = rw (← seen, e) q
-
-  -- .. or the number and the component of the first that is
-  pub failed : (i : ℕ) → f ≡ At i → r ≡ Refused (number (row_passage l i)) (num l i 0) → r ≡ verdict_of (fault_by number (first p S) further)
-  failed i e q = rw (← seen, e) q

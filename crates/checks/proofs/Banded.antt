@@ -5,7 +5,6 @@ use mathlib.Core.List.{List}
 use mathlib.Core.Option.{Option, none, some}
 use Prim.Native.Nat.{ℕ, ◌+◌, ◌≤◌, ◌<◌}
 use native.Mathlib.Omega.{arith}
-use borrow.Author.Tests.{ne_eqb}
 use lib.Dec.{eqb}
 use lib.ListN.{length, get_or, drop, get_or-replicate}
 use Rattle.model.specs.declared.Action.{Action}
@@ -21,7 +20,7 @@ use Rattle.model.specs.Schedule.{Passage, passage_arc}
 use Rattle.model.specs.Checks.{same_band, disturb}
 use Rattle.model.proofs.Reader.RoundTrip.{written_read}
 use Rattle.model.proofs.Reader.Located.{valid_read, valid_located}
-use Rattle.rows.specs.Rows.{num, message_of, row_passage, RowKnown}
+use Rattle.rows.specs.Rows.{num, row_passage, RowKnown}
 use Rattle.rows.proofs.Placed.{row_arc, row_in}
 
 -- ## The bands
@@ -48,43 +47,33 @@ module _ (bs : List ℕ) (b : Bytes bs) (v : Valid bs) where
 
 -- ## The channel of a row
 
--- a number that is not 255 is a channel
-pub message_some : (k : ℕ) → (k ≡ 255 → ⊥) → message_of k ≡ some k
-message_some k n = rw (ne_eqb k 255 n)
-
 -- a send's channel is one of the table's
 sent_below : (s : Sizes) (a : Arc) (x : Action) (k : ℕ) → ActionIn s a x → sends x ≡ some k → k < s.channels
 sent_below s a Internal k i e = let z : ◌≡◌ {A = ℕ} 0 1 = cc in absurd (omega arith)
 sent_below s a (Send j) k i e = let z : j ≡ k = cc in omega (arith, i.channel)
 sent_below s a Receive k i e = let z : ◌≡◌ {A = ℕ} 0 1 = cc in absurd (omega arith)
 
-pub row_channel : (bs l : List ℕ) (i k : ℕ) → Bytes bs → RowKnown bs l i → message_of k ≡ channel_of (passage_arc (read_of bs).table (row_passage l i)) → (k ≡ 255 → ⊥)
-    → k < (read_of bs).table.channels
-row_channel bs l i k b r e n =
+pub row_channel : (bs l : List ℕ) (i k : ℕ) → Bytes bs → RowKnown bs l i → some k ≡ channel_of (passage_arc (read_of bs).table (row_passage l i)) → k < (read_of bs).table.channels
+row_channel bs l i k b r e =
     let a = arc_at (budgeted bs) (drop (num l i 7) bs) in
-    let s : channel_of a ≡ some k = ap channel_of (row_arc bs l i b r.valid r.row) ∙ sym e ∙ message_some k n in
+    let s : channel_of a ≡ some k = ap channel_of (row_arc bs l i b r.valid r.row) ∙ sym e in
     sent_below _ a a.edge.action k (row_in bs l i b r.valid r.row).action s
 
 -- ## Two rows
 
 module _ (T : Table) (v w : Passage) where
-  -- 255 is no channel
-  no_message : (k : ℕ) → k ≡ 255 → none ≡ message_of k
-  no_message k e = rw e
+  pub none_disturbs : none ≡ channel_of (passage_arc T v) → false ≡ disturb T v w
+  none_disturbs q = ap (λ (o : Option ℕ). same_band T o (channel_of (passage_arc T w))) q
 
-  pub none_disturbs : (j : ℕ) → j ≡ 255 → message_of j ≡ channel_of (passage_arc T v) → false ≡ disturb T v w
-  none_disturbs j e q = ap (λ (o : Option ℕ). same_band T o (channel_of (passage_arc T w))) (no_message j e ∙ q)
-
-  pub disturbs_none : (k : ℕ) → k ≡ 255 → message_of k ≡ channel_of (passage_arc T w) → false ≡ disturb T v w
-  disturbs_none k e q = go (channel_of (passage_arc T v)) ∙ ap (λ (o : Option ℕ). same_band T (channel_of (passage_arc T v)) o) (no_message k e ∙ q)
+  pub disturbs_none : none ≡ channel_of (passage_arc T w) → false ≡ disturb T v w
+  disturbs_none q = go (channel_of (passage_arc T v)) ∙ ap (λ (o : Option ℕ). same_band T (channel_of (passage_arc T v)) o) q
     where
       go : (o : Option ℕ) → false ≡ same_band T o none
       go none = refl
       go (some j) = refl
 
-  pub disturbs : (j k x y : ℕ) → (j ≡ 255 → ⊥) → (k ≡ 255 → ⊥) → message_of j ≡ channel_of (passage_arc T v) → message_of k ≡ channel_of (passage_arc T w)
-      → x ≡ band_of T j → y ≡ band_of T k → eqb x y ≡ disturb T v w
-  disturbs j k x y m n p q e f =
+  pub disturbs : (j k x y : ℕ) → some j ≡ channel_of (passage_arc T v) → some k ≡ channel_of (passage_arc T w) → x ≡ band_of T j → y ≡ band_of T k → eqb x y ≡ disturb T v w
+  disturbs j k x y p q e f =
       ap (λ (a : ℕ). eqb a y) e ∙ ap (λ (a : ℕ). eqb (band_of T j) a) f
-      ∙ ap (λ (o : Option ℕ). same_band T o (some k)) (sym (message_some j m) ∙ p)
-      ∙ ap (λ (o : Option ℕ). same_band T (channel_of (passage_arc T v)) o) (sym (message_some k n) ∙ q)
+      ∙ ap (λ (o : Option ℕ). same_band T o (some k)) p
+      ∙ ap (λ (o : Option ℕ). same_band T (channel_of (passage_arc T v)) o) q

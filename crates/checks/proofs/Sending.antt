@@ -1,5 +1,5 @@
 -- What a row's edge tells: whether it is a send in time; and its component's number is small. Assumes nothing.
-use mathlib.Core.Path.{◌≡◌, refl}
+use mathlib.Core.Path.{◌≡◌, refl, ◌∙◌}
 use mathlib.Core.Bool.{Bool, true, false, ◌&&◌, not}
 use mathlib.Core.List.{List}
 use Prim.Native.Nat.{ℕ, ◌≤◌, ◌<◌}
@@ -8,22 +8,20 @@ use borrow.Author.Tests.{lt-ltb, le-ltb}
 use mir.Val.{Fits}
 use mir.Syntax.{w8}
 use lib.ListN.{get_or}
-use Rattle.model.specs.declared.Action.{Action}
 use Rattle.model.specs.Lists.{is_none}
 use Rattle.model.specs.Table.{Table}
-use Rattle.model.specs.Window.{sends, channel_of}
+use Rattle.model.specs.Window.{channel_of}
 use Rattle.model.specs.Places.{read_of}
 use Rattle.model.specs.Schedule.{Passage, passage_arc}
 use Rattle.model.specs.Checks.{is_send}
 use Rattle.model.proofs.Reader.RoundTrip.{written_read}
 use Rattle.model.proofs.Reader.Located.{valid_read}
-use Rattle.rows.specs.Rows.{num, RowsPlaced}
+use Rattle.rows.specs.Rows.{num, option_of, RowsPlaced}
+use Rattle.std.specs.Prelude.{is_some}
+use Rattle.std.specs.declared.option.Option.{Option as Found}
+use Rattle.std.specs.declared.option.Option.TheVariants.{Some, None}
 use Rattle.rows.proofs.Placed.{known_bytes}
 use Rattle.checks.specs.Faults.{RowStands}
-
--- an action has a channel to send on
-abbrev pub sending : Action → Bool
-sending a = not (is_none (sends a))
 
 -- a table has at most eight components
 pub row_small : (bs l : List ℕ) (n i : ℕ) → ((j : ℕ) → Fits w8 (get_or bs j 0)) → RowsPlaced bs l n → i < n → num l i 0 < 8
@@ -44,9 +42,13 @@ module _ (T : Table) (H : ℕ) (v : Passage) where
   pub ready_late : H ≤ v.ready → false ≡ is_send T H v
   ready_late h = rw (le-ltb v.ready H h, and_false)
 
-  pub ready_early : (x : Bool) → v.ready < H → x ≡ not (is_none (channel_of (passage_arc T v))) → x ≡ is_send T H v
-  ready_early x h e = rw (lt-ltb v.ready H h, ← e) (same x)
+  pub ready_early : (o : Found ℕ) → v.ready < H → option_of o ≡ channel_of (passage_arc T v) → is_some o ≡ is_send T H v
+  ready_early o h e = rw (lt-ltb v.ready H h, ← e) (same_found o ∙ same (not (is_none (option_of o))))
     where
+      same_found : (x : Found ℕ) → is_some x ≡ not (is_none (option_of x))
+      same_found None = refl
+      same_found (Some k) = refl
+
       same : (a : Bool) → a ≡ a && true
       same true = refl
       same false = refl

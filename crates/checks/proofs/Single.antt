@@ -10,8 +10,11 @@ use borrow.Author.Tests.{eqb-true}
 use lib.Dec.{eqb}
 use lib.ListN.{length, get_or, set, length-set}
 use lib.Seq.{get_or-set_same, get_or-set_other}
+use Rattle.std.specs.Prelude.{◌≢◌, IsErrAnd}
+use Rattle.std.specs.declared.result.Result.{Result}
+use Rattle.std.specs.declared.result.Result.TheVariants.{Ok, Err}
 use Rattle.model.specs.declared.Hearing.{Hearing}
-use Rattle.model.specs.declared.Hearing.TheVariants.{Well}
+use Rattle.model.specs.declared.Hearing.TheVariants.{Well, Nobody, Several, LateStart, EarlyEnd}
 use Rattle.model.specs.Lists.{first, only, ◌∈◌, here}
 use Rattle.model.specs.Table.{Table}
 use Rattle.model.specs.Schedule.{Passage}
@@ -20,10 +23,16 @@ use Rattle.model.proofs.Basics.Bools.{clash, and_is}
 use Rattle.model.proofs.Basics.Members.{number-of, only_is, once_is}
 use Rattle.model.proofs.Checks.Heard.{crowded_none}
 use Rattle.model.proofs.Checks.Hearings.{is_well, well_hears}
-use Rattle.rows.specs.Rows.{row_passage, rows_of}
+use Rattle.rows.specs.Rows.{row_passage, rows_of, RowsPlaced}
 use Rattle.rows.proofs.Numbered.{rows_length, row_at}
-use Rattle.checks.specs.Listening.{HeardIs}
+use Rattle.checks.specs.Listening.{Noted, HeardBy, HeardIs}
 use Rattle.checks.proofs.Questions.{hearing, heard_send}
+use Rattle.checks.proofs.Sending.{row_small}
+use Rattle.checks.proofs.Listening.{AloneAt, alone_at}
+use Rattle.model.specs.Places.{read_of}
+use mir.Val.{Fits}
+use mir.Syntax.{w8}
+use lib.Count.{ones}
 
 -- ## Numbers of rows
 
@@ -53,15 +62,35 @@ module _ (p : Passage → Bool) (l : List ℕ) (n : ℕ) where
 
 -- ## How a send is heard
 
-module _ (G : ℕ) (T : Table) (l : List ℕ) (n i : ℕ) where
-  -- not well, whatever the row ..
-  pub not_well : (h : Hearing) (row : ℕ) → is_well h ≡ false → h ≡ heard_as G T (rows_of l n) (row_passage l i) → HeardIs G T l n i h row
-  not_well h row f e = record { told = e; there = λ w. clash (sym f ∙ ap is_well w); alone = λ w. clash (sym f ∙ ap is_well w) }
+-- the one window that is noted
+module _ (G : ℕ) (bs l : List ℕ) (n i : ℕ) where
+  pub alone_window : (m r : ℕ) (rows : List ℕ) → ((j : ℕ) → Fits w8 (get_or bs j 0)) → RowsPlaced bs l n → Noted l n (only (hearing G (read_of bs).table (row_passage l i)) (rows_of l n)) m r rows
+      → ones m ≡ 1 → r ≡ 0 → AloneAt l n m rows (only (hearing G (read_of bs).table (row_passage l i)) (rows_of l n))
+  alone_window m r rows b placed noted one once = alone_at l n m r rows (λ k h. row_small bs l n k b placed h) (omega (arith, one)) (omega (arith, once)) _ noted
 
-  -- .. or by the one row that may hear it
-  pub by_one : (h : Hearing) (row : ℕ) → only (hearing G T (row_passage l i)) (rows_of l n) ≡ row_passage l row ∷ [] → row < n
-      → h ≡ hearing_of G (row_passage l i) (row_passage l row ∷ []) → HeardIs G T l n i h row
-  by_one h row e there q = record { told = rw e q; there = λ w. there; alone = λ w. alone_row (hearing G T (row_passage l i)) l n row e there }
+module _ (G : ℕ) (T : Table) (l : List ℕ) (n i : ℕ) where
+  -- by the one row that may hear it, well ..
+  pub by_one : (row : ℕ) → only (hearing G T (row_passage l i)) (rows_of l n) ≡ row_passage l row ∷ [] → row < n
+      → Well ≡ hearing_of G (row_passage l i) (row_passage l row ∷ []) → HeardBy G T l n i row
+  by_one row e there q = record { told = rw e q; there = there; alone = alone_row (hearing G T (row_passage l i)) l n row e there }
+
+  -- .. or not
+  pub not_by_one : (h : Hearing) (row : ℕ) → only (hearing G T (row_passage l i)) (rows_of l n) ≡ row_passage l row ∷ []
+      → h ≡ hearing_of G (row_passage l i) (row_passage l row ∷ []) → h ≡ heard_as G T (rows_of l n) (row_passage l i)
+  not_by_one h row e q = rw e q
+
+  -- what a `?` hands on
+  pub handed_on : (o : Result ℕ Hearing) (h : Hearing) → IsErrAnd o (λ f. f ≡ h) → h ≡ heard_as G T (rows_of l n) (row_passage l i) → h ≢ Well → HeardIs G T l n i o
+  handed_on (Ok row) h e told other = absurd e
+  handed_on (Err f) h e told other = (e ∙ told, λ w. other (sym e ∙ w))
+
+-- any other than well
+not_well : (h : Hearing) → (h ≢ Well) → is_well h ≡ false
+not_well Well o = absurd (o refl)
+not_well Nobody o = refl
+not_well Several o = refl
+not_well LateStart o = refl
+not_well EarlyEnd o = refl
 
 -- ## The sweep over the sends
 
@@ -148,16 +177,17 @@ module _ (G : ℕ) (T : Table) (H : ℕ) (l : List ℕ) (n : ℕ) where
 pub not_heard : (G : ℕ) (T : Table) (H : ℕ) (l : List ℕ) (n i : ℕ) (x : Bool) → x ≡ is_send T H (row_passage l i) → x ≡ false → false ≡ unheard G T H (rows_of l n) (row_passage l i)
 not_heard G T H l n i x e t = let s : is_send T H (row_passage l i) ≡ false = sym e ∙ t in rw s
 
-module _ (G : ℕ) (T : Table) (H : ℕ) (l : List ℕ) (n i row : ℕ) (h : Hearing) (x : Bool) (e : x ≡ is_send T H (row_passage l i)) (t : x ≡ true) (is : HeardIs G T l n i h row) where
+module _ (G : ℕ) (T : Table) (H : ℕ) (l : List ℕ) (n i : ℕ) (h : Hearing) (x : Bool) (e : x ≡ is_send T H (row_passage l i)) (t : x ≡ true)
+    (told : h ≡ heard_as G T (rows_of l n) (row_passage l i)) where
   unheard_by : (y : Bool) → is_well h ≡ y → unheard G T H (rows_of l n) (row_passage l i) ≡ not y
   unheard_by y f =
       let s : is_send T H (row_passage l i) ≡ true = sym e ∙ t in
       let found = only (hearing G T (row_passage l i)) (rows_of l n) in
-      let w : heard_well G (row_passage l i) found ≡ y = well_hears G (row_passage l i) found ∙ ap is_well (sym is.told) ∙ f in
+      let w : heard_well G (row_passage l i) found ≡ y = well_hears G (row_passage l i) found ∙ ap is_well (sym told) ∙ f in
       rw (s, w)
 
-  pub is_unheard : is_well h ≡ false → true ≡ unheard G T H (rows_of l n) (row_passage l i)
-  is_unheard f = sym (unheard_by false f)
+  pub is_unheard : (h ≢ Well) → true ≡ unheard G T H (rows_of l n) (row_passage l i)
+  is_unheard other = sym (unheard_by false (not_well h other))
 
   pub is_heard : h ≡ Well → false ≡ unheard G T H (rows_of l n) (row_passage l i)
   is_heard w = sym (unheard_by true (ap is_well w))

@@ -1,23 +1,10 @@
--- The first row at fault, and the checks that are left.
+-- The checks that are left after one of them.
 use Rattle.std.specs.Prelude.{List, ℕ, ◌+◌, ◌*◌, ◌≤◌, ◌<◌, length}
-use Rattle.std.proofs.Math.Option.{Option, none, some}
 use Rattle.model.specs.Lists.{first, Answer, accepted}
 use Rattle.model.specs.Table.{Table}
 use Rattle.model.specs.Schedule.{Passage}
 use Rattle.model.specs.Checks.{unheard_number, unheard, crowded, fault_of, fault_by}
-use Rattle.rows.specs.Rows.{num, row_passage}
-use Rattle.checks.specs.declared.Fault.{Fault}
-use Rattle.checks.specs.declared.Fault.TheVariants.{Nothing, At}
-
--- as the passage that it is
-abbrev pub fault_view : List ℕ → Fault → Option Passage
-fault_view l Nothing = none
-fault_view l (At i) = some (row_passage l i)
-
--- it is one of n rows
-abbrev pub FaultBelow : ℕ → Fault → Type 0
-FaultBelow n Nothing = Unit {0}
-FaultBelow n (At i) = i < n
+use Rattle.rows.specs.Rows.{num}
 
 -- row i is one of the list, and its component's number is below the most that there are
 pub record RowStands (l : List ℕ) (i : ℕ) : Type 0 where

@@ -1,6 +1,6 @@
 -- "For each send the components listening are noted as eight bits, and exactly one may be set, by one window." What is noted of the windows
 -- found that may hear a send: the components listening, those that do so by more than one window, and each one's row.
-use Rattle.std.specs.Prelude.{◌⊎◌, ◌≡◌, true, cond, List, [], ◌∷◌, ℕ, ◌^◌, ◌≤◌, ◌<◌, eqb, length, get_or}
+use Rattle.std.specs.Prelude.{◌⊎◌, ◌≡◌, true, cond, List, [], ◌∷◌, ℕ, ◌^◌, ◌≢◌, ◌≤◌, ◌<◌, eqb, length, get_or}
 use Rattle.std.proofs.Math.Option.{none, some}
 use Rattle.std.specs.Int.Bits.{bit_or}
 use Rattle.std.specs.Int.Count.{ones}
@@ -12,7 +12,10 @@ use Rattle.model.specs.Schedule.{Passage}
 use Rattle.model.specs.Checks.{may_hear, heard_as, unheard, crowded}
 use Rattle.rows.specs.Rows.{num, row_passage, rows_of}
 use Rattle.checks.specs.declared.unheard.SendsHeard.{SendsHeard}
-use Rattle.checks.specs.declared.unheard.SendsHeard.TheVariants.{Apart, Shared, Unheard}
+use Rattle.checks.specs.declared.unheard.SendsHeard.TheVariants.{Apart, Shared}
+use Rattle.checks.specs.declared.unheard.Unheard.{Unheard}
+use Rattle.std.specs.declared.result.Result.{Result}
+use Rattle.std.specs.declared.result.Result.TheVariants.{Ok, Err}
 
 -- those that listen by more than one window, with one more window of component c, whose bit may be set already
 abbrev pub repeated_with : ℕ → ℕ → ℕ → ℕ
@@ -37,14 +40,25 @@ pub record Noted (l : List ℕ) (n : ℕ) (found : List Passage) (listening repe
   pub masks : Masks l n found listening repeated rows
   pub room : length rows ≡ 8
 
--- how n rows hear the send of row i; where well, that row is one of them, and the only one that may hear it
-pub record HeardIs (G : ℕ) (T : Table) (l : List ℕ) (n i : ℕ) (hearing : Hearing) (row : ℕ) : Type 0 where
-  pub told : hearing ≡ heard_as G T (rows_of l n) (row_passage l i)
-  pub there : hearing ≡ Well → row < n
-  pub alone : hearing ≡ Well → (j : ℕ) → j < n → may_hear G T (row_passage l j) (row_passage l i) ≡ true → j ≡ row
+-- one receive window hears a send well, or as the fault says
+abbrev pub HeardAlone : {A : Type 0} → Result A Hearing → Hearing → Type 0
+HeardAlone (Ok x) hearing = Well ≡ hearing
+HeardAlone (Err fault) hearing = (fault ≡ hearing) × (fault ≢ Well)
+
+-- of n rows that hear the send of row i well this is one, and the only one that may hear it
+pub record HeardBy (G : ℕ) (T : Table) (l : List ℕ) (n i row : ℕ) : Type 0 where
+  pub told : Well ≡ heard_as G T (rows_of l n) (row_passage l i)
+  pub there : row < n
+  pub alone : (j : ℕ) → j < n → may_hear G T (row_passage l j) (row_passage l i) ≡ true → j ≡ row
+
+-- how n rows hear the send of row i
+abbrev pub HeardIs : ℕ → Table → List ℕ → ℕ → ℕ → Result ℕ Hearing → Type 0
+HeardIs G T l n i (Ok row) = HeardBy G T l n i row
+HeardIs G T l n i (Err fault) = (fault ≡ heard_as G T (rows_of l n) (row_passage l i)) × (fault ≢ Well)
 
 -- what is told of 11 and 12
-abbrev pub HeardAs : ℕ → Table → ℕ → List ℕ → ℕ → SendsHeard → Type 0
-HeardAs G T H l n Apart = (none ≡ first (unheard G T H (rows_of l n)) (rows_of l n)) × (none ≡ first (crowded G T H (rows_of l n)) (rows_of l n))
-HeardAs G T H l n Shared = none ≡ first (unheard G T H (rows_of l n)) (rows_of l n)
-HeardAs G T H l n (Unheard i hearing) = (some (row_passage l i) ≡ first (unheard G T H (rows_of l n)) (rows_of l n)) × (i < n) × (hearing ≡ heard_as G T (rows_of l n) (row_passage l i))
+abbrev pub HeardAs : ℕ → Table → ℕ → List ℕ → ℕ → Result SendsHeard Unheard → Type 0
+HeardAs G T H l n (Ok Apart) = (none ≡ first (unheard G T H (rows_of l n)) (rows_of l n)) × (none ≡ first (crowded G T H (rows_of l n)) (rows_of l n))
+HeardAs G T H l n (Ok Shared) = none ≡ first (unheard G T H (rows_of l n)) (rows_of l n)
+HeardAs G T H l n (Err fault) =
+    (some (row_passage l fault.send) ≡ first (unheard G T H (rows_of l n)) (rows_of l n)) × (fault.send < n) × (fault.hearing ≡ heard_as G T (rows_of l n) (row_passage l fault.send))

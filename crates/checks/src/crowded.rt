@@ -36,6 +36,7 @@ fn sends_before(
 {
     let from = cut_off(rows::number(rows, i, rows::READY), spread);
     let mut sends: usize = 0;
+    // A while of its own: the next row is read from the links, where from row i on rows are counted, and another tick ends the walk.
     let mut j = rows::open_before(rows, i, from);
     while 0 < j {
         let k = j - 1;
@@ -67,8 +68,7 @@ pub fn is_crowded(
     if 2 <= sends {
         return true;
     }
-    let mut j = i;
-    while j < count {
+    for j in i..count {
         if until < tick(rows, j, rows::ENTRY) {
             return false;
         }
@@ -78,7 +78,6 @@ pub fn is_crowded(
                 return true;
             }
         }
-        j += 1;
     }
     false
 }

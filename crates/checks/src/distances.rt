@@ -8,14 +8,11 @@ use crate::{is_send, same_band};
 
 // The ticks from one to another, 0 if that isn't later.
 fn until(from: u32, to: u32) -> u32 {
-    if to < from {
-        return 0;
-    }
-    to - from
+    to.saturating_sub(from)
 }
 
 fn lesser(first: u32, second: u32) -> u32 {
-    if first < second { first } else { second }
+    first.min(second)
 }
 
 // The least spread at which row j, a receive that lists its channel, has a part in a fault of row i, a send: it lies so far away, or it starts so little
@@ -37,7 +34,7 @@ fn far(rows: &[u32], i: usize, j: usize) -> u32
 }
 
 // The least so far, or that of row j if it is such a receive of another component.
-fn least_by(table: &[u8], rows: &[u32], i: usize, j: usize, channel: u8, least: u32) -> u32
+fn least_by(table: &[u8], rows: &[u32], i: usize, j: usize, channel: Option<u8>, least: u32) -> u32
     requires { RowKnown table.now rows.now i × RowKnown table.now rows.now j }
 {
     if rows::number(rows, i, rows::COMPONENT) == rows::number(rows, j, rows::COMPONENT) {
@@ -58,7 +55,7 @@ fn least_behind(
     rows: &[u32],
     i: usize,
     j: usize,
-    channel: u8,
+    channel: Option<u8>,
     horizon: u32,
     least: u32,
 ) -> u32
@@ -83,11 +80,19 @@ fn least_behind(
 }
 
 // The least of the rows before row i.
-fn least_before(table: &[u8], rows: &[u32], count: usize, i: usize, channel: u8, most: u32) -> u32
+fn least_before(
+    table: &[u8],
+    rows: &[u32],
+    count: usize,
+    i: usize,
+    channel: Option<u8>,
+    most: u32,
+) -> u32
     requires { RowsPlaced table.now rows.now count × (i < count) }
 {
     let mut least = most;
     let from = cut_off(rows::number(rows, i, rows::READY), most);
+    // A while of its own: the next row is read from the links, where from row i on rows are counted, and another tick ends the walk.
     let mut j = rows::open_before(rows, i, from);
     while 0 < j {
         let k = j - 1;
@@ -103,20 +108,18 @@ fn least_from(
     rows: &[u32],
     count: usize,
     i: usize,
-    channel: u8,
+    channel: Option<u8>,
     horizon: u32,
     most: u32,
 ) -> u32
     requires { RowsPlaced table.now rows.now count × (i < count) }
 {
     let mut least = most;
-    let mut j = i;
-    while j < count {
+    for j in i..count {
         if put_off(rows, i, rows::END, least) <= tick(rows, j, rows::ENTRY) {
             return least;
         }
         least = least_behind(table, rows, i, j, channel, horizon, least);
-        j += 1;
     }
     least
 }
@@ -126,14 +129,12 @@ pub fn likely(table: &[u8], rows: &[u32], count: usize, horizon: u32) -> u32
     requires { RowsPlaced table.now rows.now count }
 {
     let mut least: u32 = 1001;
-    let mut i: usize = 0;
-    while i < count {
+    for i in 0..count {
         if is_send(table, rows, i, horizon) {
             let channel = rows::row_sent(table, rows, i);
             let before = least_before(table, rows, count, i, channel, least);
             least = least_from(table, rows, count, i, channel, horizon, before);
         }
-        i += 1;
     }
     until(1, least)
 }

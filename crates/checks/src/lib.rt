@@ -8,44 +8,22 @@ mod listeners;
 mod ticks;
 pub mod unheard;
 
-ghost use Rattle.std.specs.Prelude.{◌≡◌, false, not, ℕ, ◌<◌};
+ghost use Rattle.std.specs.Prelude.{◌≡◌, false, ℕ, ◌<◌, IfSome};
 ghost use Rattle.model.specs.declared.Verdict.TheVariants.{Refused};
-ghost use Rattle.model.specs.Lists.{first, is_none};
+ghost use Rattle.model.specs.Lists.{first};
 ghost use Rattle.model.specs.Window.{channel_of};
 ghost use Rattle.model.specs.Table.{band_of};
 ghost use Rattle.model.specs.Places.{Valid, read_of};
 ghost use Rattle.model.specs.Schedule.{passage_arc};
 ghost use Rattle.model.specs.Checks.{disturb, is_send, meets, collides, unheard, crowded, may_hear, checked};
 ghost use Rattle.model.specs.Calls.{verdict_of};
-ghost use Rattle.rows.specs.Rows.{num, message_of, row_passage, rows_of, RowKnown, RowsPlaced};
-ghost use Rattle.checks.specs.Faults.{fault_view, FaultBelow, RowStands, from12, from11};
+ghost use Rattle.rows.specs.Rows.{num, option_of, found_passage, row_passage, rows_of, RowKnown, RowsPlaced};
+ghost use Rattle.checks.specs.Faults.{RowStands, from12, from11};
 
 use crowded::is_crowded;
-use model::{Action, Verdict, layout};
+use model::{Verdict, layout};
 use ticks::{overlap, put_off, tick};
 use unheard::{SendsHeard, hear_sends};
-
-// The first row at fault.
-#[derive(Clone, Copy)]
-pub enum Fault {
-    Nothing,
-    At(usize),
-}
-
-// Whether row i's edge sends.
-fn row_sends(table: &[u8], rows: &[u32], i: usize) -> bool
-    requires { RowKnown table.now rows.now i }
-    ensures { result ≡ not (is_none (channel_of (passage_arc (read_of table.now).table (row_passage rows.now i)))) }
-{
-    let budgets = decoder::budgeted(table);
-    let at = rows::index(rows, i, rows::PLACE);
-    let action = decoder::action_at(&table[at..], budgets);
-    match action {
-        Action::Internal => false,
-        Action::Send(_) => true,
-        Action::Receive => false,
-    }
-}
 
 // Whether row i is a send that is ready before the horizon.
 pub fn is_send(table: &[u8], rows: &[u32], i: usize, horizon: u32) -> bool
@@ -55,7 +33,7 @@ pub fn is_send(table: &[u8], rows: &[u32], i: usize, horizon: u32) -> bool
     if horizon <= rows::number(rows, i, rows::READY) {
         return false;
     }
-    row_sends(table, rows, i)
+    rows::row_sent(table, rows, i).is_some()
 }
 
 // The band of a channel: in version 1 always 0, else its byte after the header.
@@ -74,14 +52,12 @@ fn same_band(table: &[u8], rows: &[u32], i: usize, j: usize) -> bool
     requires { RowKnown table.now rows.now i × RowKnown table.now rows.now j }
     ensures { result ≡ disturb (read_of table.now).table (row_passage rows.now i) (row_passage rows.now j) }
 {
-    let one = rows::row_sent(table, rows, i);
-    if one == 255 {
+    let Some(one) = rows::row_sent(table, rows, i) else {
         return false;
-    }
-    let other = rows::row_sent(table, rows, j);
-    if other == 255 {
+    };
+    let Some(other) = rows::row_sent(table, rows, j) else {
         return false;
-    }
+    };
     band(table, one) == band(table, other)
 }
 
@@ -115,22 +91,27 @@ fn collides_with_one(
         return false;
     }
     let until = put_off(rows, i, rows::END, spread);
-    let mut j = i;
-    while j < count {
+    for j in i..count {
         if until < tick(rows, j, rows::ENTRY) {
             return false;
         }
         if is_met(table, rows, i, j, horizon, spread) {
             return true;
         }
-        j += 1;
     }
     false
 }
 
-// Whether row j hears the send window of row i, which is on that channel (255: none).
-pub fn may_hear(table: &[u8], rows: &[u32], j: usize, i: usize, channel: u8, spread: u32) -> bool
-    requires { RowKnown table.now rows.now j × RowKnown table.now rows.now i × (message_of channel ≡ channel_of (passage_arc (read_of table.now).table (row_passage rows.now i))) }
+// Whether row j hears the send window of row i, which is on that channel.
+pub fn may_hear(
+    table: &[u8],
+    rows: &[u32],
+    j: usize,
+    i: usize,
+    channel: Option<u8>,
+    spread: u32,
+) -> bool
+    requires { RowKnown table.now rows.now j × RowKnown table.now rows.now i × (option_of channel ≡ channel_of (passage_arc (read_of table.now).table (row_passage rows.now i))) }
     ensures { result ≡ may_hear spread (read_of table.now).table (row_passage rows.now j) (row_passage rows.now i) }
 {
     if !overlap(rows, j, i, spread) {
@@ -143,46 +124,59 @@ pub fn may_hear(table: &[u8], rows: &[u32], j: usize, i: usize, channel: u8, spr
 }
 
 // 10: the first send that collides with another.
-pub fn first_collision(table: &[u8], rows: &[u32], count: usize, horizon: u32, spread: u32) -> Fault
+pub fn first_collision(
+    table: &[u8],
+    rows: &[u32],
+    count: usize,
+    horizon: u32,
+    spread: u32,
+) -> Option<usize>
     requires { RowsPlaced table.now rows.now count }
-    ensures { (fault_view rows.now result ≡ first (collides spread (read_of table.now).table horizon (rows_of rows.now count)) (rows_of rows.now count)) × FaultBelow count result }
+    ensures { (found_passage rows.now result ≡ first (collides spread (read_of table.now).table horizon (rows_of rows.now count)) (rows_of rows.now count)) × IfSome result (λ i. i < count) }
 {
-    let mut i: usize = 0;
-    while i < count {
+    // A loop, no `find`: what is asked of a row rests on the answers for the rows before it.
+    for i in 0..count {
         if collides_with_one(table, rows, count, i, horizon, spread) {
-            return Fault::At(i);
+            return Some(i);
         }
-        i += 1;
     }
-    Fault::Nothing
+    None
 }
 
 // 11: the first send that is not heard well.
-pub fn first_unheard(table: &[u8], rows: &[u32], count: usize, horizon: u32, spread: u32) -> Fault
+pub fn first_unheard(
+    table: &[u8],
+    rows: &[u32],
+    count: usize,
+    horizon: u32,
+    spread: u32,
+) -> Option<usize>
     requires { RowsPlaced table.now rows.now count }
-    ensures { (fault_view rows.now result ≡ first (unheard spread (read_of table.now).table horizon (rows_of rows.now count)) (rows_of rows.now count)) × FaultBelow count result }
+    ensures { (found_passage rows.now result ≡ first (unheard spread (read_of table.now).table horizon (rows_of rows.now count)) (rows_of rows.now count)) × IfSome result (λ i. i < count) }
 {
-    let heard = hear_sends(table, rows, count, horizon, spread);
-    match heard {
-        SendsHeard::Apart => Fault::Nothing,
-        SendsHeard::Shared => Fault::Nothing,
-        SendsHeard::Unheard(i, _) => Fault::At(i),
+    match hear_sends(table, rows, count, horizon, spread) {
+        Ok(_) => None,
+        Err(fault) => Some(fault.send),
     }
 }
 
 // 12: the first receive that hears two sends.
-pub fn first_crowded(table: &[u8], rows: &[u32], count: usize, horizon: u32, spread: u32) -> Fault
+pub fn first_crowded(
+    table: &[u8],
+    rows: &[u32],
+    count: usize,
+    horizon: u32,
+    spread: u32,
+) -> Option<usize>
     requires { RowsPlaced table.now rows.now count }
-    ensures { (fault_view rows.now result ≡ first (crowded spread (read_of table.now).table horizon (rows_of rows.now count)) (rows_of rows.now count)) × FaultBelow count result }
+    ensures { (found_passage rows.now result ≡ first (crowded spread (read_of table.now).table horizon (rows_of rows.now count)) (rows_of rows.now count)) × IfSome result (λ i. i < count) }
 {
-    let mut i: usize = 0;
-    while i < count {
+    for i in 0..count {
         if is_crowded(table, rows, count, i, horizon, spread) {
-            return Fault::At(i);
+            return Some(i);
         }
-        i += 1;
     }
-    Fault::Nothing
+    None
 }
 
 // The refusal with that number, of the component of row i.
@@ -198,10 +192,9 @@ fn check_crowded(table: &[u8], rows: &[u32], count: usize, horizon: u32, spread:
     requires { RowsPlaced table.now rows.now count }
     ensures { result ≡ verdict_of (from12 spread (read_of table.now).table horizon (rows_of rows.now count)) }
 {
-    let fault = first_crowded(table, rows, count, horizon, spread);
-    match fault {
-        Fault::Nothing => Verdict::Accepted,
-        Fault::At(i) => refused(rows, 12, i),
+    match first_crowded(table, rows, count, horizon, spread) {
+        None => Verdict::Accepted,
+        Some(i) => refused(rows, 12, i),
     }
 }
 
@@ -210,11 +203,10 @@ fn check_heard(table: &[u8], rows: &[u32], count: usize, horizon: u32, spread: u
     requires { RowsPlaced table.now rows.now count }
     ensures { result ≡ verdict_of (from11 spread (read_of table.now).table horizon (rows_of rows.now count)) }
 {
-    let heard = hear_sends(table, rows, count, horizon, spread);
-    match heard {
-        SendsHeard::Apart => Verdict::Accepted,
-        SendsHeard::Shared => check_crowded(table, rows, count, horizon, spread),
-        SendsHeard::Unheard(i, hearing) => refused(rows, unheard::number_of(hearing), i),
+    match hear_sends(table, rows, count, horizon, spread) {
+        Ok(SendsHeard::Apart) => Verdict::Accepted,
+        Ok(SendsHeard::Shared) => check_crowded(table, rows, count, horizon, spread),
+        Err(fault) => refused(rows, unheard::number_of(fault.hearing), fault.send),
     }
 }
 
@@ -229,9 +221,8 @@ pub fn check_messages(
     requires { RowsPlaced table.now rows.now count }
     ensures { result ≡ verdict_of (checked spread (read_of table.now).table horizon (rows_of rows.now count)) }
 {
-    let fault = first_collision(table, rows, count, horizon, spread);
-    match fault {
-        Fault::Nothing => check_heard(table, rows, count, horizon, spread),
-        Fault::At(i) => refused(rows, 10, i),
+    match first_collision(table, rows, count, horizon, spread) {
+        None => check_heard(table, rows, count, horizon, spread),
+        Some(i) => refused(rows, 10, i),
     }
 }

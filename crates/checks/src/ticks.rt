@@ -9,7 +9,7 @@ pub fn tick(rows: &[u32], i: usize, field: usize) -> u64
     requires { i * 9 + field < length rows.now }
     ensures { result ≡ num rows.now i field }
 {
-    rows::number(rows, i, field) as u64
+    u64::from(rows::number(rows, i, field))
 }
 
 // The same and so many ticks more.
@@ -17,17 +17,14 @@ pub fn put_off(rows: &[u32], i: usize, field: usize, ticks: u32) -> u64
     requires { i * 9 + field < length rows.now }
     ensures { result ≡ num rows.now i field + ticks }
 {
-    rows::number(rows, i, field) as u64 + ticks as u64
+    u64::from(rows::number(rows, i, field)) + u64::from(ticks)
 }
 
 // A tick less so many, cut off at 0.
 pub fn cut_off(tick: u32, ticks: u32) -> u32
     ensures { result ≡ tick - ticks }
 {
-    if tick < ticks {
-        return 0;
-    }
-    tick - ticks
+    tick.saturating_sub(ticks)
 }
 
 // Whether rows i and j are of different components and lie no more than the spread apart.

@@ -5,7 +5,6 @@ use mathlib.Core.List.{List, []}
 use Prim.Native.Nat.{ℕ, zero, suc, ◌-◌, ◌*◌}
 use native.Mathlib.Omega.{arith}
 use lib.ListN.{drop}
-use Rattle.model.specs.declared.Action.{Action}
 use Rattle.model.specs.declared.Action.TheVariants.{Internal, Send, Receive}
 use Rattle.model.specs.Reader.{byte, update_at, pair_at}
 use Rattle.model.specs.Places.{list_at, items_place, items_length, action_at, updates_at, pairs_at, arc_at}

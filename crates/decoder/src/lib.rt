@@ -29,7 +29,7 @@ pub fn clock_guard_at(bytes: &[u8]) -> ClockGuard
     }
 }
 
-// Two's complement.
+// Two's complement. By hand: a node's own processor gets this code by the rules of node/proved/retarget.awk, which do not take `cast_signed`.
 fn signed(number: u16) -> i16
     ensures { result ≡ complement number }
 {
@@ -79,17 +79,16 @@ pub fn pair_at(bytes: &[u8]) -> Pair
     }
 }
 
-// How many bytes `count` items of an edge have.
+// How many bytes `count` items of an edge have. The kind is its byte, here and in `action_at`: an `EdgeKind` made of it costs six to twelve
+// instructions of some 25.
 pub fn items_length(kind: u8, count: u8) -> usize
     ensures { result ≡ items_length kind count }
 {
-    if kind == 0 {
-        return parts::wide(count) * layout::UPDATE_WIDTH;
+    match kind {
+        0 => usize::from(count) * layout::UPDATE_WIDTH,
+        1 => 1,
+        _ => usize::from(count) * layout::PAIR_WIDTH,
     }
-    if kind == 1 {
-        return 1;
-    }
-    parts::wide(count) * layout::PAIR_WIDTH
 }
 
 // Whether a table's edges have a budget: "Table version 3".
@@ -117,8 +116,8 @@ pub fn items_place(bytes: &[u8], budgets: bool) -> usize
     ensures { (result ≡ items_place budgets bytes.now) × (result ≤ 2559) }
 {
     head_length(budgets)
-        + (parts::wide(bytes[layout::EDGE_CLOCK_GUARDS])
-            + parts::wide(bytes[layout::EDGE_DATA_GUARDS]))
+        + (usize::from(bytes[layout::EDGE_CLOCK_GUARDS])
+            + usize::from(bytes[layout::EDGE_DATA_GUARDS]))
             * layout::GUARD_WIDTH
 }
 
@@ -135,15 +134,11 @@ pub fn action_at(bytes: &[u8], budgets: bool) -> Action
     requires { (7 ≤ length bytes.now) × (arc_length budgets bytes.now ≤ length bytes.now) }
     ensures { result ≡ (arc_at budgets bytes.now).edge.action }
 {
-    let kind = bytes[layout::EDGE_KIND];
-    if kind == 0 {
-        return Action::Internal;
+    match bytes[layout::EDGE_KIND] {
+        0 => Action::Internal,
+        1 => Action::Send(bytes[items_place(bytes, budgets)]),
+        _ => Action::Receive,
     }
-    if kind == 1 {
-        let at = items_place(bytes, budgets);
-        return Action::Send(bytes[at]);
-    }
-    Action::Receive
 }
 
 // The edge at the front, without its bounds and items.
@@ -159,7 +154,7 @@ pub fn edge_at(bytes: &[u8], budgets: bool) -> Edge
     }
 }
 
-// The budget of the edge at the front, 0 where edges have none.
+// The budget of the edge at the front, 0 where edges have none, as the definitions take it.
 pub fn budget_at(bytes: &[u8], budgets: bool) -> u16
     requires { arc_head_length budgets ≤ length bytes.now }
     ensures { result ≡ or_else (budget_at budgets bytes.now) 0 }

@@ -1,5 +1,5 @@
 -- The call's answer for a table that was read: at a location that is there, at one that is absent, and for an absent component. Assumes nothing.
-use mathlib.Core.Path.{◌≡◌, refl, sym, ap, ap₂, ◌∙◌}
+use mathlib.Core.Path.{◌≡◌, sym, ap, ap₂, ◌∙◌}
 use mathlib.Core.List.{List}
 use mathlib.Core.Option.{Option, none}
 use Prim.Native.Nat.{ℕ, ◌≤◌, ◌<◌}
@@ -7,9 +7,8 @@ use native.Mathlib.Omega.{arith}
 use lib.ListN.{length, get_or, get_or-eq_default}
 use mir.Val.{Fits}
 use mir.Syntax.{w8}
-use Rattle.model.specs.Lists.{Answer, accepted, refused}
+use Rattle.model.specs.Lists.{Answer, refused}
 use Rattle.model.specs.Table.{Component, Read, no_arc, no_component, size, arc_of}
-use Rattle.model.specs.Limits.{ComponentIn}
 use Rattle.model.specs.Reader.{read_table}
 use Rattle.model.specs.Places.{Valid, read_of, component_in}
 use Rattle.model.specs.Window.{Entry, Pick, choice, looked}

@@ -79,7 +79,7 @@ fn choose_there(table: &[u8], start: usize, c: u8, at: Entry) -> EdgeChoice
 {
     let budgets = decoder::budgeted(table);
     let mut index = [32u16; 640];
-    window::index::put_edges(table, start, parts::wide(c), &mut index, budgets);
+    window::index::put_edges(table, start, usize::from(c), &mut index, budgets);
     let found = window::choose(table, start, c, at, &index, budgets);
     let choice = found.choice;
     answered(choice, found.looked as u32)
@@ -93,9 +93,9 @@ fn choose_read(table: &[u8], starts: [u16; 8], c: u8, at: Entry) -> EdgeChoice
     if table[layout::TABLE_COMPONENTS] <= c {
         return none_taken(0);
     }
-    let start = starts[parts::wide(c)] as usize;
+    let start = usize::from(starts[usize::from(c)]);
     if table[start + layout::COMPONENT_LOCATIONS] <= at.location {
-        return none_taken(table[start + layout::COMPONENT_EDGES] as u32);
+        return none_taken(u32::from(table[start + layout::COMPONENT_EDGES]));
     }
     choose_there(table, start, c, at)
 }

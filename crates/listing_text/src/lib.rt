@@ -1,5 +1,6 @@
 // A program's listing, written into a lent slice line by line (document 01, 'The program').
-#![tactic(auto)]
+// A slice with a place beside it, and no string: there is no heap.
+#![tactic(auto, using(text::proofs::Appended::next))]
 
 mod lines;
 mod statement;

@@ -4,13 +4,13 @@ ghost use Rattle.text.specs.Words.{Added};
 ghost use Rattle.listing_text.specs.ListingText.{blocks_of, code_at, statements_of, start_of, end_of, place_text, block_name, block_head, behind, counts, node_head, header, other_length, program_head};
 
 use crate::statement::put_statement;
-use text::{put, put_field, wide};
+use text::{put, put_field};
 
 pub fn blocks_of(part: &[u8]) -> u32
     requires { 6 ≤ length part.now }
     ensures { (result ≡ blocks_of part.now) × (result ≤ 510) }
 {
-    wide(part[2]) + wide(part[3])
+    u32::from(part[2]) + u32::from(part[3])
 }
 
 // Where the statements start.
@@ -73,7 +73,7 @@ fn put_block_name(out: &mut [u8], part: &[u8], block: u32) -> usize
     requires { (30 ≤ length out.old) × (6 ≤ length part.now) }
     ensures { Added out.old 0 (block_name part.now block) out.new result × (result ≤ 30) }
 {
-    let locations = wide(part[2]);
+    let locations = u32::from(part[2]);
     if block < locations {
         put_field(out, 0, b"  location ", block)
     } else {
@@ -125,9 +125,9 @@ fn put_counts(out: &mut [u8], at: usize, part: &[u8]) -> usize
     ensures { Added out.old at (counts part.now) out.new result × (result ≤ at + 90) }
 {
     let locations = put_field(out, at, b": length ", part.len() as u32);
-    let edges = put_field(out, locations, b", locations ", wide(part[2]));
-    let initial = put_field(out, edges, b", edges ", wide(part[3]));
-    let last = put_field(out, initial, b", initial location ", wide(part[4]));
+    let edges = put_field(out, locations, b", locations ", u32::from(part[2]));
+    let initial = put_field(out, edges, b", edges ", u32::from(part[3]));
+    let last = put_field(out, initial, b", initial location ", u32::from(part[4]));
     put(out, last, b"\n")
 }
 
@@ -161,9 +161,9 @@ fn put_header(out: &mut [u8], program: &[u8]) -> usize
 {
     let long = parts::word_at(program, 1) as u32;
     let horizon = parts::word_at(program, 4) as u32;
-    let second = put_field(out, 0, b"version ", wide(program[0]));
+    let second = put_field(out, 0, b"version ", u32::from(program[0]));
     let third = put_field(out, second, b", length ", long);
-    let fourth = put_field(out, third, b", nodes ", wide(program[3]));
+    let fourth = put_field(out, third, b", nodes ", u32::from(program[3]));
     let last = put_field(out, fourth, b", horizon ", horizon);
     put(out, last, b"\n")
 }

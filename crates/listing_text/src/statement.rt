@@ -4,14 +4,14 @@ ghost use Rattle.text.specs.Words.{ascii, decimal, Added};
 ghost use Rattle.text.specs.Columns.{signed_text};
 ghost use Rattle.listing_text.specs.StatementText.{hex_digit, hex_byte, four_bytes, statement_words, statement_line};
 
-use text::{put, put_decimal, put_field, wide};
+use text::{put, put_decimal, put_field};
 
 // A digit below 16.
 fn hex_digit(d: u8) -> u8
     requires { d < 16 }
     ensures { result ≡ hex_digit d }
 {
-    if d < 10 { 48 + d } else { 87 + d }
+    if d < 10 { b'0' + d } else { b'a' - 10 + d }
 }
 
 fn put_byte(out: &mut [u8], at: usize, n: u8) -> usize
@@ -132,7 +132,7 @@ pub fn put_statement(out: &mut [u8], place: u32, bytes: &[u8], from: usize) -> u
     requires { (77 ≤ length out.old) × (from + 3 < length bytes.now) }
     ensures { Added out.old 0 (statement_line place bytes.now from) out.new result × (result ≤ 77) }
 {
-    let a = wide(bytes[from + 1]);
+    let a = u32::from(bytes[from + 1]);
     let k = parts::word_at(bytes, from + 2) as u32;
     let first = text::put_column(out, 0, place, 6);
     let four = put(out, first, b" ");

@@ -1,5 +1,5 @@
 // A program's listing, whole: the lines of `listing_text` in the definition's order, put into a lent slice. What lies past its end is not stored, and
-// counted all the same: an empty slice counts. Each function answers the place behind.
+// counted all the same: an empty slice counts. Each function answers the place behind. A slice with a place beside it, and no string: there is no heap.
 #![tactic(auto)]
 
 ghost use Rattle.std.specs.Prelude.{◌++◌, ◌+◌, ◌-◌, ◌≤◌, ◌<◌, length};
@@ -14,14 +14,12 @@ fn put_statements(out: &mut [u8], at: usize, part: &[u8], start: u32, end: u32) 
     ensures { Put out.old at (statements_text part.now start (end - start)) result out.new × (result ≤ at + 10485600) }
 {
     let statements = listing_text::statements_of(part);
-    let mut place = start;
     let mut next = at;
-    while place < end {
+    for place in start..end {
         next = lines::put_place(out, next, part, place);
         if statements <= place {
             return next;
         }
-        place += 1;
     }
     next
 }
@@ -43,11 +41,9 @@ fn put_blocks(out: &mut [u8], at: usize, part: &[u8]) -> usize
     ensures { Put out.old at (blocks_text part.now 0 (blocks_of part.now)) result out.new × (result ≤ at + 5347737760) }
 {
     let blocks = listing_text::blocks_of(part);
-    let mut block: u32 = 0;
     let mut next = at;
-    while block < blocks {
+    for block in 0..blocks {
         next = put_block(out, next, part, block);
-        block += 1;
     }
     lines::put_behind(out, next, part)
 }
@@ -70,11 +66,9 @@ fn put_nodes(out: &mut [u8], at: usize, program: &[u8], nodes: u8) -> usize
     requires { (length program.now ≤ 65536) × (at ≤ 500000000000000000) }
     ensures { Put out.old at (nodes_text program.now 0 nodes) result out.new }
 {
-    let mut node: u8 = 0;
     let mut next = at;
-    while node < nodes {
-        next = put_node(out, next, node as u32, program::part(program, node));
-        node += 1;
+    for node in 0..nodes {
+        next = put_node(out, next, u32::from(node), program::part(program, node));
     }
     next
 }

@@ -2,10 +2,12 @@
 use mathlib.Core.Path.{◌≡◌, refl, sym, ap, ap₂, subst, ◌∙◌}
 use mathlib.Core.Bool.{Bool, true, false, cond, ◌&&◌, not}
 use mathlib.Core.List.{List, ◌++◌}
-use mathlib.Core.Option.{Option, none, some}
+use mathlib.Core.Option.{Option as Perhaps, none, some}
+use Rattle.std.specs.Prelude.{Option, Some, None}
+use Rattle.std.specs.Option.{is_some}
 use Prim.Native.Nat.{ℕ, ◌*◌, ◌≤◌, ◌<◌}
 use native.Mathlib.Omega.{arith}
-use borrow.Author.Tests.{ltb-true, lt-ltb, le-ltb, leb-true, leb-false, le-leb, lt-leb}
+use borrow.Author.Tests.{ltb-true, lt-ltb, le-ltb, leb-true, leb-false, lt-leb}
 use lib.Dec.{leb, ltb}
 use lib.ListN.{length, drop}
 use Rattle.model.specs.Lists.{is_none, each, Answer, accepted, refused}
@@ -15,8 +17,8 @@ use Rattle.model.specs.Places.{Valid, read_of}
 use Rattle.model.specs.Schedule.{Passage}
 use Rattle.model.specs.Checks.{accepted_schedule_of}
 use Rattle.model.specs.Run.{Setting, setting_to, run, observation_width, written_bytes, written_in}
-use Rattle.model.specs.Calls.{RunCall, not_run, ran}
-use Rattle.model.proofs.Basics.Bools.{and_is}
+use Rattle.model.specs.Calls.{not_run, ran}
+use Rattle.model.proofs.Basics.Bools.{and_is, clash}
 use Rattle.model.proofs.Observations.Size.{all_long}
 use Rattle.model.proofs.Reader.Located.{valid_read}
 use Rattle.schedule.specs.Filled.{AcceptedRows}
@@ -47,48 +49,47 @@ module _ (bs : List ℕ) (X : ℕ) (cs lent : List ℕ) where
 -- ## 29
 
 -- a pair is found, or there is none
-found_is : (o : Option Recurrence) (p : Pair) → PairIs o p → p.found ≡ not (is_none o)
-found_is none p e = e.0
-found_is (some x) p e = e.0
+found_is : (o : Perhaps Recurrence) (p : Option Pair) → PairIs o p → is_some p ≡ not (is_none o)
+found_is none p e = ap is_some e
+found_is (some x) p e = ap is_some e
 
 module _ (bs rows : List ℕ) (n : ℕ) (laid : AcceptedRows bs rows n) where
   same : schedule_in bs ≡ laid.passages
   same = ap (λ (a : Answer (List Passage)). passages_of a) laid.accepted_schedule
 
-  module _ (p : Pair) (h X : ℕ) (own : h ≡ (read_of bs).horizon) (pair : h < X → PairOf bs p) where
+  module _ (p : Option Pair) (h X : ℕ) (own : h ≡ (read_of bs).horizon) (pair : h < X → PairOf bs p) where
     -- what was looked at is what 29 asks
-    pub reach_is : (ltb 0 X && cond (leb X h) true p.found) ≡ reachable (read_of bs) laid.passages X
+    pub reach_is : (ltb 0 X && cond (leb X h) true (is_some p)) ≡ reachable (read_of bs) laid.passages X
     reach_is =
         ap (λ (b : Bool). ltb 0 X && b) (go (leb X h) refl)
         ∙ ap (λ (k : ℕ). ltb 0 X && cond (leb X k) true (not (is_none (recurrence (read_of bs).table (read_of bs).horizon laid.passages)))) own
       where
-        go : (b : Bool) → leb X h ≡ b → cond b true p.found ≡ cond b true (not (is_none (recurrence (read_of bs).table (read_of bs).horizon laid.passages)))
+        go : (b : Bool) → leb X h ≡ b → cond b true (is_some p) ≡ cond b true (not (is_none (recurrence (read_of bs).table (read_of bs).horizon laid.passages)))
         go true e = refl
         go false e =
             found_is (recurrence (read_of bs).table (read_of bs).horizon (schedule_in bs)) p (pair (leb-false X h e))
             ∙ ap (λ (S : List Passage). not (is_none (recurrence (read_of bs).table (read_of bs).horizon S))) same
 
     -- where it does not refuse
-    pub reached : (ltb 0 X && cond (leb X h) true p.found) ≡ true → Reached bs rows n p h X
+    pub reached : (ltb 0 X && cond (leb X h) true (is_some p)) ≡ true → Reached bs rows n p X
     reached e =
-        let both = (and_is (ltb 0 X) (cond (leb X h) true p.found)).0 e in
+        let both = (and_is (ltb 0 X) (cond (leb X h) true (is_some p))).0 e in
         record {
           rows = laid;
-          own = own;
           least = omega (arith, ltb-true 0 X both.0);
-          pair = pair;
-          found = λ k. sym (ap (λ (b : Bool). cond b true p.found) (lt-leb X h k)) ∙ both.1;
+          pair = λ k. pair (omega (arith, own, k));
+          found = λ k. sym (ap (λ (b : Bool). cond b true (is_some p)) (lt-leb X h (omega (arith, own, k)))) ∙ both.1;
         }
 
 -- all that holds to such a horizon
-pub reached_to : {bs rows : List ℕ} {n : ℕ} {p : Pair} {h X : ℕ} → Valid bs → Reached bs rows n p h X → Unending (read_of bs) X
-reached_to {bs} {rows} {n} {p} {h} {X} v r =
+pub reached_to : {bs rows : List ℕ} {n : ℕ} {p : Option Pair} {X : ℕ} → Valid bs → Reached bs rows n p X → Unending (read_of bs) X
+reached_to {bs} {rows} {n} {p} {X} v r =
     reachable_law bs (read_of bs) r.rows.passages (valid_read bs v) r.rows.accepted_schedule X
-    (sym (reach_is bs rows n r.rows p h X r.own r.pair) ∙ ap₂ (λ (x y : Bool). x && y) (lt-ltb 0 X (omega (arith, r.least))) (go (leb X h) refl))
+    (sym (reach_is bs rows n r.rows p (read_of bs).horizon X refl r.pair) ∙ ap₂ (λ (x y : Bool). x && y) (lt-ltb 0 X (omega (arith, r.least))) (go (leb X (read_of bs).horizon) refl))
   where
-    go : (b : Bool) → leb X h ≡ b → cond b true p.found ≡ true
+    go : (b : Bool) → leb X (read_of bs).horizon ≡ b → cond b true (is_some p) ≡ true
     go true e = refl
-    go false e = r.found (leb-false X h e)
+    go false e = r.found (leb-false X (read_of bs).horizon e)
 
 -- ## A table that is accepted
 

@@ -2,16 +2,15 @@
 use mathlib.Core.Path.{◌≡◌, refl, sym, ap, ap₂, subst, fun_ext, ◌∙◌}
 use mathlib.Core.List.{List, [], ◌∷◌, ◌++◌, map}
 use mathlib.Core.Option.{Option}
-use Prim.Native.Nat.{ℕ, zero, suc, ◌*◌, ◌≤◌, ◌<◌}
+use Prim.Native.Nat.{ℕ, zero, suc, ◌*◌, ◌≤◌}
 use native.Mathlib.Omega.{arith}
 use lib.Dec.{eqb}
 use lib.IntN.{ℤ}
 use lib.ListN.{length, take, drop}
-use Rattle.model.specs.Lists.{below, each, Bytes, accepted}
+use Rattle.model.specs.Lists.{below, each, Bytes}
 use Rattle.model.specs.Reader.{byte}
 use Rattle.model.specs.Places.{Valid, read_of}
 use Rattle.model.specs.Schedule.{Passage, own, light}
-use Rattle.model.specs.Checks.{accepted_schedule_of}
 use Rattle.model.specs.Program.{program_bytes}
 use Rattle.model.specs.Run.{Counts, Setting, ready_of_nth, setting_to, Result, start_run, run, observation_width, written_bytes, written_in}
 use Rattle.model.proofs.Checks.Independence.{only_map}
@@ -24,6 +23,7 @@ use Rattle.schedule.specs.Filled.{AcceptedRows}
 use Rattle.schedule.proofs.Accepted.{is_schedule}
 use Rattle.recurrence.specs.Recurrence.{Unending}
 use Rattle.recurrence.proofs.Every.{shorter}
+use Rattle.model.specs.Calls.{end_of}
 use Rattle.run.specs.declared.Ended.{Ended}
 use Rattle.run.specs.Ends.{Roomy, most_used, Brief, Begun, EndsAs, Started}
 use Rattle.run.proofs.Carried.{over_none}
@@ -47,8 +47,7 @@ setting_with program H counts offsets ready = record { program = program; horizo
 same_end : {g h : Setting} {cs out out' : List ℕ} {e : Ended} → run g cs ≡ run h cs → EndsAs g cs out e out' → EndsAs h cs out e out'
 same_end {g} {h} {cs} {out} {out'} {e} q x =
     record {
-      end = x.end ∙ ap (λ (r : Result). r.end) q;
-      node = x.node ∙ ap (λ (r : Result). r.node) q;
+      end = x.end ∙ ap (λ (r : Result). end_of r.end r.node) q;
       tick = x.tick ∙ ap (λ (r : Result). r.state.tick) q;
       used = x.used ∙ ap (λ (r : Result). r.state.used) q;
       written = x.written ∙ ap (λ (r : Result). length r.state.observations) q;

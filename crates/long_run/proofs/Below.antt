@@ -11,7 +11,7 @@ use borrow.Author.Tests.{ltb-true, ltb-false, lt-ltb, le-ltb}
 use lib.Dec.{ltb}
 use lib.ListN.{length}
 use Rattle.model.specs.Lists.{All}
-use Rattle.model.specs.Table.{Table, Read, size}
+use Rattle.model.specs.Table.{Table, Read}
 use Rattle.model.specs.Schedule.{Passage, own}
 use Rattle.model.specs.Checks.{passage_at}
 use Rattle.model.specs.Chains.{IsSchedule}
@@ -24,7 +24,6 @@ use Rattle.recurrence.proofs.Every.{all_left}
 use Rattle.recurrence.proofs.Index.{ready_at, no_ready}
 use Rattle.recurrence.proofs.Place.{same_start, same_rows}
 use Rattle.recurrence.proofs.Turned.{ready_after}
-use Rattle.recurrence.proofs.ByRows.{absent}
 use Rattle.recurrence.proofs.Agree.{run_same}
 
 -- S is the schedule to h, L that to X

@@ -1,14 +1,13 @@
 -- How many passages the schedule to a horizon of four bytes has at most, and how far its run goes. Assumes nothing.
-use mathlib.Core.Path.{◌≡◌, sym, ap, ◌∙◌}
+use mathlib.Core.Path.{◌≡◌, sym, ◌∙◌}
 use mathlib.Core.List.{List}
-use Prim.Native.Nat.{ℕ, zero, suc, ◌+◌, ◌*◌, ◌≤◌, ◌<◌}
+use Prim.Native.Nat.{ℕ, zero, suc, ◌*◌, ◌≤◌}
 use native.Mathlib.Omega.{arith}
 use lib.ListN.{length}
 use Rattle.model.specs.Lists.{Bytes, accepted}
 use Rattle.model.specs.Table.{Read, size}
 use Rattle.model.specs.Places.{Valid, read_of}
 use Rattle.model.specs.Schedule.{Passage}
-use Rattle.model.specs.Checks.{accepted_schedule}
 use Rattle.model.specs.Chains.{IsSchedule}
 use Rattle.model.specs.Run.{setting_to, run}
 use Rattle.model.proofs.Reader.Parts.{accepted_same}

@@ -1,9 +1,7 @@
 -- The rows up to the end of the last round, those entered there included, are rows of the table's schedule. Assumes nothing.
-use mathlib.Core.Path.{◌≡◌, ap}
 use mathlib.Core.List.{List}
-use Prim.Native.Nat.{ℕ, ◌+◌, ◌-◌, ◌*◌, ◌≤◌, ◌<◌}
+use Prim.Native.Nat.{ℕ, ◌+◌, ◌-◌, ◌≤◌}
 use native.Mathlib.Omega.{arith}
-use lib.ListN.{length}
 use Rattle.model.specs.Lists.{Bytes}
 use Rattle.model.specs.Table.{size}
 use Rattle.model.specs.Reader.{byte}

@@ -1,5 +1,6 @@
 -- What is known of a table and a horizon that 29 does not refuse, and what its run leaves.
-use Rattle.std.specs.Prelude.{◌≡◌, true, List, ℕ, ◌*◌, ◌≤◌, ◌<◌, length}
+use Rattle.std.specs.Prelude.{◌≡◌, true, List, ℕ, ◌*◌, ◌≤◌, ◌<◌, length, Option}
+use Rattle.std.specs.Option.{is_some}
 use Rattle.model.specs.Lists.{accepted}
 use Rattle.model.specs.Places.{read_of}
 use Rattle.model.specs.Schedule.{Passage}
@@ -13,16 +14,15 @@ use Rattle.run.specs.declared.Ended.{Ended}
 use Rattle.run.specs.Ends.{EndsAs}
 
 -- the pair of a table, or none
-abbrev pub PairOf : List ℕ → Pair → Type 0
+abbrev pub PairOf : List ℕ → Option Pair → Type 0
 PairOf table pair = PairIs (recurrence (read_of table).table (read_of table).horizon (schedule_in table)) pair
 
 -- the rows are the table's schedule; where the horizon lies beyond the table's own there is a pair, and it is this one
-pub record Reached (table l : List ℕ) (n : ℕ) (p : Pair) (h X : ℕ) : Type 0 where
+pub record Reached (table l : List ℕ) (n : ℕ) (p : Option Pair) (X : ℕ) : Type 0 where
   pub rows : AcceptedRows table l n
-  pub own : h ≡ (read_of table).horizon
   pub least : 1 ≤ X
-  pub pair : h < X → PairOf table p
-  pub found : h < X → p.found ≡ true
+  pub pair : (read_of table).horizon < X → PairOf table p
+  pub found : (read_of table).horizon < X → is_some p ≡ true
 
 -- 36 bytes for each passage of the schedule to the horizon
 abbrev pub RoomTo : List ℕ → ℕ → ℕ → Type 0

@@ -4,13 +4,14 @@
 
 pub mod steps;
 
-ghost use Rattle.std.specs.Prelude.{◌≡◌, ◌&&◌, cond, false, true, List, ℕ, ◌*◌, ◌≤◌, ◌<◌, leb, ltb, length};
+ghost use Rattle.std.specs.Prelude.{◌≡◌, ◌&&◌, cond, false, true, List, ℕ, ◌*◌, ◌≤◌, ◌<◌, leb, ltb, length, None};
+ghost use Rattle.std.specs.Option.{is_some};
 ghost use Rattle.model.specs.Lists.{accepted};
 ghost use Rattle.model.specs.Reader.{byte};
 ghost use Rattle.model.specs.Places.{Valid, read_of};
 ghost use Rattle.model.specs.Schedule.{Passage};
 ghost use Rattle.model.specs.Run.{setting_to, run};
-ghost use Rattle.model.specs.Calls.{not_run, ran, end_of};
+ghost use Rattle.model.specs.Calls.{not_run, ran};
 ghost use Rattle.table.specs.Directory.{starts_of};
 ghost use Rattle.schedule.specs.Filled.{AcceptedRows};
 ghost use Rattle.recurrence.specs.Recurrence.{accepted_schedule_to, run_to_call};
@@ -29,18 +30,6 @@ pub struct LongRan {
     pub tick: u32,
     pub used: u64,
     pub size: u64,
-}
-
-// The end that has this number and this node.
-fn end_of(number: u8, node: u8) -> End
-    ensures { result ≡ end_of number node }
-{
-    match number {
-        0 => End::Horizon,
-        1 => End::UsedUp,
-        2 => End::Late(node),
-        _ => End::NotAllowed,
-    }
 }
 
 fn not_run(number: u8, component: u8) -> LongRan
@@ -63,28 +52,25 @@ fn pair_beyond(
     count: usize,
     own: u32,
     horizon: u32,
-) -> Pair
+) -> Option<Pair>
     requires { AcceptedRows table.now rows.now count × (starts ≡ starts_of table.now (byte table.now 3)) }
-    ensures { own < horizon → PairOf table.now result }
+    ensures { (own < horizon → PairOf table.now result) × (horizon ≤ own → result ≡ None) }
 {
     if own < horizon {
         return period::pair_in(table, rows, count, starts);
     }
-    Pair {
-        found: false,
-        from: 0,
-        to: 0,
-    }
+    None
 }
 
 // 29: whether the horizon can be run to.
-fn reaches(pair: Pair, own: u32, horizon: u32) -> bool
-    ensures { result ≡ (ltb 0 horizon && cond (leb horizon own) true pair.found) }
+fn reaches(pair: Option<Pair>, own: u32, horizon: u32) -> bool
+    ensures { result ≡ (ltb 0 horizon && cond (leb horizon own) true (is_some pair)) }
 {
     if horizon == 0 {
         return false;
     }
-    if horizon <= own { true } else { pair.found }
+    let found = pair.is_some();
+    if horizon <= own { true } else { found }
 }
 
 // Whether so many bytes hold 36 for each of so many passages.
@@ -101,13 +87,12 @@ fn run_permitted(
     starts: [u16; 8],
     rows: &mut [u32],
     count: usize,
-    pair: Pair,
-    own: u32,
+    pair: Option<Pair>,
     horizon: u32,
     choices: &[u8],
     observations: &mut [u8],
 ) -> LongRan
-    requires { Valid table.now × (starts ≡ starts_of table.now (byte table.now 3)) × Reached table.now rows.old count pair own horizon × RoomTo table.now horizon (length observations.old) }
+    requires { Valid table.now × (starts ≡ starts_of table.now (byte table.now 3)) × Reached table.now rows.old count pair horizon × RoomTo table.now horizon (length observations.old) }
     ensures { (L : List Passage) → accepted_schedule_to (read_of table.now).table horizon ≡ accepted L → AnswersTo (ran (run (setting_to (read_of table.now) horizon L) choices.now) observations.old) result observations.new }
 {
     let e = steps::run_table(
@@ -116,14 +101,13 @@ fn run_permitted(
         rows,
         count,
         pair,
-        own,
         horizon,
         choices,
         observations,
     );
     LongRan {
         verdict: Verdict::Accepted,
-        end: end_of(e.end, e.node),
+        end: e.end,
         tick: e.tick as u32,
         used: e.used as u64,
         size: e.written as u64,
@@ -158,7 +142,6 @@ fn run_planned(
         rows,
         count,
         pair,
-        own,
         horizon,
         choices,
         observations,

@@ -1,5 +1,5 @@
 // The run of an accepted table to a horizon that 29 does not refuse: its program written, its nodes at their start, its choices carried out.
-ghost use Rattle.std.specs.Prelude.{◌≡◌, true, ◌≤◌, ◌<◌, length};
+ghost use Rattle.std.specs.Prelude.{◌≡◌, ◌≤◌, ◌<◌, length, Some};
 ghost use Rattle.model.specs.Reader.{byte};
 ghost use Rattle.model.specs.Places.{Valid, read_of};
 ghost use Rattle.model.specs.Program.{program_bytes};
@@ -62,18 +62,18 @@ fn run_beyond(
     rows: &mut [u32],
     count: usize,
     pair: Pair,
-    own: u32,
     horizon: u32,
     choices: &[u8],
     out: &mut [u8],
 ) -> Ended
-    requires { Valid table.now × (starts ≡ starts_of table.now (byte table.now 3)) × (program.now ≡ program_bytes (read_of table.now)) × AcceptedRows table.now rows.old count × PairOf table.now pair × (pair.found ≡ true) × (own ≡ (read_of table.now).horizon) × (own < horizon) × RoomTo table.now horizon (length out.old) }
+    requires { Valid table.now × (starts ≡ starts_of table.now (byte table.now 3)) × (program.now ≡ program_bytes (read_of table.now)) × AcceptedRows table.now rows.old count × PairOf table.now (Some pair) × ((read_of table.now).horizon < horizon) × RoomTo table.now horizon (length out.old) }
     ensures { EndsTo table.now horizon choices.now out.old result out.new }
 {
     let none = [0u32; 1];
     let mut words = [0u64; 256];
     let mut values = [0i16; 32];
     let nodes = parts::wide(table[layout::TABLE_COMPONENTS]);
+    let own = parts::word32(parts::word_at(table, layout::TABLE_HORIZON));
     let round = period::counting::longest_round(table, rows, count, pair, own);
     run::start(
         table,
@@ -106,21 +106,24 @@ fn run_program(
     program: &[u8],
     rows: &mut [u32],
     count: usize,
-    pair: Pair,
-    own: u32,
+    pair: Option<Pair>,
     horizon: u32,
     choices: &[u8],
     out: &mut [u8],
 ) -> Ended
-    requires { Valid table.now × (starts ≡ starts_of table.now (byte table.now 3)) × (program.now ≡ program_bytes (read_of table.now)) × Reached table.now rows.old count pair own horizon × RoomTo table.now horizon (length out.old) }
+    requires { Valid table.now × (starts ≡ starts_of table.now (byte table.now 3)) × (program.now ≡ program_bytes (read_of table.now)) × Reached table.now rows.old count pair horizon × RoomTo table.now horizon (length out.old) }
     ensures { EndsTo table.now horizon choices.now out.old result out.new }
 {
-    if own < horizon {
-        return run_beyond(
-            table, starts, program, rows, count, pair, own, horizon, choices, out,
-        );
+    let own = u32::from(parts::word_at(table, layout::TABLE_HORIZON));
+    if horizon <= own {
+        return run_below(table, starts, program, rows, count, horizon, choices, out);
     }
-    run_below(table, starts, program, rows, count, horizon, choices, out)
+    match pair {
+        Some(pair) => run_beyond(
+            table, starts, program, rows, count, pair, horizon, choices, out,
+        ),
+        None => unreachable!(),
+    }
 }
 
 // The same, the program written to the bytes lent.
@@ -130,13 +133,12 @@ fn run_in(
     program: &mut [u8],
     rows: &mut [u32],
     count: usize,
-    pair: Pair,
-    own: u32,
+    pair: Option<Pair>,
     horizon: u32,
     choices: &[u8],
     out: &mut [u8],
 ) -> Ended
-    requires { Valid table.now × (starts ≡ starts_of table.now (byte table.now 3)) × (length (program_bytes (read_of table.now)) ≤ length program.old) × Reached table.now rows.old count pair own horizon × RoomTo table.now horizon (length out.old) }
+    requires { Valid table.now × (starts ≡ starts_of table.now (byte table.now 3)) × (length (program_bytes (read_of table.now)) ≤ length program.old) × Reached table.now rows.old count pair horizon × RoomTo table.now horizon (length out.old) }
     ensures { EndsTo table.now horizon choices.now out.old result out.new }
 {
     let long = translator::write_program(table, starts, program);
@@ -147,7 +149,6 @@ fn run_in(
         rows,
         count,
         pair,
-        own,
         horizon,
         choices,
         out,
@@ -160,13 +161,12 @@ pub fn run_table(
     starts: [u16; 8],
     rows: &mut [u32],
     count: usize,
-    pair: Pair,
-    own: u32,
+    pair: Option<Pair>,
     horizon: u32,
     choices: &[u8],
     out: &mut [u8],
 ) -> Ended
-    requires { Valid table.now × (starts ≡ starts_of table.now (byte table.now 3)) × Reached table.now rows.old count pair own horizon × RoomTo table.now horizon (length out.old) }
+    requires { Valid table.now × (starts ≡ starts_of table.now (byte table.now 3)) × Reached table.now rows.old count pair horizon × RoomTo table.now horizon (length out.old) }
     ensures { EndsTo table.now horizon choices.now out.old result out.new }
 {
     if translator::program_length(table, starts) <= 2048 {
@@ -178,7 +178,6 @@ pub fn run_table(
             rows,
             count,
             pair,
-            own,
             horizon,
             choices,
             out,
@@ -192,7 +191,6 @@ pub fn run_table(
         rows,
         count,
         pair,
-        own,
         horizon,
         choices,
         out,

@@ -1,5 +1,5 @@
 -- A node's choice without another node: refused, or finished. Assumes nothing.
-use mathlib.Core.Path.{◌≡◌, refl, sym, ap, ap₂, subst, ◌∙◌}
+use mathlib.Core.Path.{◌≡◌, refl, sym, ap, ap₂, ◌∙◌}
 use mathlib.Core.Bool.{Bool, true, false, cond}
 use mathlib.Core.List.{List, [], ◌∷◌, ◌++◌, map, append-nil}
 use Prim.Native.Nat.{ℕ, ◌+◌, ◌-◌, ◌*◌, ◌≤◌, ◌<◌}
@@ -8,6 +8,7 @@ use borrow.Author.Tests.{eqb-true, eqb-false, eq-eqb, ne_eqb}
 use lib.Dec.{eqb}
 use lib.IntN.{ℤ}
 use lib.Seq.{sets}
+use Rattle.std.specs.Prelude.{None, Some}
 use Rattle.model.specs.Lists.{only, each}
 use Rattle.model.specs.Network.{Work, one}
 use Rattle.model.specs.Order.{work_tick}
@@ -28,11 +29,11 @@ use Rattle.machine.proofs.Moves.{previous_one, after_alone}
 -- what has not been allowed has changed nothing
 pub kept_all : (program rows : List ℕ) (n H count tick b : ℕ) (l : List ℕ) (v : List ℤ) (out : List ℕ) (written : ℕ)
     → ((s : Run) → Running program rows n l v count s → s.tick ≡ tick → choose1 (setting_in program H rows n l count) s b ≡ forbidden)
-    → Chosen program rows n H count tick b l v out written (record { allowed = false; written = written }) l v out
+    → Chosen program rows n H count tick b l v out written None l v out
 kept_all program rows n H count tick b l v out written f =
     record {
       refuses = λ e. f;
-      keeps = λ e. (refl, refl, refl, refl);
+      keeps = λ e. (refl, refl, refl);
       allows = λ e. clash e;
       finished = λ e. clash e;
       alone = λ o i k. same_refl;
@@ -41,7 +42,7 @@ kept_all program rows n H count tick b l v out written f =
 
 -- no such node
 pub refused_absent : (program rows : List ℕ) (n H count tick b : ℕ) (l : List ℕ) (v : List ℤ) (out : List ℕ) (written : ℕ) → b < 255 → count ≤ b
-    → Chosen program rows n H count tick b l v out written (record { allowed = false; written = written }) l v out
+    → Chosen program rows n H count tick b l v out written None l v out
 refused_absent program rows n H count tick b l v out written h k =
     kept_all program rows n H count tick b l v out written
     (λ s r t. absent_node (setting_in program H rows n l count) s b h (omega (arith, all_nodes program l v count s r.nodes)))
@@ -52,7 +53,7 @@ offset_at program H rows n l count b h = at_below (wake_tick_in l) 0 count b h
 
 -- it sleeps until later
 pub refused_asleep : (program rows : List ℕ) (n H count tick b : ℕ) (l : List ℕ) (v : List ℤ) (out : List ℕ) (written : ℕ) → count ≤ 8 → b < count → tick < wake_tick_in l b
-    → Chosen program rows n H count tick b l v out written (record { allowed = false; written = written }) l v out
+    → Chosen program rows n H count tick b l v out written None l v out
 refused_asleep program rows n H count tick b l v out written most h w =
     kept_all program rows n H count tick b l v out written
     (λ s r t.
@@ -112,15 +113,15 @@ module _ (program rows : List ℕ) (n H count tick b : ℕ) (l : List ℕ) (v : 
 
   -- it may not finish its statement
   pub refused : (op_of program l v b ≡ 4 → ⊥) → may_finish own R (stand_of R) ≡ false
-      → Chosen program rows n H count tick b l v out written (record { allowed = false; written = written }) l v out
+      → Chosen program rows n H count tick b l v out written None l v out
   refused o e = kept_all program rows n H count tick b l v out written (λ s r t. refusal s r t o e)
 
   module _ {l' : List ℕ} {v' : List ℤ} (mv : NodeMoved program rows n l v b (finish (part_in program l b) R R.rest) l' v') (op : ℕ) (is : op ≡ op_of program l v b)
       (f : finish_tick_in l' b ≡ cond (finishes_work op) own (finish_tick_in l b)) (o : op_of program l v b ≡ 4 → ⊥)
       (e : may_finish own R (stand_of R) ≡ true) where
     done_with : (w : ℕ) (out' : List ℕ)
-        → ((s : Run) → Running program rows n l v count s → s.tick ≡ tick → After program rows n H count b l s out written (record { allowed = true; written = w }) l' v' out')
-        → Chosen program rows n H count tick b l v out written (record { allowed = true; written = w }) l' v' out'
+        → ((s : Run) → Running program rows n l v count s → s.tick ≡ tick → After program rows n H count b l s out written (Some w) l' v' out')
+        → Chosen program rows n H count tick b l v out written (Some w) l' v' out'
     done_with w out' f =
         record {
           refuses = λ x. clash (sym x);
@@ -133,11 +134,11 @@ module _ (program rows : List ℕ) (n H count tick b : ℕ) (l : List ℕ) (v : 
 
     -- a sleep is over, and is observed
     pub woken : op_of program l v b ≡ 0 → (out' : List ℕ) → out' ≡ sets out (written * observation_width) (written_bytes (record { observation = observes b own R; previous = finish_tick_in l b }))
-        → Chosen program rows n H count tick b l v out written (record { allowed = true; written = written + 1 }) l' v' out'
+        → Chosen program rows n H count tick b l v out written (Some (written + 1)) l' v' out'
     unfolding each
     woken z out' w =
         done_with (written + 1) out'
-        (λ s r t. after_alone H count mv h s r (observes b (own_tick (setting_in program H rows n l count) b s.tick) (node_of s b) ∷ []) (previous_finish (setting_in program H rows n l count) b s.works ∷ []) [] out out' written (record { allowed = true; written = written + 1 }) (slept s r t z e) refl
+        (λ s r t. after_alone H count mv h s r (observes b (own_tick (setting_in program H rows n l count) b s.tick) (node_of s b) ∷ []) (previous_finish (setting_in program H rows n l count) b s.works ∷ []) [] out out' written (Some (written + 1)) (slept s r t z e) refl
         (w ∙ ap (sets out (written * observation_width)) (same s r t))
         refl
         (f ∙ (ap (λ (k : ℕ). cond (finishes_work k) own (finish_tick_in l b)) (is ∙ z) ∙ (r.finish b h ∙ ap (previous_in l b) (sym (append-nil s.works)))))
@@ -157,13 +158,13 @@ module _ (program rows : List ℕ) (n H count tick b : ℕ) (l : List ℕ) (v : 
             ∙ ap (λ (p : ℕ). written_bytes (entry own R p)) (previous_is s r t)))
 
     -- another statement is finished
-    pub done : (op_of program l v b ≡ 0 → ⊥) → Chosen program rows n H count tick b l v out written (record { allowed = true; written = written }) l' v' out
+    pub done : (op_of program l v b ≡ 0 → ⊥) → Chosen program rows n H count tick b l v out written (Some written) l' v' out
     unfolding each
     done z =
         done_with written out
         (λ s r t.
         let d = done_alone (setting_in program H rows n l count) s b (stand_of R) (stands_plain (part_in program l b) (word_in l b 0) z o) (may_here s r t true e) in
-        after_alone H count mv h s r [] [] (cond (last_stand (stand_of R)) (one b s.tick ∷ []) []) out out written (record { allowed = true; written = written }) (goes_by s r t ∙ d) (omega arith) refl refl
+        after_alone H count mv h s r [] [] (cond (last_stand (stand_of R)) (one b s.tick ∷ []) []) out out written (Some written) (goes_by s r t ∙ d) (ap Some (omega arith)) refl refl
         (f ∙ (ap (λ (x : Bool). cond x own (finish_tick_in l b)) (ap finishes_work is ∙ stands_last (part_in program l b) (word_in l b 0)) ∙ mine s r t (last_stand (stand_of R))))
         (λ i k. others s i k (last_stand (stand_of R))))
       where

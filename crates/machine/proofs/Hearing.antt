@@ -8,6 +8,8 @@ use borrow.Author.Tests.{eqb-true, eqb-false, le-leb, lt-leb, eq-eqb, ne_eqb}
 use lib.Dec.{leb, eqb}
 use lib.IntN.{ℤ}
 use lib.ListN.{length, drop, get_or}
+use Rattle.std.specs.Prelude.{Option, None, Some}
+use Rattle.std.specs.Option.{ForSome}
 use Rattle.model.specs.Lists.{is_none, below}
 use Rattle.model.specs.Machine.{Node}
 use Rattle.model.specs.Run.{Setting, Run, no_node, node_of, stand_at, stand_of, names, began, hears, listeners}
@@ -81,12 +83,12 @@ module _ (program l : List ℕ) (v : List ℤ) (k count c : ℕ) (g : Setting) (
       go false e = f (eqb-false i c e)
 
   -- no node hears it
-  pub no_listener : ((i : ℕ) → i < count → (i ≡ c → ⊥) → hears_in program l v k (word_in l c 1 + word_in l c 28) i ≡ false) → IsFirst (listeners g s c k) 8
+  pub no_listener : ((i : ℕ) → i < count → (i ≡ c → ⊥) → hears_in program l v k (word_in l c 1 + word_in l c 28) i ≡ false) → IsFirst (listeners g s c k) None
   no_listener f = rw (all_nodes program l v count s nodes) (none_first test count (λ i h. fails i h (f i h)))
 
   -- node i is the first
   pub first_listener : (i : ℕ) → i < count → (i ≡ c → ⊥) → ((j : ℕ) → j < i → (j ≡ c → ⊥) → hears_in program l v k (word_in l c 1 + word_in l c 28) j ≡ false)
-      → hears_in program l v k (word_in l c 1 + word_in l c 28) i ≡ true → IsFirst (listeners g s c k) i
+      → hears_in program l v k (word_in l c 1 + word_in l c 28) i ≡ true → IsFirst (listeners g s c k) (Some i)
   first_listener i h n f e =
       rw (all_nodes program l v count s nodes)
       (one_first test count i (λ j q. fails j (omega arith) (f j q)) h (test_is i h ∙ rw (ne_eqb i c n) e))
@@ -115,22 +117,23 @@ one_more program l k t c i f h v j m n = go (eqb j i) refl
     go false e = let q = eqb-false j i e in f v j (omega arith) n
 
 -- what is said of the node found
-abbrev pub Found : List ℕ → List ℕ → ℕ → ℕ → ℕ → ℕ → Type 0
-Found program l k count c r =
-    ((v : List ℤ) (g : Setting) (s : Run) → g.offsets ≡ map (wake_tick_in l) (below count) → s.nodes ≡ map (view_in program l v) (below count) → IsFirst (listeners g s c k) r)
-    × (r < 8 → (r < count) × (r ≡ c → ⊥) × (op_in (drop (word_in l r 0) (part_in program l r)) ≡ 5))
+abbrev pub Found : List ℕ → List ℕ → ℕ → ℕ → ℕ → Option ℕ → Type 0
+Found program l k count c r = record {
+  first : (v : List ℤ) (g : Setting) (s : Run) → g.offsets ≡ map (wake_tick_in l) (below count) → s.nodes ≡ map (view_in program l v) (below count) → IsFirst (listeners g s c k) r;
+  stands : ForSome r (λ i. (i < count) × (i ≡ c → ⊥) × (op_in (drop (word_in l i 0) (part_in program l i)) ≡ 5));
+}
 
 module _ (program l : List ℕ) (k t count c i : ℕ) (m : c < count) (since : t ≡ word_in l c 1 + word_in l c 28) (none : NoneYet program l k t c i) where
   -- node i hears it
-  pub found : i < count → (i ≡ c → ⊥) → (r : Bool) → r ≡ true → ((v : List ℤ) → r ≡ hears_in program l v k t i) → Found program l k count c i
-  found h n r e f = (
-    λ v g s o q. first_listener program l v k count c g s m o q i h n (λ j a b. rw (← since) (none v j a b)) (rw (← since) (sym (f v) ∙ e)),
-    λ a. (h, n, listens program l [] k t i (sym (f []) ∙ e)),
-  )
+  pub found : i < count → (i ≡ c → ⊥) → (r : Bool) → r ≡ true → ((v : List ℤ) → r ≡ hears_in program l v k t i) → Found program l k count c (Some i)
+  found h n r e f = record {
+    first = λ v g s o q. first_listener program l v k count c g s m o q i h n (λ j a b. rw (← since) (none v j a b)) (rw (← since) (sym (f v) ∙ e));
+    stands = λ j q. let is : i ≡ j = cc in rw (← is) (h, n, listens program l [] k t i (sym (f []) ∙ e));
+  }
 
   -- none is left
-  pub not_found : count ≤ i → Found program l k count c 8
-  not_found h = (
-    λ v g s o q. no_listener program l v k count c g s m o q (λ j a b. rw (← since) (none v j (omega arith) b)),
-    λ a. absurd (omega arith),
-  )
+  pub not_found : count ≤ i → Found program l k count c None
+  not_found h = record {
+    first = λ v g s o q. no_listener program l v k count c g s m o q (λ j a b. rw (← since) (none v j (omega arith) b));
+    stands = λ j e. absurd (cc);
+  }

@@ -7,7 +7,6 @@ use lib.IntN.{ℤ}
 use lib.ListN.{length, drop, length-take, length-drop}
 use lib.Seq.{get_or-drop}
 use Rattle.model.specs.Reader.{byte}
-use Rattle.model.specs.Machine
 use Rattle.node.specs.declared.Counts.{Counts}
 use Rattle.node.specs.declared.Node.{Node}
 use Rattle.node.specs.Views.{node_of, op_in, Held, Within, Addable}

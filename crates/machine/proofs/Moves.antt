@@ -20,7 +20,7 @@ use Rattle.model.proofs.Network.Reached.{map_append}
 use Rattle.model.proofs.Run.FinishTicks.{last_end}
 use Rattle.rows.specs.Rows.{rows_of}
 use Rattle.registers.specs.Words.{word_in, part_in, wake_tick_in, finish_tick_in}
-use Rattle.machine.specs.declared.Moved.{Moved}
+use Rattle.std.specs.Prelude.{Option, Some}
 use Rattle.machine.specs.Running.{counts_at, setting_in, view_in, previous_in, NodeStands, Running}
 use Rattle.machine.specs.Chosen.{NodeMoved, After}
 use Rattle.machine.proofs.Numbered.{same_below, set_below}
@@ -101,8 +101,8 @@ module _ {program rows : List ℕ} {n : ℕ} (H count : ℕ) {c : ℕ} {l : List
   finished_is {s} r =
       ap₂ (λ (p : List ℕ) (x : Node). finish p x x.rest) (sym (r.each c h).part) (node_at program l v count s r.nodes c h)
 
-  pub after_alone : (s : Run) → Running program rows n l v count s → (os : List Observation) (fs : List ℕ) (ws : List Work) (out out' : List ℕ) (written : ℕ) (m : Moved)
-      → choose1 g s c ≡ on (moved s c (finished g s c) os fs ws) → m.written ≡ written + length os → out' ≡ sets out (written * observation_width) (each written_bytes (with_ticks os fs))
+  pub after_alone : (s : Run) → Running program rows n l v count s → (os : List Observation) (fs : List ℕ) (ws : List Work) (out out' : List ℕ) (written : ℕ) (m : Option ℕ)
+      → choose1 g s c ≡ on (moved s c (finished g s c) os fs ws) → m ≡ Some (written + length os) → out' ≡ sets out (written * observation_width) (each written_bytes (with_ticks os fs))
       → length fs ≡ length os → finish_tick_in l' c ≡ previous_in l c (s.works ++ ws) → ((i : ℕ) → (i ≡ c → ⊥) → only (takes_part i) ws ≡ [])
       → After program rows n H count c l s out written m l' v' out'
   after_alone s r os fs ws out out' written m e w b alike mine others =

@@ -8,9 +8,9 @@ use borrow.Author.Tests.{eqb-true, eqb-false}
 use lib.Dec.{eqb}
 use lib.ListN.{length, get_or, set, length-map, length-set}
 use lib.Seq.{ext_get_or, get_or-set_same, get_or-set_other}
-use Rattle.model.specs.Lists.{only, from, below, ◌∈◌, here, there}
+use Rattle.std.specs.Prelude.{None, Some}
+use Rattle.model.specs.Lists.{only, from, below}
 use Rattle.model.proofs.Basics.Bools.{clash}
-use Rattle.model.proofs.Basics.Members.{not_in, only_is}
 use Rattle.model.proofs.Basics.Sums.{length_from}
 use Rattle.machine.specs.Chosen.{IsFirst}
 
@@ -57,42 +57,35 @@ module _ (p : ℕ → Bool) where
   none_from a (suc n) h = rw (h a (omega arith)) (none_from (suc a) n (λ j k. h j (omega arith)))
 
   -- none
-  pub none_first : (n : ℕ) → ((j : ℕ) → j < n → p j ≡ false) → IsFirst (only p (below n)) 8
+  pub none_first : (n : ℕ) → ((j : ℕ) → j < n → p j ≡ false) → IsFirst (only p (below n)) None
   none_first n h = rw (none_from 0 n (λ j k. h j (omega arith))) refl
 
-  first-from : (a n i : ℕ) → ((j : ℕ) → j < i → p j ≡ false) → a ≤ i → i < a + n → p i ≡ true → IsFirst (only p (from a n)) i
+  first-from : (a n i : ℕ) → ((j : ℕ) → j < i → p j ≡ false) → a ≤ i → i < a + n → p i ≡ true → IsFirst (only p (from a n)) (Some i)
   first-from a zero i h k l t = absurd (omega arith)
   first-from a (suc n) i h k l t = go (first-from (suc a) n i h) (p a) refl
     where
-      go : (suc a ≤ i → i < suc a + n → p i ≡ true → IsFirst (only p (from (suc a) n)) i) → (x : Bool) → p a ≡ x
-          → IsFirst (cond x (a ∷ only p (from (suc a) n)) (only p (from (suc a) n))) i
+      go : (suc a ≤ i → i < suc a + n → p i ≡ true → IsFirst (only p (from (suc a) n)) (Some i)) → (x : Bool) → p a ≡ x
+          → IsFirst (cond x (a ∷ only p (from (suc a) n)) (only p (from (suc a) n))) (Some i)
       go ih true e =
           let no : a < i → ⊥ = (λ m. clash (sym (h a m) ∙ e)) in
-          omega (arith, no)
+          let e : i ≡ a = omega (arith, no) in
+          ap (λ (x : ℕ). Some x) e
       go ih false e =
           let no : i ≡ a → ⊥ = (λ m. clash (sym e ∙ (ap p (sym m) ∙ t))) in
           ih (omega (arith, no)) (omega arith) t
 
   -- that one
-  pub one_first : (n i : ℕ) → ((j : ℕ) → j < i → p j ≡ false) → i < n → p i ≡ true → IsFirst (only p (below n)) i
+  pub one_first : (n i : ℕ) → ((j : ℕ) → j < i → p j ≡ false) → i < n → p i ≡ true → IsFirst (only p (below n)) (Some i)
   one_first n i h l t = first-from 0 n i h (omega arith) (omega arith) t
 
 -- ## What the first one says of them all
 
-in_from : (a n : ℕ) {x : ℕ} → x ∈ from a n → x < a + n
-in_from a zero m = absurd (not_in m)
-in_from a (suc n) (here e) = omega arith
-in_from a (suc n) (there m) = omega (arith, in_from (suc a) n m)
+-- no first one: there is none
+pub first_none : (xs : List ℕ) → IsFirst xs None → xs ≡ []
+first_none [] e = refl
+first_none (x ∷ xs) e = absurd (cc)
 
--- 8 is none of the numbers below 8, nor is any above
-pub first_none : (p : ℕ → Bool) (n r : ℕ) → n ≤ 8 → 8 ≤ r → IsFirst (only p (below n)) r → only p (below n) ≡ []
-first_none p n r h k e = go (only p (below n)) (λ x m. in_from 0 n ((only_is p (below n)).0 m).0) e
-  where
-    go : (xs : List ℕ) → ((x : ℕ) → x ∈ xs → x < 0 + n) → IsFirst xs r → xs ≡ []
-    go [] f q = refl
-    go (x ∷ xs) f q = absurd (omega (arith, f x (here refl)))
-
--- a number below 8 is the first of them
-pub first_some : (xs : List ℕ) (i : ℕ) → i < 8 → IsFirst xs i → (is : List ℕ) × (xs ≡ i ∷ is)
-first_some [] i h e = absurd (omega arith)
-first_some (x ∷ xs) i h e = (xs, ap (λ (y : ℕ). y ∷ xs) (sym e))
+-- the first of them
+pub first_some : (xs : List ℕ) (i : ℕ) → IsFirst xs (Some i) → (is : List ℕ) × (xs ≡ i ∷ is)
+first_some [] i e = absurd (cc)
+first_some (x ∷ xs) i e = (xs, cc)

@@ -7,12 +7,13 @@ use native.Mathlib.Omega.{arith}
 use borrow.Author.Tests.{eqb-true, eqb-false, eq-eqb, ne_eqb}
 use lib.Dec.{eqb}
 use lib.IntN.{ℤ}
-use lib.ListN.{length, drop, set}
-use Rattle.model.specs.Lists.{only, each}
+use lib.ListN.{drop, set}
+use Rattle.std.specs.Prelude.{None, Some}
+use Rattle.model.specs.Lists.{each}
 use Rattle.model.specs.Network.{Work, two}
 use Rattle.model.specs.Reader.{byte}
 use Rattle.model.specs.Machine.{Node, part_bytes, finish}
-use Rattle.model.specs.Run.{Setting, Run, takes_part, on, node_of, stand_of, listeners, takes_message, messaged, finished, sent, finishes, choose1}
+use Rattle.model.specs.Run.{Setting, Run, on, node_of, stand_of, listeners, takes_message, messaged, finished, sent, finishes, choose1}
 use Rattle.model.proofs.Basics.Bools.{clash}
 use Rattle.registers.specs.Words.{word_in, part_in, wake_tick_in, finish_tick_in}
 use Rattle.machine.specs.Running.{setting_in, view_in, previous_in, NodeStands, Running}
@@ -48,7 +49,7 @@ module _ {program rows : List ℕ} {n : ℕ} (H count k : ℕ) {c i : ℕ} {l : 
 
   after-message : (s : Run) → Running program rows n l v count s → s.tick ≡ tick → (out : List ℕ) (written : ℕ)
       → choose1 g s c ≡ on (messaged s c (finished g s c) i (takes_message (part_bytes program i) k (node_of s i)) k)
-      → After program rows n H count c l s out written (record { allowed = true; written = written }) l'' v'' out
+      → After program rows n H count c l s out written (Some written) l'' v'' out
   unfolding each
   after-message s r t out written e =
       record {
@@ -73,7 +74,7 @@ module _ {program rows : List ℕ} {n : ℕ} (H count k : ℕ) {c i : ℕ} {l : 
         observed = sym (append-nil s.observations);
         ticks = [];
         noted = sym (append-nil s.previous);
-        counted = omega arith;
+        counted = (let e : written ≡ written + 0 = omega arith in ap (λ (x : ℕ). Some x) e);
         bytes = refl;
       }
     where
@@ -114,22 +115,22 @@ module _ (program rows : List ℕ) (n H count tick c : ℕ) (l : List ℕ) (v : 
       ∙ ap (λ (a : ℕ). sent G s c a (listeners G s c a)) (sym on-channel)))
 
   -- no node hears it
-  pub unheard : (i : ℕ) → 8 ≤ i → Found program l k count c i → Chosen program rows n H count tick c l v out written (record { allowed = false; written = written }) l v out
-  unheard i b f =
+  pub unheard : Found program l k count c None → Chosen program rows n H count tick c l v out written None l v out
+  unheard f =
       kept_all program rows n H count tick c l v out written
       (λ s r t. sends_by s r t ∙ ap (sent (setting_in program H rows n l count) s c k) (nobody s r))
     where
       nobody : (s : Run) → Running program rows n l v count s → listeners G s c k ≡ []
-      nobody s r = first_none _ (length s.nodes) i (omega (arith, all_nodes program l v count s r.nodes)) b (f.0 v G s refl r.nodes)
+      nobody s r = first_none _ (f.first v G s refl r.nodes)
 
   -- node i hears it
-  pub taken : (i : ℕ) → i < 8 → Found program l k count c i → {l' : List ℕ} {v' : List ℤ} {l'' : List ℕ} {v'' : List ℤ}
+  pub taken : (i : ℕ) → Found program l k count c (Some i) → {l' : List ℕ} {v' : List ℤ} {l'' : List ℕ} {v'' : List ℤ}
       → NodeMoved program rows n l v c (finish (part_in program l c) (view_in program l v c) (view_in program l v c).rest) l' v'
       → NodeMoved program rows n l' v' i (takes_message (part_in program l' i) k (view_in program l' v' i)) l'' v''
       → finish_tick_in l' c ≡ tick - wake_tick_in l c → finish_tick_in l'' i ≡ tick - wake_tick_in l i
-      → Chosen program rows n H count tick c l v out written (record { allowed = true; written = written }) l'' v'' out
-  taken i b f mv hv sent-at heard-at =
-      let w = f.1 b in
+      → Chosen program rows n H count tick c l v out written (Some written) l'' v'' out
+  taken i f mv hv sent-at heard-at =
+      let w = f.stands i refl in
       record {
         refuses = λ e. clash (sym e);
         keeps = λ e. clash (sym e);
@@ -143,5 +144,5 @@ module _ (program rows : List ℕ) (n H count tick c : ℕ) (l : List ℕ) (v : 
           → choose1 (setting_in program H rows n l count) s c
           ≡ on (messaged s c (finished (setting_in program H rows n l count) s c) i (takes_message (part_bytes program i) k (node_of s i)) k)
       goes s r t =
-          let x = first_some (listeners G s c k) i b (f.0 v G s refl r.nodes) in
+          let x = first_some (listeners G s c k) i (f.first v G s refl r.nodes) in
           sends_by s r t ∙ ap (sent (setting_in program H rows n l count) s c k) x.1

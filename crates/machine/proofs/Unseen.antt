@@ -5,6 +5,8 @@ use mathlib.Core.List.{List, []}
 use Prim.Native.Nat.{ℕ, ◌-◌, ◌≤◌, ◌<◌}
 use borrow.Author.Tests.{eqb-true, eqb-false}
 use lib.Dec.{eqb}
+use Rattle.std.specs.Bool.{then_some}
+use Rattle.std.specs.Prelude.{Some}
 use lib.IntN.{ℤ}
 use Rattle.model.specs.Machine.{finish}
 use Rattle.model.specs.Run.{stand_of}
@@ -16,8 +18,9 @@ use Rattle.machine.proofs.Alone.{refused, woken, done}
 
 -- nothing was written
 pub unwritten : {program rows : List ℕ} {n H count tick b : ℕ} {l : List ℕ} {v : List ℤ} {allowed : Bool} {l' : List ℕ} {v' : List ℤ}
-    → Chosen program rows n H count tick b l v [] 0 (record { allowed = allowed; written = 0 }) l' v' [] → ChosenUnseen program rows n H count tick b l v allowed l' v'
-unwritten C = record { moved = _; out = []; may = refl; chosen = C }
+    → Chosen program rows n H count tick b l v [] 0 (then_some allowed 0) l' v' [] → ChosenUnseen program rows n H count tick b l v allowed l' v'
+unwritten {allowed = true} C = record { moved = _; out = []; may = refl; chosen = C }
+unwritten {allowed = false} C = record { moved = _; out = []; may = refl; chosen = C }
 
 module _ (program rows : List ℕ) (n H count tick b : ℕ) (l : List ℕ) (v : List ℤ) (most : count ≤ 8) (h : b < count) (wake : wake_tick_in l b ≤ tick) (o : op_of program l v b ≡ 4 → ⊥)
     {since : ℕ} (at : since ≡ wake_tick_in l b) where
@@ -42,7 +45,7 @@ module _ (program rows : List ℕ) (n H count tick b : ℕ) (l : List ℕ) (v : 
       go : (x : Bool) → eqb (op_of program l v b) 0 ≡ x → ChosenUnseen program rows n H count tick b l v true l' v'
       go true z =
           record {
-            moved = record { allowed = true; written = 1 };
+            moved = Some 1;
             out = _;
             may = refl;
             chosen = woken program rows n H count tick b l v [] 0 most h wake mv op is own_finish o (own_test e) (eqb-true (op_of program l v b) 0 z) _ refl;

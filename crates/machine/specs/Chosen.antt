@@ -1,5 +1,7 @@
 -- What one choice does to the slices.
 use Rattle.std.specs.Prelude.{◌≡◌, Bool, true, false, ◌&&◌, List, [], ◌∷◌, ◌++◌, ℕ, suc, ◌+◌, ◌*◌, ◌≤◌, ◌<◌, eqb, ℤ, length, drop, set}
+use Rattle.std.specs.Option.{is_some}
+use Rattle.std.specs.Prelude.{Option, None, Some}
 use Rattle.std.proofs.lemmas.List.Edits.{sets}
 use Rattle.model.specs.Lists.{each}
 use Rattle.model.specs.Network.{Observation}
@@ -11,7 +13,6 @@ use Rattle.node.specs.declared.Node.{Node}
 use Rattle.node.specs.Views.{op_in, node_of}
 use Rattle.stand.specs.Stands.{due_tick, last_tick}
 use Rattle.registers.specs.Words.{word_in, node_in, part_in, Eight, SameNode, place_in, ready_tick_in, part_start, part_length, row_in, due_in, last_in, wake_tick_in, finish_tick_in}
-use Rattle.machine.specs.declared.Moved.{Moved}
 use Rattle.machine.specs.Running.{RowIs, ready_at, setting_in, view_in, NodeStands, Running}
 
 -- the op of the statement that node c stands at
@@ -50,10 +51,10 @@ pub record RowPassed (rows : List ℕ) (n : ℕ) (l : List ℕ) (c : ℕ) (l' : 
   pub others : (i k : ℕ) → (i ≡ c → ⊥) → k < 32 → word_in l' i k ≡ word_in l i k
   pub same : length l' ≡ length l
 
--- the node found is the first of the listeners, 8 where there is none
-abbrev pub IsFirst : List ℕ → ℕ → Type 0
-IsFirst [] r = r ≡ 8
-IsFirst (i ∷ is) r = r ≡ i
+-- the node found is the first of the listeners, if there is one
+abbrev pub IsFirst : List ℕ → Option ℕ → Type 0
+IsFirst [] r = r ≡ None
+IsFirst (i ∷ is) r = r ≡ Some i
 
 -- node c has finished its statement, or taken a message: it is as `q` says, all of any other node is as it was
 pub record NodeMoved (program rows : List ℕ) (n : ℕ) (l : List ℕ) (v : List ℤ) (c : ℕ) (q : Rattle.model.specs.Machine.Node) (l' : List ℕ) (v' : List ℤ) : Type 0 where
@@ -68,8 +69,8 @@ pub record NodeMoved (program rows : List ℕ) (n : ℕ) (l : List ℕ) (v : Lis
 abbrev pub observes_now : List ℕ → List ℕ → List ℤ → ℕ → ℕ → Bool
 observes_now program l v c tick = eqb (op_of program l v c) 0 && eqb tick (ready_tick_in l c)
 
--- the state after a choice that is allowed, and what was written
-pub record After (program rows : List ℕ) (n H count : ℕ) (b : ℕ) (l : List ℕ) (s : Run) (out : List ℕ) (written : ℕ) (m : Moved) (l' : List ℕ) (v' : List ℤ) (out' : List ℕ) : Type 0 where
+-- the state after a choice that is allowed, and how many observations are written
+pub record After (program rows : List ℕ) (n H count : ℕ) (b : ℕ) (l : List ℕ) (s : Run) (out : List ℕ) (written : ℕ) (m : Option ℕ) (l' : List ℕ) (v' : List ℤ) (out' : List ℕ) : Type 0 where
   pub next : Run
   pub goes : choose1 (setting_in program H rows n l count) s b ≡ on next
   pub running : Running program rows n l' v' count next
@@ -80,23 +81,23 @@ pub record After (program rows : List ℕ) (n H count : ℕ) (b : ℕ) (l : List
   pub observed : next.observations ≡ s.observations ++ seen
   pub ticks : List ℕ
   pub noted : next.previous ≡ s.previous ++ ticks
-  pub counted : m.written ≡ written + length seen
+  pub counted : m ≡ Some (written + length seen)
   pub bytes : out' ≡ sets out (written * observation_width) (each written_bytes (with_ticks seen ticks))
 
 -- Choice b of a node: "After a choice, one node's registers after the statement and nothing of any other node has changed, send and tick excepted."
 -- The last two fields say, for all eight places: of any other node nothing has changed, a send excepted; a send
 -- changes one other node, its listener.
-pub record Chosen (program rows : List ℕ) (n H count tick b : ℕ) (l : List ℕ) (v : List ℤ) (out : List ℕ) (written : ℕ) (m : Moved) (l' : List ℕ) (v' : List ℤ) (out' : List ℕ) : Type 0 where
-  pub refuses : m.allowed ≡ false → (s : Run) → Running program rows n l v count s → s.tick ≡ tick → choose1 (setting_in program H rows n l count) s b ≡ forbidden
-  pub keeps : m.allowed ≡ false → (l' ≡ l) × (v' ≡ v) × (out' ≡ out) × (m.written ≡ written)
-  pub allows : m.allowed ≡ true → (s : Run) → Running program rows n l v count s → s.tick ≡ tick → After program rows n H count b l s out written m l' v' out'
-  pub finished : m.allowed ≡ true → view_in program l' v' b ≡ finish (part_in program l b) (view_in program l v b) (view_in program l v b).rest
+pub record Chosen (program rows : List ℕ) (n H count tick b : ℕ) (l : List ℕ) (v : List ℤ) (out : List ℕ) (written : ℕ) (m : Option ℕ) (l' : List ℕ) (v' : List ℤ) (out' : List ℕ) : Type 0 where
+  pub refuses : is_some m ≡ false → (s : Run) → Running program rows n l v count s → s.tick ≡ tick → choose1 (setting_in program H rows n l count) s b ≡ forbidden
+  pub keeps : is_some m ≡ false → (l' ≡ l) × (v' ≡ v) × (out' ≡ out)
+  pub allows : is_some m ≡ true → (s : Run) → Running program rows n l v count s → s.tick ≡ tick → After program rows n H count b l s out written m l' v' out'
+  pub finished : is_some m ≡ true → view_in program l' v' b ≡ finish (part_in program l b) (view_in program l v b) (view_in program l v b).rest
   pub alone : (op_of program l v b ≡ 4 → ⊥) → (i : ℕ) → (i ≡ b → ⊥) → SameNode l v l' v' i
   pub two : (i : ℕ) × ((j : ℕ) → (j ≡ b → ⊥) → (j ≡ i → ⊥) → SameNode l v l' v' j)
 
 -- The same, whatever was observed and wherever it would have been written.
 pub record ChosenUnseen (program rows : List ℕ) (n H count tick b : ℕ) (l : List ℕ) (v : List ℤ) (allowed : Bool) (l' : List ℕ) (v' : List ℤ) : Type 0 where
-  pub moved : Moved
+  pub moved : Option ℕ
   pub out : List ℕ
-  pub may : moved.allowed ≡ allowed
+  pub may : is_some moved ≡ allowed
   pub chosen : Chosen program rows n H count tick b l v [] 0 moved l' v' out

@@ -1,5 +1,5 @@
 -- The run's state as the code keeps it, in the words of the definitions (model's specs/Run.antt).
-use Rattle.std.specs.Prelude.{◌≡◌, Bool, cond, ◌&&◌, List, map, ℕ, suc, ◌+◌, ◌-◌, ◌*◌, ◌≤◌, ◌<◌, leb, ltb, ℤ, length, drop}
+use Rattle.std.specs.Prelude.{◌≡◌, Bool, cond, ◌&&◌, List, map, ℕ, ◌+◌, ◌-◌, ◌*◌, ◌≤◌, ◌<◌, leb, ltb, ℤ, length, drop}
 use Rattle.model.specs.Lists.{only, below}
 use Rattle.model.specs.Schedule.{Passage, own}
 use Rattle.model.specs.Checks.{passage_at}

@@ -3,6 +3,8 @@
 #![tactic(auto)]
 
 ghost use Rattle.std.specs.Prelude.{◌≡◌, true, cond, ◌&&◌, List, map, ℕ, ◌+◌, ◌-◌, ◌*◌, ◌≤◌, ◌<◌, leb, ℤ, length, drop, set};
+ghost use Rattle.std.specs.Bool.{then_some};
+ghost use Rattle.std.specs.Option.{ForSome};
 ghost use Rattle.model.specs.Lists.{is_none, below};
 ghost use Rattle.model.specs.Schedule.{own};
 ghost use Rattle.model.specs.Machine.{finish};
@@ -17,24 +19,16 @@ ghost use Rattle.machine.specs.Chosen.{op_of, Inside, Noted, NodePut, RowPassed,
 use model::{layout, op};
 use node::Node;
 
-// Whether a choice was allowed, and how many observations are written now.
-#[derive(Clone, Copy)]
-pub struct Moved {
-    pub allowed: bool,
-    pub written: usize,
-}
-
-// The first row from a row on that is of component c, the number of rows where there is none.
+// The first row from a row on that is of component c, the number of rows where there is none: a word of the node keeps it, and the clause takes it
+// as the place behind which no row is left.
 pub fn next_row(rows: &[u32], passages: usize, c: usize, from: usize) -> usize
     requires { RowsStand rows.now passages × (c < 8) × (from ≤ passages) }
     ensures { (result ≤ passages) × (own c (drop result (rows_of rows.now passages)) ≡ own c (drop from (rows_of rows.now passages))) × (result < passages → num rows.now result 0 ≡ c) }
 {
-    let mut i = from;
-    while i < passages {
+    for i in from..passages {
         if rows::index(rows, i, rows::COMPONENT) == c {
             return i;
         }
-        i += 1;
     }
     passages
 }
@@ -257,25 +251,25 @@ fn hears(program: &[u8], words: &[u64], i: usize, since: u64, channel: u8) -> bo
     stand::names(&program[base..end], pc, channel)
 }
 
-// The lowest node that hears a send of node c on the channel, 8 where there is none.
-fn listener(program: &[u8], words: &[u64], count: usize, c: usize, channel: u8) -> usize
+// The lowest node that hears a send of node c on the channel.
+fn listener(program: &[u8], words: &[u64], count: usize, c: usize, channel: u8) -> Option<usize>
     requires { (256 ≤ length words.now) × (count ≤ 8) × (c < count) × ((i : ℕ) → i < count → Inside program.now words.now i × (ready_tick_in words.now i ≤ 4000000000000000000) × (wake_tick_in words.now i ≤ 1000)) }
-    ensures { ((values : List ℤ) (g : Setting) (s : Run) → g.offsets ≡ map (wake_tick_in words.now) (below count) → s.nodes ≡ map (view_in program.now words.now values) (below count) → IsFirst (listeners g s c channel) result) × (result < 8 → (result < count) × ((result ≡ c) → ⊥) × (op_in (drop (place_in words.now result) (part_in program.now words.now result)) ≡ 5)) }
+    ensures first { (values : List ℤ) (g : Setting) (s : Run) → g.offsets ≡ map (wake_tick_in words.now) (below count) → s.nodes ≡ map (view_in program.now words.now values) (below count) → IsFirst (listeners g s c channel) result }
+    ensures stands { ForSome result (λ i. (i < count) × ((i ≡ c) → ⊥) × (op_in (drop (place_in words.now i) (part_in program.now words.now i)) ≡ 5)) }
 {
     let since = began(words, c);
-    let mut i: usize = 0;
-    while i < count {
+    for i in 0..count {
         if i != c {
             if hears(program, words, i, since, channel) {
-                return i;
+                return Some(i);
             }
         }
-        i += 1;
     }
-    8
+    None
 }
 
-// Node c, which stands at a send, finishes it at that common tick, and its listener takes the message. Whether there is a listener.
+// Node c, which stands at a send, finishes it at that common tick, and its listener takes the message. Whether there is a listener: a bool, since
+// nothing else is told of it, and why there is none is the table's matter.
 fn send_message(
     program: &[u8],
     rows: &[u32],
@@ -287,16 +281,15 @@ fn send_message(
     tick: u64,
 ) -> bool
     requires { Standing program.now rows.now passages words.old values.old count × (c < count) × (op_of program.now words.old values.old c ≡ 4) }
-    ensures { (H written : ℕ) (out : List ℕ) → wake_tick_in words.old c ≤ tick → Chosen program.now rows.now passages H count tick c words.old values.old out written (record { allowed = result; written = written }) words.new values.new out }
+    ensures { (H written : ℕ) (out : List ℕ) → wake_tick_in words.old c ≤ tick → Chosen program.now rows.now passages H count tick c words.old values.old out written (then_some result written) words.new values.new out }
 {
     let base = registers::word(words, c, registers::PART_START) as usize;
     let end = base + registers::word(words, c, registers::PART_LENGTH) as usize;
     let pc = registers::word(words, c, registers::PLACE) as usize;
     let channel = node::byte_at(&program[base..end], pc + 1);
-    let i = listener(program, words, count, c, channel);
-    if 8 <= i {
+    let Some(i) = listener(program, words, count, c, channel) else {
         return false;
-    }
+    };
     let sent = own_tick(words, c, tick);
     let heard = own_tick(words, i, tick);
     finish_node(program, rows, passages, words, values, c, op::SEND, sent);
@@ -324,7 +317,8 @@ fn may_finish(program: &[u8], words: &[u64], values: &[i16], c: usize, op: u8, t
     stand::may_by(op, tick, ready, window, kept, true)
 }
 
-// Node c, which does not stand at a send, finishes its statement if it may at that tick of its own clock; a sleep is observed.
+// Node c, which does not stand at a send, finishes its statement if it may at that tick of its own clock; a sleep is observed. How many
+// observations are written then.
 fn go_alone(
     program: &[u8],
     rows: &[u32],
@@ -337,22 +331,16 @@ fn go_alone(
     tick: u64,
     out: &mut [u8],
     written: usize,
-) -> Moved
+) -> Option<usize>
     requires { Standing program.now rows.now passages words.old values.old count × (c < count) × (op ≡ op_of program.now words.old values.old c) × (op_of program.now words.old values.old c ≡ 4 → ⊥) × (observes_now program.now words.old values.old c tick ≡ true → written * observation_width + observation_width ≤ length out.old) × (written ≤ 22700000000000) }
     ensures { (H common : ℕ) → wake_tick_in words.old c ≤ common → tick ≡ common - wake_tick_in words.old c → Chosen program.now rows.now passages H count common c words.old values.old out.old written result words.new values.new out.new }
 {
     if statement::is_trial(op) {
         try_node(program, rows, passages, words, values, c, op);
-        return Moved {
-            allowed: true,
-            written,
-        };
+        return Some(written);
     }
     if !may_finish(program, words, values, c, op, tick) {
-        return Moved {
-            allowed: false,
-            written,
-        };
+        return None;
     }
     if op == op::SLEEP {
         let held = registers::counts(words, c);
@@ -368,19 +356,13 @@ fn go_alone(
             written * layout::OBSERVATION_WIDTH,
         );
         finish_node(program, rows, passages, words, values, c, op::SLEEP, tick);
-        return Moved {
-            allowed: true,
-            written: written + 1,
-        };
+        return Some(written + 1);
     }
     finish_node(program, rows, passages, words, values, c, op, tick);
-    Moved {
-        allowed: true,
-        written,
-    }
+    Some(written)
 }
 
-// A choice: a node's number. Until it wakes it isn't allowed.
+// A choice: a node's number. Until it wakes it isn't allowed. How many observations are written after one that is.
 pub fn choose_node(
     program: &[u8],
     rows: &[u32],
@@ -392,31 +374,26 @@ pub fn choose_node(
     choice: u8,
     out: &mut [u8],
     written: usize,
-) -> Moved
+) -> Option<usize>
     requires { Standing program.now rows.now passages words.old values.old count × (choice < 255) × (choice < count → wake_tick_in words.old choice ≤ tick → observes_now program.now words.old values.old choice (tick - wake_tick_in words.old choice) ≡ true → written * observation_width + observation_width ≤ length out.old) × (written ≤ 22700000000000) }
     ensures { (H : ℕ) → Chosen program.now rows.now passages H count tick choice words.old values.old out.old written result words.new values.new out.new }
 {
     let c = choice as usize;
     if count <= c {
-        return Moved {
-            allowed: false,
-            written,
-        };
+        return None;
     }
     let wake = registers::word(words, c, registers::WAKE_TICK);
     if tick < wake {
-        return Moved {
-            allowed: false,
-            written,
-        };
+        return None;
     }
     let base = registers::word(words, c, registers::PART_START) as usize;
     let end = base + registers::word(words, c, registers::PART_LENGTH) as usize;
     let pc = registers::word(words, c, registers::PLACE) as usize;
     let op = node::op_at(&program[base..end], pc);
     if op == op::SEND {
-        let allowed = send_message(program, rows, passages, words, values, count, c, tick);
-        return Moved { allowed, written };
+        return send_message(program, rows, passages, words, values, count, c, tick).then_some(
+            written,
+        );
     }
     go_alone(
         program,
@@ -433,8 +410,8 @@ pub fn choose_node(
     )
 }
 
-// The same choice of node c, which stands at that op, where nobody reads what is observed: nothing is written. Whether it is allowed. (A second caller
-// of `choose_node` would cost a run a call at each choice.)
+// The same choice of node c, which stands at that op, where nobody reads what is observed: nothing is written. Whether it is allowed: a bool,
+// since nothing else is told. (A second caller of `choose_node` would cost a run a call at each choice.)
 pub fn move_node(
     program: &[u8],
     rows: &[u32],

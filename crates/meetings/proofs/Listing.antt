@@ -1,6 +1,6 @@
 -- The call from its parts: a list that fits or not, the three questions in order, and the passages behind the rows. Assumes nothing.
 use mathlib.Core.Path.{◌≡◌, refl, sym, ap, ap₂, subst, ◌∙◌}
-use mathlib.Core.Bool.{Bool, ◌&&◌}
+use mathlib.Core.Bool.{◌&&◌}
 use mathlib.Core.List.{List, [], ◌∷◌, ◌++◌, map}
 use mathlib.Core.Option
 use mathlib.Core.Option.{Option, none, some}
@@ -14,16 +14,13 @@ use Rattle.model.specs.Lists.{first, Answer, accepted, refused, ◌after◌, eac
 use Rattle.model.specs.Table.{Table, Read}
 use Rattle.model.specs.Places.{Valid, read_of}
 use Rattle.model.specs.Schedule.{Passage, seven_of, light}
-use Rattle.model.specs.Checks.{is_send, meets, collides, may_hear, unheard, crowded, fault_by, checked, accepted_schedule, accepted_schedule_at}
+use Rattle.model.specs.Checks.{is_send, meets, collides, may_hear, unheard, crowded, checked, accepted_schedule, accepted_schedule_at}
 use Rattle.model.specs.Calls.{Call, verdict_of, laid, spread_fine, read_at, accepted_schedule_in_at, check_call_at}
 use Rattle.model.specs.Meetings.{sends_met, listeners_met, sends_heard, with_met, concerned, concerned_at, list_or, meetings_in_at, MeetingsCall, about, meetings_call_at}
 use Rattle.model.proofs.Checks.Independence.{only_map}
 use Rattle.model.proofs.Reader.Located.{valid_read}
 use Rattle.table.proofs.Answered.{verdict_refused}
-use Rattle.rows.specs.Rows.{num, row_passage, rows_of}
-use Rattle.checks.specs.declared.Fault.{Fault}
-use Rattle.checks.specs.declared.Fault.TheVariants.{Nothing, At}
-use Rattle.checks.specs.Faults.{fault_view}
+use Rattle.rows.specs.Rows.{rows_of}
 use Rattle.schedule.specs.declared.Scheduled.{Scheduled}
 use Rattle.schedule.specs.Filled.{Filled, schedule_of}
 use Rattle.schedule.proofs.Bare.{first_map, collides_light, unheard_light, crowded_light, checked_light}
@@ -54,19 +51,6 @@ module _ (given : Verdict) (lent : List ℕ) (r : Listed) (e : r.table ≡ given
     says_laid h written w a b =
         subst (λ (c : Call). Says (about given c) r written) (sym (laid_fits P k (each seven_of P) lent q refl h))
         (record { table = e; verdict = a; size = b; lent = w })
-
--- ## The questions
-
-module _ (p : Passage → Bool) (S : List Passage) (l : List ℕ) (f : Fault) (seen : fault_view l f ≡ first p S) (number : Passage → ℕ) (met : Passage → List Passage) (further : Answer (List Passage)) (others : List Passage) (lent : List ℕ) (r : Listed) (written : List ℕ) where
-  -- no row is at fault: the next question ..
-  pub passed : f ≡ Nothing → Says (listing (verdict_of further) others lent) r written
-      → Says (listing (verdict_of (fault_by number (first p S) further)) (with_met met (first p S) others) lent) r written
-  passed e q = rw (← seen, e) q
-
-  -- .. or the first that is, with those that it meets
-  pub failed : (i : ℕ) → f ≡ At i → Says (listing (Refused (number (row_passage l i)) (num l i 0)) (row_passage l i ∷ met (row_passage l i)) lent) r written
-      → Says (listing (verdict_of (fault_by number (first p S) further)) (with_met met (first p S) others) lent) r written
-  failed i e q = rw (← seen, e) q
 
 -- ## The passages behind the rows
 

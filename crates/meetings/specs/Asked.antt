@@ -1,12 +1,12 @@
 -- The questions 10 to 12 asked of two rows, and what the functions between them answer.
-use Rattle.std.specs.Prelude.{◌≡◌, Bool, ◌&&◌, List, [], ◌∷◌, ℕ, length}
+use Rattle.std.specs.Prelude.{◌≡◌, Bool, ◌&&◌, List, ◌∷◌, ℕ, length}
 use Rattle.model.specs.declared.Verdict.{Verdict}
-use Rattle.model.specs.Lists.{only, first, each}
+use Rattle.model.specs.Lists.{only, each}
 use Rattle.model.specs.Table.{Table}
 use Rattle.model.specs.Schedule.{Passage, seven_of}
-use Rattle.model.specs.Checks.{is_send, meets, may_hear, unheard, unheard_number, crowded}
+use Rattle.model.specs.Checks.{is_send, meets, may_hear, unheard_number}
 use Rattle.model.specs.Calls.{laid}
-use Rattle.model.specs.Meetings.{listeners_met, sends_heard, with_met, MeetingsCall, about}
+use Rattle.model.specs.Meetings.{MeetingsCall, about}
 use Rattle.meetings.specs.declared.Question.{Question}
 use Rattle.meetings.specs.declared.Question.TheVariants.{Collision, Unheard, Crowded}
 use Rattle.meetings.specs.declared.Listed.{Listed}
@@ -26,13 +26,6 @@ met_by G Crowded T H v w = is_send T H w && may_hear G T v w
 -- the passage at fault, and those that it meets
 abbrev pub found_by : ℕ → Question → Table → ℕ → List Passage → Passage → List Passage
 found_by G q T H S v = v ∷ only (met_by G q T H v) S
-
--- `concerned` from question 12 on, and from question 11 on
-abbrev pub concerned12 : ℕ → Table → ℕ → List Passage → List Passage
-concerned12 G T H S = with_met (sends_heard G T H S) (first (crowded G T H S) S) []
-
-abbrev pub concerned11 : ℕ → Table → ℕ → List Passage → List Passage
-concerned11 G T H S = with_met (listeners_met G T S) (first (unheard G T H S) S) (concerned12 G T H S)
 
 -- the call that lists these passages of a table with that verdict
 abbrev pub listing : Verdict → List Passage → List ℕ → MeetingsCall

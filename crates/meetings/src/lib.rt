@@ -14,10 +14,8 @@ ghost use Rattle.model.specs.Calls.{verdict_of};
 ghost use Rattle.model.specs.Meetings.{concerned, meetings_call_at, meetings_call};
 ghost use Rattle.table.specs.Directory.{starts_of};
 ghost use Rattle.rows.specs.Rows.{num, row_passage, rows_of, RowKnown, RowsPlaced};
-ghost use Rattle.checks.specs.Faults.{from12, from11};
-ghost use Rattle.meetings.specs.Asked.{number_asked, met_by, found_by, concerned12, concerned11, listing, Says};
+ghost use Rattle.meetings.specs.Asked.{number_asked, met_by, found_by, listing, Says};
 
-use checks::Fault;
 use model::{Verdict, layout};
 
 // Which of the questions 10 to 12 a passage fails.
@@ -28,7 +26,8 @@ pub enum Question {
     Crowded,
 }
 
-// The verdict of checks 1 to 12 on the table; the call's own answer, 13 where the list is too short; and how many passages are listed.
+// The verdict of checks 1 to 12 on the table; the call's own answer, 13 where the list is too short; and how many passages are listed. Two verdicts
+// and no `Result`: the list is there after 10 to 12 too.
 #[derive(Clone, Copy)]
 pub struct Listed {
     pub table: Verdict,
@@ -118,12 +117,10 @@ fn count_met(
     ensures { (result ≡ length (only (met_by spread question (read_of table.now).table horizon (row_passage rows.now i)) (rows_of rows.now count))) × (result ≤ count) }
 {
     let mut met: usize = 0;
-    let mut j: usize = 0;
-    while j < count {
+    for j in 0..count {
         if is_met(table, rows, i, j, horizon, question, spread) {
             met += 1;
         }
-        j += 1;
     }
     met
 }
@@ -144,13 +141,11 @@ fn put_met(
 {
     schedule::put_seven(rows, i, list, 0);
     let mut k: usize = 1;
-    let mut j: usize = 0;
-    while j < count {
+    for j in 0..count {
         if is_met(table, rows, i, j, horizon, question, spread) {
             schedule::put_seven(rows, j, list, k);
             k += 1;
         }
-        j += 1;
     }
 }
 
@@ -186,62 +181,6 @@ fn list_fault(
     }
 }
 
-// Question 12.
-fn list_crowded(
-    table: &[u8],
-    rows: &[u32],
-    count: usize,
-    horizon: u32,
-    list: &mut [u32],
-    spread: u32,
-) -> Listed
-    requires { RowsPlaced table.now rows.now count }
-    ensures { Says (listing (verdict_of (from12 spread (read_of table.now).table horizon (rows_of rows.now count))) (concerned12 spread (read_of table.now).table horizon (rows_of rows.now count)) list.old) result list.new }
-{
-    let fault = checks::first_crowded(table, rows, count, horizon, spread);
-    match fault {
-        Fault::Nothing => nothing(Verdict::Accepted),
-        Fault::At(i) => list_fault(
-            table,
-            rows,
-            count,
-            i,
-            horizon,
-            Question::Crowded,
-            list,
-            spread,
-        ),
-    }
-}
-
-// Questions 11 and 12.
-fn list_unheard(
-    table: &[u8],
-    rows: &[u32],
-    count: usize,
-    horizon: u32,
-    list: &mut [u32],
-    spread: u32,
-) -> Listed
-    requires { RowsPlaced table.now rows.now count }
-    ensures { Says (listing (verdict_of (from11 spread (read_of table.now).table horizon (rows_of rows.now count))) (concerned11 spread (read_of table.now).table horizon (rows_of rows.now count)) list.old) result list.new }
-{
-    let fault = checks::first_unheard(table, rows, count, horizon, spread);
-    match fault {
-        Fault::Nothing => list_crowded(table, rows, count, horizon, list, spread),
-        Fault::At(i) => list_fault(
-            table,
-            rows,
-            count,
-            i,
-            horizon,
-            Question::Unheard,
-            list,
-            spread,
-        ),
-    }
-}
-
 // Questions 10, 11, 12, each over the whole schedule before the next.
 fn list_concerned(
     table: &[u8],
@@ -254,20 +193,19 @@ fn list_concerned(
     requires { RowsPlaced table.now rows.now count }
     ensures { Says (listing (verdict_of (checked spread (read_of table.now).table horizon (rows_of rows.now count))) (concerned spread (read_of table.now).table horizon (rows_of rows.now count)) list.old) result list.new }
 {
-    let fault = checks::first_collision(table, rows, count, horizon, spread);
-    match fault {
-        Fault::Nothing => list_unheard(table, rows, count, horizon, list, spread),
-        Fault::At(i) => list_fault(
-            table,
-            rows,
-            count,
-            i,
-            horizon,
-            Question::Collision,
-            list,
-            spread,
-        ),
+    if let Some(i) = checks::first_collision(table, rows, count, horizon, spread) {
+        let question = Question::Collision;
+        return list_fault(table, rows, count, i, horizon, question, list, spread);
     }
+    if let Some(i) = checks::first_unheard(table, rows, count, horizon, spread) {
+        let question = Question::Unheard;
+        return list_fault(table, rows, count, i, horizon, question, list, spread);
+    }
+    if let Some(i) = checks::first_crowded(table, rows, count, horizon, spread) {
+        let question = Question::Crowded;
+        return list_fault(table, rows, count, i, horizon, question, list, spread);
+    }
+    nothing(Verdict::Accepted)
 }
 
 // The meetings of a table that was read.

@@ -1,5 +1,5 @@
 // The trial of an edge: its bounds, and the candidate rule (document 01, 'The program', last paragraph).
-ghost use Rattle.std.specs.Prelude.{◌≡◌, cond, ◌-◌, min, max};
+ghost use Rattle.std.specs.Prelude.{◌≡◌, cond, ◌-◌, min};
 ghost use Rattle.node.specs.After.{new_trial, raised_to, lowered_to, met_by, spans_by, kept_by};
 
 use crate::{Kept, Trial, wide64};
@@ -13,18 +13,6 @@ pub fn left_of(bound: u16, clock: u64) -> u16
     } else {
         0
     }
-}
-
-fn greater(first: u16, second: u16) -> u16
-    ensures { result ≡ max first second }
-{
-    if first < second { second } else { first }
-}
-
-fn lesser(first: u16, second: u16) -> u16
-    ensures { result ≡ min first second }
-{
-    if first < second { first } else { second }
 }
 
 pub fn no_trial() -> Trial
@@ -43,7 +31,7 @@ pub fn raised(trial: Trial, bound: u16, clock: u64) -> Trial
     ensures { result ≡ raised_to trial bound clock }
 {
     Trial {
-        ready: greater(trial.ready, left_of(bound, clock)),
+        ready: trial.ready.max(left_of(bound, clock)),
         ended: trial.ended,
         end: trial.end,
         good: trial.good,
@@ -55,7 +43,7 @@ fn lowest(trial: Trial, left: u16) -> u16
     ensures { result ≡ cond trial.ended (min trial.end left) left }
 {
     if trial.ended {
-        lesser(trial.end, left)
+        trial.end.min(left)
     } else {
         left
     }

@@ -28,7 +28,8 @@ pub struct Counts {
     pub variables: u8,
 }
 
-// A trial: its ready delay, its end once it was lowered, and whether no bound failed.
+// A trial: its ready delay, its end once it was lowered, and whether no bound failed. C has this type and the next two as they stand
+// (`timed_network_node_trial`, `_kept` and `_registers` in include/timed_network.h), so that a flag stands beside a value.
 #[repr(C)]
 #[derive(Clone, Copy)]
 pub struct Trial {

@@ -10,8 +10,7 @@ use model::layout;
 pub fn nodes_of(table: &[u8]) -> usize
     ensures { result ≡ byte table.now 3 }
 {
-    if table.len() <= layout::TABLE_COMPONENTS {
-        return 0;
-    }
-    text::wide(table[layout::TABLE_COMPONENTS]) as usize
+    table
+        .get(layout::TABLE_COMPONENTS)
+        .map_or(0, |count| usize::from(*count))
 }

@@ -1,14 +1,13 @@
 -- A call that is not answered "fine", in the words of the run; and the whole call. Assumes nothing.
 use mathlib.Core.Path.{◌≡◌, refl, sym, ap, subst, ◌∙◌}
-use mathlib.Core.Bool.{Bool, true, false, cond, ◌&&◌, ◌||◌, not}
-use mathlib.Core.List.{List, [], ◌∷◌, ◌++◌}
+use mathlib.Core.Bool.{Bool, true, false, cond, ◌&&◌, not}
+use mathlib.Core.List.{List, [], ◌∷◌}
 use mathlib.Core.Logic.{◌⊎◌, inl, inr}
 use Prim.Native.Nat.{ℕ, ◌+◌, ◌≤◌, ◌<◌}
 use native.Mathlib.Omega.{arith}
 use borrow.Author.Tests.{lt-ltb, leb-true, ne_eqb, eqb-true, ltb-true}
 use lib.Dec.{leb, ltb, eqb}
 use lib.ListN.{length, drop}
-use Rattle.model.specs.Lists.{◌∈◌}
 use Rattle.model.specs.Network.{one}
 use Rattle.model.specs.Run.{Setting, own_tick, previous_finish, Run, on, forbidden, observes, moved, finished, choose1, Stand, sleeping, stand_of, stand_at, names, window_end}
 use Rattle.model.specs.Run.{late as late-in}

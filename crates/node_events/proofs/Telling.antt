@@ -1,8 +1,7 @@
 -- What each call says in the words of the run. Assumes nothing.
 use mathlib.Core.Path.{◌≡◌, refl, sym, ap, ap₂, subst, ◌∙◌}
-use mathlib.Core.Bool.{Bool, true, cond, ◌&&◌, ◌||◌, not}
+use mathlib.Core.Bool.{Bool, true, cond, ◌&&◌, not}
 use mathlib.Core.List.{List, [], ◌∷◌, ◌++◌, append-nil, append_assoc}
-use mathlib.Core.Logic.{◌⊎◌}
 use Prim.Native.Nat.{ℕ, zero, suc, ◌+◌, ◌≤◌, ◌<◌}
 use native.Mathlib.Omega.{arith}
 use borrow.Author.Tests.{ne_eqb, eq-eqb}
@@ -17,7 +16,6 @@ use Rattle.model.proofs.Basics.Members.{only_is}
 use Rattle.node.specs.declared.Counts.{Counts}
 use Rattle.node.specs.declared.Node.{Node}
 use Rattle.node.specs.Views.{node_of}
-use Rattle.stand.proofs.ByOp.{works, between}
 use Rattle.lent_node.specs.Step.{highest, may_step, stepped_of, message_of, may_take}
 use Rattle.node_events.specs.declared.Running.{Running}
 use Rattle.node_events.specs.Events.{fine, op_of, settled, worked, passed, most, hears, saying, counts_of, going, happened_of, begun_of, unbegun}

@@ -1,15 +1,14 @@
 -- The blocks of a table's program: each statement is lighter than those before it, and behind a sleep stands a work. Assumes nothing.
 use mathlib.Core.Path.{◌≡◌, refl, sym, ap, subst, ◌∙◌}
-use mathlib.Core.Bool.{Bool, true, false, cond, ◌&&◌, ◌||◌}
+use mathlib.Core.Bool.{Bool, true, false, cond}
 use mathlib.Core.List.{List, [], ◌∷◌, ◌++◌, map}
-use Prim.Native.Nat.{ℕ, zero, suc, ◌+◌, ◌-◌, ◌*◌, ◌≤◌, ◌<◌}
+use Prim.Native.Nat.{ℕ, zero, suc, ◌+◌, ◌≤◌, ◌<◌}
 use native.Mathlib.Omega.{arith}
-use lib.ListN.{length, take, length-append}
+use lib.ListN.{length, length-append}
 use Rattle.model.specs.declared.Action.{Action}
 use Rattle.model.specs.declared.Action.TheVariants.{Internal, Send, Receive}
 use Rattle.model.specs.declared.Update.{Update}
 use Rattle.model.specs.Lists.{all, below}
-use lib.IntN.{◌+ℤ◌}
 use Rattle.model.specs.declared.TableHeader.{TableHeader}
 use Rattle.model.specs.Table.{Component, arc_of}
 use Rattle.model.specs.Limits.{ComponentIn}
@@ -26,8 +25,6 @@ use Rattle.model.proofs.Node.Phase.{Heading, is_ageing, is_entered, is_choosing}
 use Rattle.model.proofs.Node.Facts.{is_way}
 use Rattle.model.proofs.Progress.Weight.{weight, cost, plain, tests_plain}
 use Rattle.model.proofs.Progress.Block.{location_light, ageing_plain, edge_light}
-use Rattle.node.specs.declared.Node.{Node}
-use mathlib.Core.Logic.{◌⊎◌}
 
 -- ## Weights
 

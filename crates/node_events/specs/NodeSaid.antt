@@ -16,8 +16,8 @@ use Rattle.model.specs.Apart.{Permitted, Demand3Apart}
 use Rattle.node.specs.Views.{node_of}
 use Rattle.lent_node.specs.Step.{places_fit, registers_fit}
 use Rattle.node_events.specs.declared.Running.{Running}
-use Rattle.node_events.specs.Events.{fine, op_of, most, dones, counts_of, answering, happened_of, unbegun}
-use Rattle.node_events.specs.Ties.{Chosen, Holds}
+use Rattle.node_events.specs.Events.{op_of, most, dones, counts_of, answering, happened_of, unbegun}
+use Rattle.node_events.specs.Ties.{Chosen}
 use Rattle.node_events.specs.Told.{Beside, Moved, Delivered, Begins, Told}
 use Rattle.node_events.specs.Lived.{Event, begins, wakes, works, hears_nothing, message, Entry, Scene, start_scene, node_in, at_tick, told, view_of, played, after_event, Answered, Realised, EveryLog, InTime}
 

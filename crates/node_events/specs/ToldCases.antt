@@ -1,11 +1,11 @@
 -- Wrong calls of the worked example of document 01 ("Probe and hub"), refuted by what `Told` says: the probe sleeps until tick 3, and is told at tick 0.
-use Rattle.std.specs.Prelude.{◌≡◌, refl, List, [], ◌∷◌, ℕ, ◌+◌, ◌≤◌, ◌<◌, length}
+use Rattle.std.specs.Prelude.{◌≡◌, refl, List, [], ◌∷◌, ℕ, length}
 use Rattle.std.proofs.Common.{sym, ap, ◌∙◌, arith, leb-true}
 use Rattle.model.specs.Cases.{worked}
 use Rattle.model.specs.Network.{Observation}
 use Rattle.model.specs.Program.{program_bytes, part_of}
 use Rattle.model.specs.Machine.{part_bytes, exec}
-use Rattle.model.specs.Run.{Setting, setting_of, Run, Outcome, on, over, forbidden, choose1, run_from, run, start_nodes, some_due, late_nodes}
+use Rattle.model.specs.Run.{Setting, setting_of, Run, on, forbidden, choose1, run_from, run, start_nodes, some_due, late_nodes}
 use Rattle.node.specs.Views.{rest_at}
 use Rattle.node_events.specs.declared.Running.{Running}
 use Rattle.node_events.specs.Events.{carried, happened_of, begun_of}

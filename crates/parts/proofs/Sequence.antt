@@ -13,21 +13,21 @@ use lib.Seq.{drop-drop}
 use Rattle.model.specs.declared.Sizes.{Sizes}
 use Rattle.model.specs.Reader.{word, Parsed, ok, fault, ◌then◌, Items, read_budget, read_arc_parts, byte, many, clock_guard_fine, clock_guard_at, data_guard_fine, data_guard_at, location_fine, location_at, read_clock_guard, read_data_guard, read_location, read_items, arc_with, edge_fine, read_arc_body, read_arc}
 use Rattle.parts.specs.declared.Kind.TheVariants.{Locations, ClockGuards, DataGuards}
-use Rattle.parts.specs.declared.Next.{Next}
-use Rattle.parts.specs.declared.Next.TheVariants.{At, Fault}
+use Rattle.std.specs.Prelude.{Result, Ok, Err}
+use Rattle.parts.specs.declared.PartFault.{PartFault}
 use Rattle.parts.specs.Place.{left, failed, skim, Passed, passes}
 use Rattle.model.proofs.Basics.Walk.{word_drop}
 use Rattle.parts.proofs.Skim.{was_left, was_failed, keeps}
 use Rattle.parts.proofs.EdgeItems.{same_many}
 
 -- a place that one reading reaches is reached by another that ends there too
-pub moved : {A B : Type 0} {p : List ℕ} {from : ℕ} {r : Next} {m : Parsed A} {n : Parsed B} → skim m ≡ skim n → Passed p from r n → Passed p from r m
+pub moved : {A B : Type 0} {p : List ℕ} {from : ℕ} {r : Result ℕ PartFault} {m : Parsed A} {n : Parsed B} → skim m ≡ skim n → Passed p from r n → Passed p from r m
 moved e q = record { says = e ∙ q.says; within = q.within }
 
 -- a place further on was reached from here too
-pub further : {A : Type 0} {p : List ℕ} {from on : ℕ} (r : Next) {m : Parsed A} → from ≤ on → Passed p on r m → Passed p from r m
-further (At k) h q = record { says = q.says; within = (omega (arith, q.within.0), q.within.1) }
-further (Fault n) h q = record { says = q.says; within = tt }
+pub further : {A : Type 0} {p : List ℕ} {from on : ℕ} (r : Result ℕ PartFault) {m : Parsed A} → from ≤ on → Passed p on r m → Passed p from r m
+further (Ok k) h q = record { says = q.says; within = (omega (arith, q.within.0), q.within.1) }
+further (Err question) h q = record { says = q.says; within = tt }
 
 -- the parts that the code passes by their width, as the reading's own
 module _ (s : Sizes) (n : ℕ) (bs : List ℕ) where

@@ -41,7 +41,7 @@ module _ {A : Type 0} (w : ℕ) (fine : List ℕ → Bool) (value : List ℕ →
   pub part_bad : at + w ≤ length p → fine (drop at p) ≡ false → skim (part w fine value (drop at p)) ≡ failed 5
   part_bad h e = rw (le-leb w (length (drop at p)) (simp length-drop (omega arith)), e)
 
--- ## Many parts: a loop that counts down
+-- ## Many parts: read in a loop, of which k are left
 
 module _ {A : Type 0} (R : List ℕ → Parsed A) where
   on : (k : ℕ) (bs l : List ℕ) → skim (R bs) ≡ left l → skim (many R (suc k) bs) ≡ skim (many R k l)
@@ -52,16 +52,13 @@ module _ {A : Type 0} (R : List ℕ → Parsed A) where
   unfolding many
   off k bs e = rw (was_failed (R bs) e)
 
-  counted : (k : ℕ) → 0 < k → k ≡ suc (k - 1)
-  counted k h = omega arith
-
   -- one part read, the rest of them after it
-  pub turn : (k : ℕ) (bs l : List ℕ) (x : Rest) → 0 < k → skim (R bs) ≡ left l → skim (many R k bs) ≡ x → skim (many R (k - 1) l) ≡ x
-  turn k bs l x h e q = sym (on (k - 1) bs l e) ∙ subst (λ (n : ℕ). skim (many R n bs) ≡ x) (counted k h) q
+  pub turn : (k m : ℕ) (bs l : List ℕ) (x : Rest) → k ≡ suc m → skim (R bs) ≡ left l → skim (many R k bs) ≡ x → skim (many R m l) ≡ x
+  turn k m bs l x h e q = sym (on m bs l e) ∙ subst (λ (n : ℕ). skim (many R n bs) ≡ x) h q
 
   -- a part that fails
-  pub stop : (k : ℕ) (bs : List ℕ) {n : ℕ} (x : Rest) → 0 < k → skim (R bs) ≡ failed n → skim (many R k bs) ≡ x → x ≡ failed n
-  stop k bs x h e q = sym (subst (λ (n : ℕ). skim (many R n bs) ≡ x) (counted k h) q) ∙ off (k - 1) bs e
+  pub stop : (k m : ℕ) (bs : List ℕ) {n : ℕ} (x : Rest) → k ≡ suc m → skim (R bs) ≡ failed n → skim (many R k bs) ≡ x → x ≡ failed n
+  stop k m bs x h e q = sym (subst (λ (n : ℕ). skim (many R n bs) ≡ x) h q) ∙ off m bs e
 
   -- none left
   pub done : (k : ℕ) (bs : List ℕ) (x : Rest) → k ≤ 0 → skim (many R k bs) ≡ x → x ≡ left bs

@@ -1,11 +1,17 @@
 -- Where the tests of a component's parts stand, held against the reading that document 01 defines. What the parts say is not kept here.
-use Rattle.std.specs.Prelude.{◌≡◌, Bool, List, [], ◌∷◌, ℕ, zero, suc, ◌*◌, ◌≤◌, length, drop}
+use Rattle.std.specs.Prelude.{◌≡◌, Bool, List, [], ◌∷◌, ℕ, zero, suc, ◌*◌, ◌≤◌, Result, Ok, Err, length, drop}
 use Rattle.model.specs.declared.Sizes.{Sizes}
 use Rattle.model.specs.Reader.{byte, Parsed, ok, fault, part, location_fine, clock_guard_fine, data_guard_fine, update_fine}
 use Rattle.parts.specs.declared.Kind.{Kind}
 use Rattle.parts.specs.declared.Kind.TheVariants.{Locations, ClockGuards, DataGuards, Updates}
-use Rattle.parts.specs.declared.Next.{Next}
-use Rattle.parts.specs.declared.Next.TheVariants.{At, Fault}
+use Rattle.parts.specs.declared.PartFault.{PartFault}
+use Rattle.parts.specs.declared.PartFault.TheVariants.{NoFit, OutOfRange, ListedTwice}
+
+-- "Checks, in this order": the number of the question that a part fails
+abbrev pub fault_number : PartFault → ℕ
+fault_number NoFit = 4
+fault_number OutOfRange = 5
+fault_number ListedTwice = 6
 
 -- the bytes left after a part, or the number of the question that it fails
 pub data Rest : Type 0 where
@@ -17,17 +23,17 @@ skim (ok a r) = left r
 skim (fault n) = failed n
 
 -- the same of a place in the component's bytes p
-abbrev pub placed : List ℕ → Next → Rest
-placed p (At k) = left (drop k p)
-placed p (Fault n) = failed n
+abbrev pub placed : List ℕ → Result ℕ PartFault → Rest
+placed p (Ok k) = left (drop k p)
+placed p (Err question) = failed (fault_number question)
 
 -- a next place lies from `from` on, in the component
-abbrev pub Within : ℕ → ℕ → Next → Type 0
-Within from end (At k) = (from ≤ k) × (k ≤ end)
-Within from end (Fault n) = Unit {0}
+abbrev pub Within : ℕ → ℕ → Result ℕ PartFault → Type 0
+Within from end (Ok k) = (from ≤ k) × (k ≤ end)
+Within from end (Err question) = Unit {0}
 
 -- The place r, reached from `from` in the component's bytes p, is where the reading m ends.
-pub record Passed {A : Type 0} (p : List ℕ) (from : ℕ) (r : Next) (m : Parsed A) : Type 0 where
+pub record Passed {A : Type 0} (p : List ℕ) (from : ℕ) (r : Result ℕ PartFault) (m : Parsed A) : Type 0 where
   pub says : skim m ≡ placed p r
   pub within : Within from (length p) r
 

@@ -4,19 +4,34 @@
 ghost use Rattle.std.specs.Prelude.{◌≡◌, ◌&&◌, ◌||◌, [], ℕ, ◌+◌, ◌*◌, ◌^◌, ◌≤◌, ◌<◌, min, length, drop};
 ghost use Rattle.std.proofs.Math.Option.{none};
 ghost use Rattle.model.specs.Reader.{word, many, location_fine, clock_guard_fine, data_guard_fine, update_fine, pair_fine, counts_fine, edge_fine, read_channel, read_pairs, read_items, read_budget, read_arc_parts, read_arc_body, read_arc, listed};
-ghost use Rattle.parts.specs.Place.{Passed, width_of, fine_of, passes, channels_before};
+ghost use Rattle.parts.specs.Kinds.{kind_of};
+ghost use Rattle.parts.specs.Place.{Passed, fault_number, width_of, fine_of, passes, channels_before};
 
 use model::{Sizes, layout};
 
-// Where the next part starts, or the number of the question that a part fails.
-#[derive(Clone, Copy)]
-pub enum Next {
-    At(usize),
-    Fault(u8),
+// The question that a part fails (docs/REFUSALS.md): does it fit, is every number in its range, is no channel listed twice?
+#[derive(Clone, Copy, Debug, PartialEq, Eq)]
+pub enum PartFault {
+    NoFit,
+    OutOfRange,
+    ListedTwice,
+}
+
+// The number of the question.
+impl From<PartFault> for u8 {
+    ghost from_gives = { λ fault number. number ≡ fault_number fault };
+
+    fn from(fault: PartFault) -> u8 {
+        match fault {
+            PartFault::NoFit => 4,
+            PartFault::OutOfRange => 5,
+            PartFault::ListedTwice => 6,
+        }
+    }
 }
 
 // The parts of one width.
-#[derive(Clone, Copy)]
+#[derive(Clone, Copy, Debug, PartialEq, Eq)]
 pub enum Kind {
     Locations,
     ClockGuards,
@@ -24,7 +39,27 @@ pub enum Kind {
     Updates,
 }
 
-// A byte or a number of two bytes as a wider number, and that it is below 256 or 65,536.
+// What an edge does, by the first of its 7 bytes: 0, 1, or from 2 on. The reader takes no byte above 2 (`edge_fine`).
+#[derive(Clone, Copy, Debug, PartialEq, Eq)]
+pub enum EdgeKind {
+    Internal,
+    Send,
+    Receive,
+}
+
+impl From<u8> for EdgeKind {
+    ghost from_gives = { λ byte kind. kind ≡ kind_of byte };
+
+    fn from(byte: u8) -> EdgeKind {
+        match byte {
+            0 => EdgeKind::Internal,
+            1 => EdgeKind::Send,
+            _ => EdgeKind::Receive,
+        }
+    }
+}
+
+// A byte or a number of two bytes as a wider number, and that it is below 256 or 65,536. `From` says the first alone, and many proofs take the second.
 pub fn wide(byte: u8) -> usize
     ensures { (result ≡ byte) × (result < 256) }
 {
@@ -55,7 +90,7 @@ pub fn word_place(word: u16) -> usize
     word as usize
 }
 
-// The number of the two bytes at a place.
+// The number of the two bytes at a place. By a sum: behind `from_be_bytes` a clock bound's high is tested with four instructions more.
 pub fn word_at(bytes: &[u8], at: usize) -> u16
     requires { at + 1 < length bytes.now }
     ensures { result ≡ word bytes.now at }
@@ -141,24 +176,28 @@ fn fine(kind: Kind, bytes: &[u8], sizes: Sizes) -> bool
 }
 
 // n parts of one width.
-pub fn parts(component: &[u8], from: usize, count: u8, kind: Kind, sizes: Sizes) -> Next
+pub fn parts(
+    component: &[u8],
+    from: usize,
+    count: u8,
+    kind: Kind,
+    sizes: Sizes,
+) -> Result<usize, PartFault>
     requires { from ≤ length component.now }
     ensures { Passed component.now from result (many (passes kind sizes) count (drop from component.now)) }
 {
     let w = width(kind);
     let mut at = from;
-    let mut k = count;
-    while 0 < k {
+    for _ in 0..count {
         if component.len() - at < w {
-            return Next::Fault(4);
+            return Err(PartFault::NoFit);
         }
         if !fine(kind, &component[at..], sizes) {
-            return Next::Fault(5);
+            return Err(PartFault::OutOfRange);
         }
         at += w;
-        k -= 1;
     }
-    Next::At(at)
+    Ok(at)
 }
 
 fn pair_fine(bytes: &[u8], sizes: Sizes) -> bool
@@ -176,78 +215,63 @@ pub fn listed_before(bytes: &[u8], count: usize, channel: u8) -> bool
     requires { count * 2 ≤ length bytes.now }
     ensures { result ≡ listed channel (channels_before bytes.now count) }
 {
-    let mut k = count;
-    while 0 < k {
-        k -= 1;
-        if bytes[k * layout::PAIR_WIDTH] == channel {
-            return true;
-        }
-    }
-    false
+    (0..count).any(|k| bytes[k * layout::PAIR_WIDTH] == channel)
 }
 
 // The pairs of a receive edge: each must fit, be in range, and have a channel of its own.
-fn pairs(component: &[u8], from: usize, count: u8, sizes: Sizes) -> Next
+fn pairs(component: &[u8], from: usize, count: u8, sizes: Sizes) -> Result<usize, PartFault>
     requires { from ≤ length component.now }
     ensures { Passed component.now from result (read_pairs sizes count [] (drop from component.now)) }
 {
-    let mut i: usize = 0;
-    let mut at = from;
-    let mut k = count;
-    while 0 < k {
+    for i in 0..usize::from(count) {
+        let at = from + i * layout::PAIR_WIDTH;
         if component.len() - at < layout::PAIR_WIDTH {
-            return Next::Fault(4);
+            return Err(PartFault::NoFit);
         }
         if !pair_fine(&component[at..], sizes) {
-            return Next::Fault(5);
+            return Err(PartFault::OutOfRange);
         }
         if listed_before(&component[from..], i, component[at]) {
-            return Next::Fault(6);
+            return Err(PartFault::ListedTwice);
         }
-        at += layout::PAIR_WIDTH;
-        i += 1;
-        k -= 1;
     }
-    Next::At(at)
+    Ok(from + usize::from(count) * layout::PAIR_WIDTH)
 }
 
 // The channel of a send edge.
-fn channel(component: &[u8], at: usize, sizes: Sizes) -> Next
+fn channel(component: &[u8], at: usize, sizes: Sizes) -> Result<usize, PartFault>
     requires { at ≤ length component.now }
     ensures { Passed component.now at result (read_channel sizes (drop at component.now)) }
 {
     if component.len() - at < 1 {
-        return Next::Fault(4);
+        return Err(PartFault::NoFit);
     }
     if sizes.channels <= component[at] {
-        return Next::Fault(5);
+        return Err(PartFault::OutOfRange);
     }
-    Next::At(at + 1)
+    Ok(at + 1)
 }
 
-fn items(component: &[u8], at: usize, kind: u8, count: u8, sizes: Sizes) -> Next
+fn items(component: &[u8], at: usize, kind: u8, count: u8, sizes: Sizes) -> Result<usize, PartFault>
     requires { at ≤ length component.now }
     ensures { Passed component.now at result (read_items sizes kind count (drop at component.now)) }
 {
-    if kind == 0 {
-        return parts(component, at, count, Kind::Updates, sizes);
+    match kind {
+        0 => parts(component, at, count, Kind::Updates, sizes),
+        1 => channel(component, at, sizes),
+        _ => pairs(component, at, count, sizes),
     }
-    if kind == 1 {
-        return channel(component, at, sizes);
-    }
-    pairs(component, at, count, sizes)
 }
 
+// The kind is its byte, here and in `items`: an `EdgeKind` made of it costs the reader ten instructions an edge.
 fn counts_fine(kind: u8, guards: u8, items: u8) -> bool
     ensures { result ≡ counts_fine kind guards items }
 {
-    if kind == 0 {
-        return both(guards <= 4, items <= 4);
+    match kind {
+        0 => both(guards <= 4, items <= 4),
+        1 => both(guards <= 4, items == 1),
+        _ => both(both(guards == 0, 1 <= items), items <= 8),
     }
-    if kind == 1 {
-        return both(guards <= 4, items == 1);
-    }
-    both(both(guards == 0, 1 <= items), items <= 8)
 }
 
 // The masks of so many clocks lie below this. No component has more than 4.
@@ -284,102 +308,66 @@ fn edge_fine(bytes: &[u8], sizes: Sizes) -> bool
 }
 
 // The budget of an edge, where edges have one.
-fn budget(component: &[u8], at: usize, sizes: Sizes) -> Next
+fn budget(component: &[u8], at: usize, sizes: Sizes) -> Result<usize, PartFault>
     requires { at ≤ length component.now }
     ensures { Passed component.now at result (read_budget sizes.budgets (drop at component.now)) }
 {
     if !sizes.budgets {
-        return Next::At(at);
+        return Ok(at);
     }
     if component.len() - at < layout::BUDGET_WIDTH {
-        return Next::Fault(4);
+        return Err(PartFault::NoFit);
     }
     if layout::MOST_BUDGET < word_at(component, at) {
-        return Next::Fault(5);
+        return Err(PartFault::OutOfRange);
     }
-    Next::At(at + layout::BUDGET_WIDTH)
+    Ok(at + layout::BUDGET_WIDTH)
 }
 
 // What follows the 7 bytes of the edge at a place and its budget: clock bounds, data bounds, items.
-fn arc_parts(component: &[u8], at: usize, from: usize, sizes: Sizes) -> Next
+fn arc_parts(component: &[u8], at: usize, from: usize, sizes: Sizes) -> Result<usize, PartFault>
     requires { (at + 7 ≤ length component.now) × (from ≤ length component.now) }
     ensures { Passed component.now from result (read_arc_parts sizes (drop at component.now) none (drop from component.now)) }
 {
-    let c = parts(
-        component,
-        from,
-        component[at + layout::EDGE_CLOCK_GUARDS],
-        Kind::ClockGuards,
-        sizes,
-    );
-    match c {
-        Next::Fault(k) => Next::Fault(k),
-        Next::At(a) => {
-            let d = parts(
-                component,
-                a,
-                component[at + layout::EDGE_DATA_GUARDS],
-                Kind::DataGuards,
-                sizes,
-            );
-            match d {
-                Next::Fault(k) => Next::Fault(k),
-                Next::At(b) => items(
-                    component,
-                    b,
-                    component[at],
-                    component[at + layout::EDGE_ITEMS],
-                    sizes,
-                ),
-            }
-        }
-    }
+    let clock_guards = component[at + layout::EDGE_CLOCK_GUARDS];
+    let data_guards = component[at + layout::EDGE_DATA_GUARDS];
+    let count = component[at + layout::EDGE_ITEMS];
+    let data = parts(component, from, clock_guards, Kind::ClockGuards, sizes)?;
+    let rest = parts(component, data, data_guards, Kind::DataGuards, sizes)?;
+    items(component, rest, component[at], count, sizes)
 }
 
 // What follows the 7 bytes of the edge at a place.
-fn arc_body(component: &[u8], at: usize, sizes: Sizes) -> Next
+fn arc_body(component: &[u8], at: usize, sizes: Sizes) -> Result<usize, PartFault>
     requires { at + 7 ≤ length component.now }
     ensures { Passed component.now (at + 7) result (read_arc_body sizes (drop at component.now) (drop (at + 7) component.now)) }
 {
-    let b = budget(component, at + layout::EDGE_HEADER, sizes);
-    match b {
-        Next::Fault(k) => Next::Fault(k),
-        Next::At(from) => arc_parts(component, at, from, sizes),
-    }
+    let from = budget(component, at + layout::EDGE_HEADER, sizes)?;
+    arc_parts(component, at, from, sizes)
 }
 
 // An edge: its 7 bytes, and what follows them.
-pub fn arc(component: &[u8], at: usize, sizes: Sizes) -> Next
+pub fn arc(component: &[u8], at: usize, sizes: Sizes) -> Result<usize, PartFault>
     requires { (at ≤ length component.now) × (sizes.clocks ≤ 4) }
     ensures { Passed component.now at result (read_arc sizes (drop at component.now)) }
 {
     if component.len() - at < layout::EDGE_HEADER {
-        return Next::Fault(4);
+        return Err(PartFault::NoFit);
     }
     if !edge_fine(&component[at..], sizes) {
-        return Next::Fault(5);
+        return Err(PartFault::OutOfRange);
     }
     arc_body(component, at, sizes)
 }
 
 // n edges.
-pub fn arcs(component: &[u8], from: usize, count: u8, sizes: Sizes) -> Next
+pub fn arcs(component: &[u8], from: usize, count: u8, sizes: Sizes) -> Result<usize, PartFault>
     requires { (from ≤ length component.now) × (sizes.clocks ≤ 4) }
     ensures { Passed component.now from result (many (read_arc sizes) count (drop from component.now)) }
 {
     let mut at = from;
-    let mut k = count;
-    while 0 < k {
-        let r = arc(component, at, sizes);
-        match r {
-            Next::Fault(f) => {
-                return Next::Fault(f);
-            }
-            Next::At(next) => {
-                at = next;
-            }
-        }
-        k -= 1;
+    for _ in 0..count {
+        at = arc(component, at, sizes)?;
     }
-    Next::At(at)
+    Ok(at)
 }

@@ -1,7 +1,7 @@
 -- The fields of the passages of a schedule fit a byte, but for the ticks, and no channel has the number for no message. Assumes nothing.
-use mathlib.Core.Path.{◌≡◌, refl, sym, ap, subst, ◌∙◌}
+use mathlib.Core.Path.{◌≡◌, sym, subst}
 use mathlib.Core.Bool.{Bool, true, false, cond}
-use mathlib.Core.List.{List, [], ◌∷◌}
+use mathlib.Core.List.{List, []}
 use mathlib.Core.Option.{Option, none, some}
 use Prim.Native.Nat.{ℕ, zero, suc, ◌≤◌, ◌<◌}
 use native.Mathlib.Omega.{arith}
@@ -9,16 +9,15 @@ use lib.ListN.{length, get_or}
 use Rattle.model.specs.declared.Action.{Action}
 use Rattle.model.specs.declared.Action.TheVariants.{Internal, Send, Receive}
 use Rattle.model.specs.declared.Sizes.{Sizes}
-use Rattle.model.specs.Lists.{All, empty, more, or_else, accepted, ◌after◌, Bytes}
+use Rattle.model.specs.Lists.{All, empty, more, or_else, accepted, Bytes}
 use Rattle.model.specs.declared.TableHeader.{TableHeader}
-use Rattle.model.specs.Table.{Arc, Component, Read, no_arc, no_component, size, sizes_of, component_of, arc_of}
-use Rattle.model.specs.Limits.{ActionIn, ArcIn, ComponentIn, InLimits}
+use Rattle.model.specs.Table.{Arc, Component, Read, no_arc, no_component, size, component_of, arc_of}
+use Rattle.model.specs.Limits.{ActionIn, ArcIn, ComponentIn}
 use Rattle.model.specs.Reader.{read_table}
 use Rattle.model.specs.Window.{sends, channel_of, listens}
 use Rattle.model.specs.Schedule.{Passage, passage_arc, earliest, heard_by, carried, message_in}
 use Rattle.model.specs.Checks.{limit, accepted_schedule_of}
 use Rattle.model.specs.Calls.{accepted_schedule_in}
-use Rattle.model.specs.Chains.{IsSchedule}
 use Rattle.model.proofs.Reader.Parts.{after_ok}
 use Rattle.model.proofs.Schedule.Own.{in_all, all_in}
 use Rattle.model.proofs.Schedule.Passages.{Entered, entered}

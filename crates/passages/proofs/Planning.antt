@@ -22,7 +22,7 @@ use Rattle.passages.specs.declared.Passage.{Passage}
 use Rattle.passages.specs.declared.Planned.{Planned}
 use Rattle.passages.specs.Passages.{PassagesCall, passage_of, keeping, passages_with, passages_call}
 use Rattle.passages.specs.Copied.{copied, copied_zero}
-use Rattle.passages.specs.Planned.{from_seven, Small, SmallRows, Laid, Says, Plans}
+use Rattle.passages.specs.Planned.{from_seven, Small, SmallRows, Laid, Plans}
 use Rattle.passages.proofs.Laying.{nth_seven, stored}
 use Rattle.passages.proofs.Bounds.{SmallPassage, all_small, few_passages}
 

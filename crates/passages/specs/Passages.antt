@@ -1,6 +1,6 @@
 -- The exported call for passages. Document 01: "The schedule is a list of passages, each with seven fields". One definition, from the
 -- table's bytes and the lent passages to the answer and the lent passages afterwards.
-use Rattle.std.specs.Prelude.{◌≡◌, cond, List, ◌++◌, map, ℕ, leb, length, drop}
+use Rattle.std.specs.Prelude.{cond, List, ◌++◌, map, ℕ, leb, length, drop}
 use Rattle.model.specs.declared.Verdict.{Verdict}
 use Rattle.model.specs.declared.Verdict.TheVariants.{Accepted, Refused}
 use Rattle.model.specs.Lists.{Answer, accepted, refused, or_else}

@@ -54,11 +54,11 @@ fn passage_at(numbers: &[u32], i: usize) -> Passage
     }
 }
 
-// Nothing is to be written.
-fn refused(number: u8, component: u8) -> Planned
-    ensures { (result.verdict ≡ Refused number component) × (result.count ≡ 0) }
+// A list in which nothing was written.
+fn blanks() -> [Passage; 1024]
+    ensures { result ≡ replicate 1024 blank }
 {
-    let none = Passage {
+    let blank = Passage {
         component: 0,
         edge: 0,
         location: 0,
@@ -67,8 +67,15 @@ fn refused(number: u8, component: u8) -> Planned
         ready: 0,
         end: 0,
     };
+    [blank; 1024]
+}
+
+// Nothing is to be written.
+fn refused(number: u8, component: u8) -> Planned
+    ensures { (result.verdict ≡ Refused number component) × (result.count ≡ 0) }
+{
     Planned {
-        items: [none; 1024],
+        items: blanks(),
         count: 0,
         verdict: Verdict::Refused(number, component),
     }
@@ -79,20 +86,9 @@ fn laid_out(numbers: &[u32], count: usize) -> Planned
     requires { (count ≤ 1024) × (count * 7 ≤ length numbers.now) × SmallRows numbers.now count }
     ensures { Laid numbers.now count result }
 {
-    let none = Passage {
-        component: 0,
-        edge: 0,
-        location: 0,
-        message: 0,
-        entry: 0,
-        ready: 0,
-        end: 0,
-    };
-    let mut items = [none; 1024];
-    let mut i: usize = 0;
-    while i < count {
+    let mut items = blanks();
+    for i in 0..count {
         items[i] = passage_at(numbers, i);
-        i += 1;
     }
     Planned {
         items,
@@ -133,15 +129,13 @@ pub fn count_of(planned: Planned) -> usize
     planned.count
 }
 
-// The first n items are stored in the lent list.
+// The first n items are stored in the lent list. By a loop: `copy_from_slice` would need `memmove` of whoever links the archive.
 pub fn fill(list: &mut [Passage], items: [Passage; 1024], count: usize)
     requires { (count ≤ length list.old) × (count ≤ 1024) }
     ensures { list.new ≡ copied list.old items count }
 {
-    let mut i: usize = 0;
-    while i < count {
+    for i in 0..count {
         list[i] = items[i];
-        i += 1;
     }
 }
 
@@ -165,22 +159,6 @@ pub fn schedule_into(table: &[u8], list: &mut [Passage]) -> Called
     let items = items_of(p);
     fill(list, items, n);
     answer_of(p)
-}
-
-// A list in which nothing was written.
-fn blanks() -> [Passage; 1024]
-    ensures { result ≡ replicate 1024 blank }
-{
-    let none = Passage {
-        component: 0,
-        edge: 0,
-        location: 0,
-        message: 0,
-        entry: 0,
-        ready: 0,
-        end: 0,
-    };
-    [none; 1024]
 }
 
 // A list and what was answered of it.

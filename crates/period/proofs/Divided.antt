@@ -1,21 +1,21 @@
 -- The passages to a horizon, counted along the rows. Assumes nothing.
 use mathlib.Core.Path.{◌≡◌, refl, sym, ap, ap₂, subst, ◌∙◌}
-use mathlib.Core.Bool.{Bool, true, false, cond}
+use mathlib.Core.Bool.{Bool, cond}
 use mathlib.Core.List.{List, [], ◌∷◌}
-use mathlib.Core.Option.{Option, none, some}
+use mathlib.Core.Option.{Option as Perhaps, none, some}
+use Rattle.std.specs.Prelude.{Some}
+use Rattle.std.proofs.lemmas.Option.{none-some, same_Some}
 use Prim.Native.Nat.{ℕ, zero, suc, ◌+◌, ◌-◌, ◌*◌, ◌/◌, ◌%◌, ◌≤◌, ◌<◌}
 use native.Mathlib.Omega.{arith}
 use native.Mathlib.Nat.{mod-lt, div-add-mod', div-le_self, mul-le-mul, le_trans}
 use borrow.Author.Tests.{ltb-true, lt-ltb, le-ltb}
-use lib.Dec.{ltb}
 use lib.ListN.{length}
 use Rattle.model.specs.Lists.{only, accepted}
 use Rattle.model.specs.Table.{size}
 use Rattle.model.specs.Places.{read_of}
 use Rattle.model.specs.Schedule.{Passage}
-use Rattle.model.specs.Checks.{limit, accepted_schedule, passage_at}
+use Rattle.model.specs.Checks.{limit, passage_at}
 use Rattle.model.specs.Chains.{IsSchedule}
-use Rattle.model.proofs.Basics.Bools.{clash}
 use Rattle.model.proofs.Run.Tied.{schedule_at}
 use Rattle.model.proofs.Run.Count.{only_few}
 use Rattle.rows.specs.Rows.{num}
@@ -70,14 +70,16 @@ module _ (bs l : List ℕ) (n : ℕ) (laid : AcceptedRows bs l n) where
 
   -- ## The pair
 
-  pub pair_recurs : (pair : Pair) → PairIs (recurrence (read_of bs).table (read_of bs).horizon (schedule_in bs)) pair → pair.found ≡ true
+  pub pair_recurs : (pair : Pair) → PairIs (recurrence (read_of bs).table (read_of bs).horizon (schedule_in bs)) (Some pair)
       → Recurs (read_of bs).table (read_of bs).horizon (schedule_in bs) pair.from pair.to
-  pair_recurs pair is found = go (recurrence (read_of bs).table (read_of bs).horizon (schedule_in bs)) refl is
+  pair_recurs pair is = go (recurrence (read_of bs).table (read_of bs).horizon (schedule_in bs)) refl is
     where
-      go : (o : Option Recurrence) → recurrence (read_of bs).table (read_of bs).horizon (schedule_in bs) ≡ o → PairIs o pair
+      go : (o : Perhaps Recurrence) → recurrence (read_of bs).table (read_of bs).horizon (schedule_in bs) ≡ o → PairIs o (Some pair)
           → Recurs (read_of bs).table (read_of bs).horizon (schedule_in bs) pair.from pair.to
-      go none q p = clash (sym p.0 ∙ found)
-      go (some x) q p = rw (p.1, p.2) (found_recurs limit (read_of bs).table (read_of bs).horizon (schedule_in bs) (law bs l n laid) x q).recurs
+      go none q p = absurd (none-some pair (sym p))
+      go (some x) q p =
+          let e = same_Some pair (record { from = x.from; to = x.to }) p in
+          rw (ap (λ (r : Pair). r.from) e, ap (λ (r : Pair). r.to) e) (found_recurs limit (read_of bs).table (read_of bs).horizon (schedule_in bs) (law bs l n laid) x q).recurs
 
   -- ## To a horizon
 
@@ -92,14 +94,14 @@ module _ (bs l : List ℕ) (n : ℕ) (laid : AcceptedRows bs l n) where
         e ∙ sym (entered_same (read_of bs).table H (read_of bs).horizon long (law bs l n laid) h (omega arith) H (omega arith)) ∙ all_before (read_of bs).table H L (omega arith) long
 
     -- beyond it, by division
-    pub count_beyond : (read_of bs).horizon < H → (pair : Pair) → PairIs (recurrence (read_of bs).table (read_of bs).horizon (schedule_in bs)) pair → pair.found ≡ true
+    pub count_beyond : (read_of bs).horizon < H → (pair : Pair) → PairIs (recurrence (read_of bs).table (read_of bs).horizon (schedule_in bs)) (Some pair)
         → (first second once : ℕ) → first ≡ entered_before (schedule_in bs) pair.from → second ≡ entered_before (schedule_in bs) pair.to
         → once ≡ entered_before (schedule_in bs) (pair.from + (H - pair.from) % (pair.to - pair.from))
         → once + (H - pair.from) / (pair.to - pair.from) * (second - first) ≡ length L
-    count_beyond h pair is found first second once a b c =
+    count_beyond h pair is first second once a b c =
         let S = schedule_in bs in
         let P = pair.to - pair.from in
-        let r = pair_recurs pair is found in
+        let r = pair_recurs pair is in
         let z : pair.to ≡ pair.from + P = omega (arith, r.before) in
         let D = H - pair.from in
         let m = mod-lt D {m = P} (omega (arith, r.before)) in

@@ -1,14 +1,14 @@
 -- Rows at which all enter, clocks compared, and the start. Assumes nothing.
-use mathlib.Core.Path.{◌≡◌, refl, sym, ap, ap₂, subst, ◌∙◌}
+use mathlib.Core.Path.{◌≡◌, refl, sym, ap, subst, ◌∙◌}
 use mathlib.Core.Logic.{◌↔◌, by_cases}
 use mathlib.Core.Bool.{true, false}
 use mathlib.Core.List.{List, [], ◌∷◌}
-use Prim.Native.Nat.{ℕ, zero, suc, ◌+◌, ◌-◌, ◌≤◌, ◌<◌}
+use Prim.Native.Nat.{ℕ, ◌+◌, ◌-◌, ◌≤◌, ◌<◌}
 use native.Mathlib.Omega.{arith}
 use native.Mathlib.Decide.{ℕ_discrete}
 use lib.IntN.{pos}
-use lib.ListN.{length, get_or, set, take}
-use lib.Seq.{get_or-take, get_or-set_same, get_or-set_other}
+use lib.ListN.{length, get_or, set}
+use lib.Seq.{get_or-set_same, get_or-set_other}
 use Rattle.model.specs.Places.{component_in}
 use Rattle.model.proofs.Basics.Bools.{clash}
 use Rattle.window.specs.declared.Entry.{Entry}
@@ -38,24 +38,6 @@ none_more P i c f p d h k q = by_cases (ℕ_discrete d c) (λ e. p (subst P e q)
 -- the same from the end: one less
 pub none_from : (P : ℕ → Type 0) (i n : ℕ) → ((d : ℕ) → i ≤ d → d < n → P d → ⊥) → (P (i - 1) → ⊥) → (d : ℕ) → i - 1 ≤ d → d < n → P d → ⊥
 none_from P i n f p d h k q = by_cases (ℕ_discrete d (i - 1)) (λ e. p (subst P e q)) (λ e. f d (omega arith) k q)
-
-pub none_above : (P : ℕ → Type 0) (i n : ℕ) → ((d : ℕ) → i < d → d < n → P d → ⊥) → (P i → ⊥) → (d : ℕ) → i - 1 < d → d < n → P d → ⊥
-none_above P i n f p d h k q = by_cases (ℕ_discrete d i) (λ e. p (subst P e q)) (λ e. f d (omega arith) k q)
-
--- ## Fronts of lists
-
-pub take_same : {A : Type 0} (d : A) (n : ℕ) (xs ys : List A) → n ≤ length xs → n ≤ length ys → ((k : ℕ) → k < n → get_or xs k d ≡ get_or ys k d) → take n xs ≡ take n ys
-take_same d zero xs ys h k f = refl
-take_same d (suc n) [] ys h k f = absurd (omega arith)
-take_same d (suc n) (x ∷ xs) [] h k f = absurd (omega arith)
-take_same d (suc n) (x ∷ xs) (y ∷ ys) h k f = ap₂ (λ (a : _) (l : List _). a ∷ l) (f 0 (omega arith)) (take_same d n xs ys (omega arith) (omega arith) (λ j i. f (suc j) (omega arith)))
-
-module _ {A : Type 0} (d : A) (n : ℕ) (xs ys : List A) where
-  pub differ : (k : ℕ) → k < n → (get_or xs k d ≡ get_or ys k d → ⊥) → (false ≡ true) ↔ (take n xs ≡ take n ys)
-  differ k h f = (λ e. clash e, λ e. absurd (f (sym (get_or-take n xs k d h) ∙ ap (λ (l : List A). get_or l k d) e ∙ get_or-take n ys k d h)))
-
-  pub agree : n ≤ length xs → n ≤ length ys → ((k : ℕ) → k < n → get_or xs k d ≡ get_or ys k d) → (true ≡ true) ↔ (take n xs ≡ take n ys)
-  agree h k f = (λ e. take_same d n xs ys h k f, λ e. refl)
 
 -- a test that is false where something does not hold
 pub no_state : {A : Type 0} → (A → ⊥) → (false ≡ true) ↔ A

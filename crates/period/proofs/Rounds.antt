@@ -1,7 +1,7 @@
 -- The longest round from a pair's first tick on. Assumes nothing.
 use mathlib.Core.Path.{◌≡◌, refl, sym, ap, subst, ◌∙◌}
-use mathlib.Core.Bool.{true}
 use mathlib.Core.List.{List}
+use Rattle.std.specs.Prelude.{Some}
 use Prim.Native.Nat.{ℕ, zero, suc, ◌+◌, ◌-◌, ◌*◌, ◌/◌, ◌%◌, ◌≤◌, ◌<◌}
 use native.Mathlib.Omega.{arith}
 use native.Mathlib.Nat.{mod-lt, div-add-mod'}
@@ -53,8 +53,8 @@ most_turns a b H h k =
     let least : (H - 1 - a) / P * P ≡ some.0 * P + P = ap (λ (x : ℕ). x * P) some.1 ∙ (let z : suc some.0 * P ≡ some.0 * P + P = omega arith in z) in
     (omega (arith, d), omega (arith, m, d, least), some)
 
-module _ (bs l : List ℕ) (n : ℕ) (laid : AcceptedRows bs l n) (pair : Pair) (is : PairIs (recurrence (read_of bs).table (read_of bs).horizon (schedule_in bs)) pair)
-    (found : pair.found ≡ true) (own : ℕ) (its : own ≡ (read_of bs).horizon) where
+module _ (bs l : List ℕ) (n : ℕ) (laid : AcceptedRows bs l n) (pair : Pair) (is : PairIs (recurrence (read_of bs).table (read_of bs).horizon (schedule_in bs)) (Some pair))
+    (own : ℕ) (its : own ≡ (read_of bs).horizon) where
   abbrev P : ℕ
   P = pair.to - pair.from
 
@@ -63,7 +63,7 @@ module _ (bs l : List ℕ) (n : ℕ) (laid : AcceptedRows bs l n) (pair : Pair) 
   long = (own - 1 - pair.from) / P * P
 
   pub pair_ordered : (pair.from < pair.to) × (pair.to < own)
-  pair_ordered = let r = pair_recurs bs l n laid pair is found in (r.before, omega (arith, r.below, its))
+  pair_ordered = let r = pair_recurs bs l n laid pair is in (r.before, omega (arith, r.below, its))
 
   pub round_is : (r : Round) → r.period ≡ long → r.until ≡ pair.from + long → r.first ≡ entered_before (schedule_in bs) pair.from
       → r.second ≡ entered_before (schedule_in bs) (pair.from + long) → RoundOf bs r
@@ -72,7 +72,7 @@ module _ (bs l : List ℕ) (n : ℕ) (laid : AcceptedRows bs l n) (pair : Pair) 
       let o = pair_ordered in
       let t = most_turns pair.from pair.to own o.0 o.1 in
       let z : pair.to ≡ pair.from + P = omega (arith, o.0) in
-      let one = subst (Recurs (read_of bs).table (read_of bs).horizon S pair.from) z (pair_recurs bs l n laid pair is found) in
+      let one = subst (Recurs (read_of bs).table (read_of bs).horizon S pair.from) z (pair_recurs bs l n laid pair is) in
       let times : suc t.2.0 * P ≡ long = ap (λ (x : ℕ). x * P) (sym t.2.1) in
       let again = turns_on limit (read_of bs).table (read_of bs).horizon S (law bs l n laid) pair.from P (omega (arith, o.0)) one t.2.0 (omega (arith, times, t.0, its)) in
       let whole : Recurs (read_of bs).table (read_of bs).horizon S pair.from (pair.from + r.period) =

@@ -4,6 +4,7 @@ use mathlib.Core.Bool.{Bool, true, false}
 use mathlib.Core.Logic.{by_cases}
 use mathlib.Core.List.{List}
 use mathlib.Core.Option.{none, some}
+use Rattle.std.specs.Prelude.{Option, Some, None}
 use Prim.Native.Nat.{ℕ, ◌+◌, ◌-◌, ◌≤◌, ◌<◌}
 use native.Mathlib.Omega.{arith}
 use native.Mathlib.Decide.{ℕ_discrete}
@@ -18,7 +19,7 @@ use Rattle.recurrence.specs.declared.Pair.{Pair}
 use Rattle.recurrence.specs.Recurrence.{recurrence}
 use Rattle.recurrence.proofs.Joint.{tick_at, JointRow, RowsAlike, none_by_rows, pair_by_rows}
 use Rattle.period.specs.Walking.{schedule_in, Joins, Stops}
-use Rattle.period.specs.Searching.{LastJoint, LastThere, LastLike, Apart, FirstLike, PairIs}
+use Rattle.period.specs.Searching.{LastBefore, LastJoint, There, Like, LastThere, LastLike, Apart, FirstLike, PairIs}
 use Rattle.period.proofs.Walks.{law}
 use Rattle.period.proofs.Likeness.{room, by_size, by_count, tick-at, rows_rise, same_places}
 
@@ -36,57 +37,34 @@ not_beyond l n k h g z s lt j = three g z (λ x. omega arith) (λ x. omega arith
 
 -- ## The last one like z
 
--- before row h, y is the last one like z; z where there is none
-pub record SoFar (bs l : List ℕ) (n k z h y : ℕ) : Type 0 where
-  pub among : y ≤ z
-  pub like : y < z → Joins l n k y × RowsAlike (schedule_in bs) k y z
-  pub between : (j : ℕ) → j < h → (y < z → y < j) → Joins l n k j → RowsAlike (schedule_in bs) k j z → ⊥
+pub none_before : (P : ℕ → Type 0) (h : ℕ) → h ≡ 0 → LastBefore P h None
+none_before P h e = λ j b p. omega (arith, e)
 
-module _ (bs l : List ℕ) (n k z : ℕ) where
-  pub so_far_start : (h : ℕ) → h ≡ 0 → SoFar bs l n k z h z
-  so_far_start h e = record { among = omega arith; like = λ h. absurd (omega arith); between = λ j h f p q. omega (arith, e) }
+-- a walk from joint row to joint row: on from row h, P being true of joint rows alone
+module _ (l : List ℕ) (n k : ℕ) (P : ℕ → Type 0) (joint : (j : ℕ) → P j → Joins l n k j) (h g : ℕ) (s : Stops l n k (h + 1) g) where
+  pub last_kept : (P h → ⊥) → (y : Option ℕ) → LastBefore P h y → LastBefore P g y
+  last_kept differs None o = λ j b p. three j h (λ x. o j x p) (λ x. differs (subst P x p)) (λ x. s.before j (omega arith) b (joint j p))
+  last_kept differs (Some y) o = (
+    omega (arith, o.0, s.from),
+    o.1,
+    λ j a b p. three j h (λ x. o.2 j a x p) (λ x. differs (subst P x p)) (λ x. s.before j (omega arith) b (joint j p)),
+  )
 
-  pub so_far_kept : (h g y : ℕ) → Stops l n k (h + 1) g → SoFar bs l n k z h y → (RowsAlike (schedule_in bs) k h z → ⊥) → SoFar bs l n k z g y
-  so_far_kept h g y s o differs =
-      record {
-        among = o.among;
-        like = o.like;
-        between = λ j lt f p q. three j h
-            (λ x. o.between j x f p q)
-            (λ x. differs (subst (λ (m : ℕ). RowsAlike (schedule_in bs) k m z) x q))
-            (λ x. s.before j (omega arith) lt p);
-      }
+  pub last_found : P h → LastBefore P g (Some h)
+  last_found p = (omega (arith, s.from), p, λ j a b q. s.before j (omega arith) b (joint j q))
 
-  pub so_far_found : (h g y : ℕ) → Stops l n k (h + 1) g → h < z → Joins l n k h → RowsAlike (schedule_in bs) k h z → SoFar bs l n k z g h
-  so_far_found h g y s lt p q =
-      record {
-        among = omega arith;
-        like = λ x. (p, q);
-        between = λ j b f u v. s.before j (omega (arith, f lt)) b u;
-      }
+-- the last one at the locations of z
+module _ (bs l : List ℕ) (n : ℕ) (laid : AcceptedRows bs l n) (k : ℕ) (all : k ≡ size (read_of bs).table) (least : 1 ≤ k) (z : ℕ) (zj : Joins l n k z) where
+  same_there : (j : ℕ) → Like bs l n k z j → There l n k z j
+  same_there j p = (p.0, same_places bs l n laid k all least j z p.0 zj p.1)
 
-  pub so_far_all : (h y : ℕ) → z ≤ h → SoFar bs l n k z h y → LastLike bs l n k z y
-  so_far_all h y le o = record { among = o.among; like = o.like; between = λ j lt f p q. o.between j (omega arith) f p q }
-
--- y is the last one at the locations of z
-module _ (bs l : List ℕ) (n : ℕ) (laid : AcceptedRows bs l n) (k : ℕ) (all : k ≡ size (read_of bs).table) (least : 1 ≤ k) (z y : ℕ) (near : LastThere l n k z y) (zj : Joins l n k z) where
   -- there is none
-  pub none_there : y ≡ z → LastLike bs l n k z z
-  none_there e =
-      record {
-        among = omega arith;
-        like = λ h. absurd (omega arith);
-        between = λ j h f p q. near.between j h (λ x. absurd (omega (arith, e))) p (same_places bs l n laid k all least j z p zj q);
-      }
+  pub none_like : LastThere l n k z None → LastLike bs l n k z None
+  none_like near = λ j b p. near j b (same_there j p)
 
   -- it is in the states of z
-  pub near_like : y < z → RowsAlike (schedule_in bs) k y z → LastLike bs l n k z y
-  near_like h q =
-      record {
-        among = near.among;
-        like = λ x. ((near.there h).0, q);
-        between = λ j b f p r. near.between j b f p (same_places bs l n laid k all least j z p zj r);
-      }
+  pub near_like : (y : ℕ) → LastThere l n k z (Some y) → RowsAlike (schedule_in bs) k y z → LastLike bs l n k z (Some y)
+  near_like y near q = (near.0, (near.1.0, q), λ j a b p. near.2 j a b (same_there j p))
 
 -- ## The first one that is there again
 
@@ -147,8 +125,11 @@ module _ (bs l : List ℕ) (n : ℕ) (laid : AcceptedRows bs l n) (k : ℕ) (all
 
 -- ## The pair
 
-module _ (bs l : List ℕ) (n : ℕ) (laid : AcceptedRows bs l n) (k : ℕ) (all : k ≡ size (read_of bs).table) (least : 1 ≤ k) (long : 1 ≤ (read_of bs).horizon) (z y : ℕ)
-    (last : LastJoint l n k z) (like : LastLike bs l n k z y) where
+abbrev ticks : ℕ → ℕ → Option Pair
+ticks a b = Some (record { from = a; to = b })
+
+module _ (bs l : List ℕ) (n : ℕ) (laid : AcceptedRows bs l n) (k : ℕ) (all : k ≡ size (read_of bs).table) (least : 1 ≤ k) (long : 1 ≤ (read_of bs).horizon) (z : ℕ)
+    (last : LastJoint l n k z) where
   same_states : (i j : ℕ) → RowsAlike (schedule_in bs) (size (read_of bs).table) i j → RowsAlike (schedule_in bs) k i j
   same_states i j = subst (λ (m : ℕ). RowsAlike (schedule_in bs) m i j) (sym all)
 
@@ -165,31 +146,31 @@ module _ (bs l : List ℕ) (n : ℕ) (laid : AcceptedRows bs l n) (k : ℕ) (all
   none_later j h q = last.after j h (by_count bs l n laid k all least j q)
 
   -- no row before is like the last: there is no pair
-  pub no_pair : y ≡ z → (r : Pair) → r.found ≡ false → r.from ≡ 0 → r.to ≡ 0 → PairIs (recurrence (read_of bs).table (read_of bs).horizon (schedule_in bs)) r
-  no_pair e r f a b =
+  pub no_pair : LastLike bs l n k z None → PairIs (recurrence (read_of bs).table (read_of bs).horizon (schedule_in bs)) None
+  no_pair like =
       let o : recurrence (read_of bs).table (read_of bs).horizon (schedule_in bs) ≡ none =
       none_by_rows limit (read_of bs).table (read_of bs).horizon (schedule_in bs) (law bs l n laid) (omega (arith, all)) long z (by_size bs l n laid k all least z last.joins) none_later
-      (λ j h p q. like.between j h (λ x. absurd (omega (arith, e))) (by_count bs l n laid k all least j p) (same_states j z q)) in
-      subst (λ o. PairIs o r) (sym o) (f, a, b)
+      (λ j h p q. like j h (by_count bs l n laid k all least j p, same_states j z q)) in
+      subst (λ o. PairIs o None) (sym o) refl
 
-  module _ (before : y < z) where
+  module _ (y : ℕ) (like : LastLike bs l n k z (Some y)) where
     -- y and z are that far apart
     pub distant : (distance : ℕ) → distance ≡ num l z 3 - num l y 3 → (0 < distance) × Apart bs l n k distance y z
     distant d e =
-        let m = like.like before in
-        let rise = rows_rise bs l n laid k all least y z before m.0 last.joins in
+        let m = like.1 in
+        let rise = rows_rise bs l n laid k all least y z like.0 m.0 last.joins in
         (omega (arith, e), record { early = m.0; late = last.joins; distant = omega (arith, e); alike = m.1 })
 
     -- the first one that is there again at that distance
-    pub one-pair : (distance : ℕ) → distance ≡ num l z 3 - num l y 3 → (r : Pair) → FirstLike bs l n k distance r → PairIs (recurrence (read_of bs).table (read_of bs).horizon (schedule_in bs)) r
+    pub one-pair : (distance : ℕ) → distance ≡ num l z 3 - num l y 3 → (r : Option Pair) → FirstLike bs l n k distance r → PairIs (recurrence (read_of bs).table (read_of bs).horizon (schedule_in bs)) r
     one-pair d e r f =
-        let m = like.like before in
+        let m = like.1 in
         let D : d ≡ tick_at (schedule_in bs) z - tick_at (schedule_in bs) y = e ∙ ap₂ (λ (u v : ℕ). u - v) (joint_tick z last.joins) (joint_tick y m.0) in
         let a = f.apart in
         let o : recurrence (read_of bs).table (read_of bs).horizon (schedule_in bs) ≡ some (record { from = tick_at (schedule_in bs) f.i; to = tick_at (schedule_in bs) f.i + (tick_at (schedule_in bs) z - tick_at (schedule_in bs) y) }) =
         pair_by_rows limit (read_of bs).table (read_of bs).horizon (schedule_in bs) (law bs l n laid) (omega (arith, all)) long z (joint_row z last.joins) none_later
-        y f.i f.j before (joint_row y m.0) (all_states y z m.1)
-        (λ j g h p q. like.between j h (λ x. g) (by_count bs l n laid k all least j p) (same_states j z q))
+        y f.i f.j like.0 (joint_row y m.0) (all_states y z m.1)
+        (λ j g h p q. like.2 j g h (by_count bs l n laid k all least j p, same_states j z q))
         (joint_row f.i a.early) (joint_row f.j a.late)
         (sym (joint_tick f.j a.late) ∙ a.distant ∙ ap₂ (λ (u v : ℕ). u + v) (joint_tick f.i a.early) D)
         (all_states f.i f.j a.alike)
@@ -198,4 +179,4 @@ module _ (bs l : List ℕ) (n : ℕ) (laid : AcceptedRows bs l n) (k : ℕ) (all
         let qj = by_count bs l n laid k all least j q in
         f.first i j h (record { early = pi; late = qj; distant = joint_tick j qj ∙ t ∙ sym (ap₂ (λ (u v : ℕ). u + v) (joint_tick i pi) D); alike = same_states i j u })
         )) in
-        subst (λ o. PairIs o r) (sym o) (f.found, f.from ∙ joint_tick f.i a.early, f.to ∙ ap₂ (λ (u v : ℕ). u + v) (joint_tick f.i a.early) D)
+        subst (λ o. PairIs o r) (sym o) (f.told ∙ ap₂ ticks (joint_tick f.i a.early) (ap₂ (λ (u v : ℕ). u + v) (joint_tick f.i a.early) D))

@@ -1,10 +1,11 @@
 -- The answer of the call, from what the table says. Assumes nothing.
 use mathlib.Core.Path.{◌≡◌, refl, sym, ap, subst, ◌∙◌}
 use mathlib.Core.List.{List}
-use mathlib.Core.Option.{Option, none, some}
+use mathlib.Core.Option.{Option as Perhaps, none, some}
+use Rattle.std.specs.Prelude.{Option}
 use Prim.Native.Nat.{ℕ}
 use Rattle.model.specs.declared.Verdict.TheVariants.{Accepted, Refused}
-use Rattle.model.specs.Lists.{Answer, accepted, refused}
+use Rattle.model.specs.Lists.{Answer, refused}
 use Rattle.model.specs.Table.{Read}
 use Rattle.model.specs.Reader.{read_table}
 use Rattle.model.specs.Places.{Valid, read_of}
@@ -18,10 +19,10 @@ use Rattle.recurrence.specs.Recurrence.{Recurrence, recurrence, RecurrenceCall, 
 use Rattle.period.specs.declared.Repeating.{Repeating}
 use Rattle.period.specs.Walking.{passages_of, schedule_in}
 use Rattle.period.specs.Searching.{PairIs}
-use Rattle.period.specs.Telling.{Refuses, Tells}
+use Rattle.period.specs.Telling.{Refuses, PairTold, Tells}
 
 tells_refused : (r : Repeating) (n c : ℕ) {call : RecurrenceCall} → call ≡ recurrence_found (Refused n c) none → Refuses r n c → Tells call r
-tells_refused r n c e q = rw e (record { verdict = q.verdict; found = q.found; from = q.from; to = q.to })
+tells_refused r n c e q = rw e (record { verdict = q.verdict; pair = subst (PairTold (recurrence_found (Refused n c) none)) (sym q.pair) (refl, refl, refl) })
 
 module _ (bs : List ℕ) where
   -- 1 to 6
@@ -39,13 +40,13 @@ module _ (bs : List ℕ) where
   not_planned v r {n} {c} e q = tells_refused r n c (planned_is v e) q
 
   -- of a table that is accepted
-  pub pair_told : (l : List ℕ) (n : ℕ) → AcceptedRows bs l n → (p : Pair) → PairIs (recurrence (read_of bs).table (read_of bs).horizon (schedule_in bs)) p
-      → (r : Repeating) → r.verdict ≡ Accepted → r.found ≡ p.found → r.from ≡ p.from → r.to ≡ p.to → Tells (recurrence_call bs) r
-  pair_told l n laid p q r v f a b =
+  pub pair_told : (l : List ℕ) (n : ℕ) → AcceptedRows bs l n → (p : Option Pair) → PairIs (recurrence (read_of bs).table (read_of bs).horizon (schedule_in bs)) p
+      → (r : Repeating) → r.verdict ≡ Accepted → r.pair ≡ p → Tells (recurrence_call bs) r
+  pair_told l n laid p q r v e =
       let same : schedule_in bs ≡ laid.passages = ap (λ (a : Answer (List Passage)). passages_of a) laid.accepted_schedule in
       rw (planned_is laid.placed.valid laid.accepted_schedule)
       (go (recurrence (read_of bs).table (read_of bs).horizon laid.passages) (subst (λ (S : List Passage). PairIs (recurrence (read_of bs).table (read_of bs).horizon S) p) same q))
     where
-      go : (o : Option Recurrence) → PairIs o p → Tells (recurrence_found Accepted o) r
-      go none q = record { verdict = v; found = f ∙ q.0; from = a ∙ q.1; to = b ∙ q.2 }
-      go (some x) q = record { verdict = v; found = f ∙ q.0; from = a ∙ q.1; to = b ∙ q.2 }
+      go : (o : Perhaps Recurrence) → PairIs o p → Tells (recurrence_found Accepted o) r
+      go none q = record { verdict = v; pair = subst (PairTold (recurrence_found Accepted none)) (sym (e ∙ q)) (refl, refl, refl) }
+      go (some x) q = record { verdict = v; pair = subst (PairTold (recurrence_found Accepted (some x))) (sym (e ∙ q)) (refl, refl, refl) }

@@ -1,8 +1,8 @@
 -- The walk along the rows: one row more. Assumes nothing.
-use mathlib.Core.Path.{◌≡◌, refl, sym, ap, ap₂, subst, ◌∙◌}
+use mathlib.Core.Path.{◌≡◌, sym, ap, subst, ◌∙◌}
 use mathlib.Core.Logic.{by_cases}
 use mathlib.Core.List.{List, [], ◌∷◌}
-use Prim.Native.Nat.{ℕ, zero, suc, ◌+◌, ◌≤◌, ◌<◌}
+use Prim.Native.Nat.{ℕ, suc, ◌+◌, ◌≤◌, ◌<◌}
 use native.Mathlib.Omega.{arith}
 use native.Mathlib.Decide.{ℕ_discrete}
 use lib.IntN.{pos}
@@ -10,8 +10,8 @@ use lib.ListN.{length, get_or, set, length-set}
 use lib.Seq.{get_or-set_same, get_or-set_other}
 use mir.Syntax.{w8}
 use mir.Val.{Fits}
-use Rattle.model.specs.Lists.{All, empty, more, Answer, accepted}
-use Rattle.model.specs.Table.{Arc, Table, size, header_of, arc_of}
+use Rattle.model.specs.Lists.{All, empty, more, Answer}
+use Rattle.model.specs.Table.{Arc, size, header_of, arc_of}
 use Rattle.model.specs.Window.{leads_to, leaves}
 use Rattle.model.specs.Places.{read_of, component_in}
 use Rattle.model.specs.Schedule.{Passage, passage_arc, light, start_entry}

@@ -1,9 +1,10 @@
 -- The three walks of the search: what each finds.
-use Rattle.std.specs.Prelude.{◌≡◌, true, false, List, ℕ, ◌+◌, ◌≤◌, ◌<◌}
-use Rattle.std.proofs.Math.Option.{Option, none, some}
+use Rattle.std.specs.Prelude.{◌≡◌, List, ℕ, ◌+◌, ◌≤◌, ◌<◌, Option, Some, None}
+use Rattle.std.proofs.Math.Option.{Option as Perhaps, none, some}
+use Rattle.model.specs.Places.{read_of}
 use Rattle.rows.specs.Rows.{num}
 use Rattle.recurrence.specs.declared.Pair.{Pair}
-use Rattle.recurrence.specs.Recurrence.{Recurrence}
+use Rattle.recurrence.specs.Recurrence.{Recurrence, recurrence}
 use Rattle.recurrence.proofs.Joint.{RowsAlike}
 use Rattle.period.specs.Walking.{schedule_in, Joins, PlacesAgree}
 
@@ -13,17 +14,25 @@ pub record LastJoint (l : List ℕ) (n k z : ℕ) : Type 0 where
   pub joins : Joins l n k z
   pub after : (j : ℕ) → z < j → Joins l n k j → ⊥
 
--- y is the last row before z at which all enter at the locations of z; z itself where there is none
-pub record LastThere (l : List ℕ) (n k z y : ℕ) : Type 0 where
-  pub among : y ≤ z
-  pub there : y < z → Joins l n k y × PlacesAgree l k y z
-  pub between : (j : ℕ) → j < z → (y < z → y < j) → Joins l n k j → PlacesAgree l k j z → ⊥
+-- the last number before z of which P holds, if there is one
+abbrev pub LastBefore : (ℕ → Type 0) → ℕ → Option ℕ → Type 0
+LastBefore P z None = (j : ℕ) → j < z → P j → ⊥
+LastBefore P z (Some y) = (y < z) × P y × ((j : ℕ) → y < j → j < z → P j → ⊥)
 
--- y is the last row before z at which all enter in the states of z; z itself where there is none
-pub record LastLike (bs l : List ℕ) (n k z y : ℕ) : Type 0 where
-  pub among : y ≤ z
-  pub like : y < z → Joins l n k y × RowsAlike (schedule_in bs) k y z
-  pub between : (j : ℕ) → j < z → (y < z → y < j) → Joins l n k j → RowsAlike (schedule_in bs) k j z → ⊥
+-- at row j all enter, at the locations of row z; and in its states
+abbrev pub There : List ℕ → ℕ → ℕ → ℕ → ℕ → Type 0
+There l n k z j = Joins l n k j × PlacesAgree l k j z
+
+abbrev pub Like : List ℕ → List ℕ → ℕ → ℕ → ℕ → ℕ → Type 0
+Like bs l n k z j = Joins l n k j × RowsAlike (schedule_in bs) k j z
+
+-- the last row before z at which all enter at the locations of z
+abbrev pub LastThere : List ℕ → ℕ → ℕ → ℕ → Option ℕ → Type 0
+LastThere l n k z y = LastBefore (There l n k z) z y
+
+-- the last row before z at which all enter in the states of z
+abbrev pub LastLike : List ℕ → List ℕ → ℕ → ℕ → ℕ → Option ℕ → Type 0
+LastLike bs l n k z y = LastBefore (Like bs l n k z) z y
 
 -- rows i and j, at which all enter in the same states, stand so many ticks apart
 pub record Apart (bs l : List ℕ) (n k distance i j : ℕ) : Type 0 where
@@ -33,16 +42,14 @@ pub record Apart (bs l : List ℕ) (n k distance i j : ℕ) : Type 0 where
   pub alike : RowsAlike (schedule_in bs) k i j
 
 -- the first two such rows
-pub record FirstLike (bs l : List ℕ) (n k distance : ℕ) (r : Pair) : Type 0 where
+pub record FirstLike (bs l : List ℕ) (n k distance : ℕ) (r : Option Pair) : Type 0 where
   pub i : ℕ
   pub j : ℕ
   pub apart : Apart bs l n k distance i j
   pub first : (e f : ℕ) → e < i → Apart bs l n k distance e f → ⊥
-  pub found : r.found ≡ true
-  pub from : r.from ≡ num l i 3
-  pub to : r.to ≡ num l i 3 + distance
+  pub told : r ≡ Some (record { from = num l i 3; to = num l i 3 + distance })
 
 -- a pair, or none
-abbrev pub PairIs : Option Recurrence → Pair → Type 0
-PairIs none r = (r.found ≡ false) × (r.from ≡ 0) × (r.to ≡ 0)
-PairIs (some p) r = (r.found ≡ true) × (r.from ≡ p.from) × (r.to ≡ p.to)
+abbrev pub PairIs : Perhaps Recurrence → Option Pair → Type 0
+PairIs none r = r ≡ None
+PairIs (some p) r = r ≡ Some (record { from = p.from; to = p.to })

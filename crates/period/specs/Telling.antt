@@ -1,19 +1,20 @@
 -- The answer of the call.
-use Rattle.std.specs.Prelude.{◌≡◌, false, ℕ}
+use Rattle.std.specs.Prelude.{◌≡◌, true, false, ℕ, Option, Some, None}
 use Rattle.model.specs.declared.Verdict.TheVariants.{Refused}
+use Rattle.recurrence.specs.declared.Pair.{Pair}
 use Rattle.recurrence.specs.Recurrence.{RecurrenceCall}
 use Rattle.period.specs.declared.Repeating.{Repeating}
 
 -- refused, and no pair
 pub record Refuses (r : Repeating) (n c : ℕ) : Type 0 where
   pub verdict : r.verdict ≡ Refused n c
-  pub found : r.found ≡ false
-  pub from : r.from ≡ 0
-  pub to : r.to ≡ 0
+  pub pair : r.pair ≡ None
 
 -- number by number
+abbrev pub PairTold : RecurrenceCall → Option Pair → Type 0
+PairTold call None = (call.found ≡ false) × (call.from ≡ 0) × (call.to ≡ 0)
+PairTold call (Some p) = (call.found ≡ true) × (call.from ≡ p.from) × (call.to ≡ p.to)
+
 pub record Tells (call : RecurrenceCall) (r : Repeating) : Type 0 where
   pub verdict : r.verdict ≡ call.verdict
-  pub found : r.found ≡ call.found
-  pub from : r.from ≡ call.from
-  pub to : r.to ≡ call.to
+  pub pair : PairTold call r.pair

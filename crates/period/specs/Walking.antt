@@ -11,7 +11,6 @@ use Rattle.rows.specs.Rows.{num}
 use Rattle.replay.specs.Growing.{relocated}
 use Rattle.schedule.specs.Going.{cut}
 use Rattle.recurrence.proofs.Upcoming.{Upcoming}
-use Rattle.recurrence.proofs.Joint.{RowsAlike}
 use Rattle.period.specs.declared.Walker.{Walker}
 
 -- the passages of a table's schedule, none where it is refused

@@ -1,6 +1,7 @@
 // How many passages the schedule to a horizon has (document 02, wish 14: "check 13 counts that horizon's passages"), with no list of them: by division,
 // where it lies beyond the table's own. And the round that a run beyond that horizon repeats.
-ghost use Rattle.std.specs.Prelude.{◌≡◌, true, List, ◌≤◌, ◌<◌, length};
+ghost use Rattle.std.specs.Prelude.{◌≡◌, List, ◌≤◌, ◌<◌, length, Some, true};
+ghost use Rattle.std.specs.Option.{is_some};
 ghost use Rattle.model.specs.Lists.{accepted};
 ghost use Rattle.model.specs.Places.{read_of};
 ghost use Rattle.model.specs.Schedule.{Passage};
@@ -27,31 +28,19 @@ fn entered_before(table: &[u8], rows: &[u32], count: usize, tick: u32) -> usize
     requires { AcceptedRows table.now rows.now count }
     ensures { (result ≡ entered_before (schedule_in table.now) tick) × (result ≤ 1024) }
 {
-    let mut i: usize = 0;
-    while i < count {
+    for i in 0..count {
         if tick <= rows::number(rows, i, rows::ENTRY) {
             return i;
         }
-        i += 1;
     }
     count
 }
 
-// How many passages the schedule to that horizon has: the table's own horizon is handed, and its pair, where the horizon lies beyond; there is one then.
-pub fn passages_to(
-    table: &[u8],
-    rows: &[u32],
-    count: usize,
-    pair: Pair,
-    own: u32,
-    horizon: u32,
-) -> u64
-    requires { AcceptedRows table.now rows.now count × (own < horizon → PairIs (recurrence (read_of table.now).table (read_of table.now).horizon (schedule_in table.now)) pair) × (own ≡ (read_of table.now).horizon) × (own ≤ 60000) × (1 ≤ horizon) × (own < horizon → pair.found ≡ true) }
+// How many passages the schedule to a horizon beyond the table's own has, by the table's pair.
+fn passages_beyond(table: &[u8], rows: &[u32], count: usize, pair: Pair, horizon: u32) -> u64
+    requires { AcceptedRows table.now rows.now count × PairIs (recurrence (read_of table.now).table (read_of table.now).horizon (schedule_in table.now)) (Some pair) × ((read_of table.now).horizon < horizon) }
     ensures { (L : List Passage) → accepted_schedule_to (read_of table.now).table horizon ≡ accepted L → result ≡ length L }
 {
-    if horizon <= own {
-        return entered_before(table, rows, count, horizon) as u64;
-    }
     let period = pair.to - pair.from;
     let beyond = horizon - pair.from;
     let first = entered_before(table, rows, count, pair.from);
@@ -64,9 +53,30 @@ pub fn passages_to(
     (once as u64) + more
 }
 
+// How many passages the schedule to that horizon has: the table's own horizon is handed, and its pair, where the horizon lies beyond; there is one then.
+pub fn passages_to(
+    table: &[u8],
+    rows: &[u32],
+    count: usize,
+    pair: Option<Pair>,
+    own: u32,
+    horizon: u32,
+) -> u64
+    requires { AcceptedRows table.now rows.now count × (own < horizon → PairIs (recurrence (read_of table.now).table (read_of table.now).horizon (schedule_in table.now)) pair) × (own ≡ (read_of table.now).horizon) × (own ≤ 60000) × (1 ≤ horizon) × (own < horizon → is_some pair ≡ true) }
+    ensures { (L : List Passage) → accepted_schedule_to (read_of table.now).table horizon ≡ accepted L → result ≡ length L }
+{
+    if horizon <= own {
+        return entered_before(table, rows, count, horizon) as u64;
+    }
+    match pair {
+        Some(pair) => passages_beyond(table, rows, count, pair, horizon),
+        None => unreachable!(),
+    }
+}
+
 // The longest round from the pair's first tick on that ends below the table's own horizon, which is handed: as many periods as there are.
 pub fn longest_round(table: &[u8], rows: &[u32], count: usize, pair: Pair, own: u32) -> Round
-    requires { AcceptedRows table.now rows.now count × PairIs (recurrence (read_of table.now).table (read_of table.now).horizon (schedule_in table.now)) pair × (pair.found ≡ true) × (own ≡ (read_of table.now).horizon) × (own ≤ 60000) }
+    requires { AcceptedRows table.now rows.now count × PairIs (recurrence (read_of table.now).table (read_of table.now).horizon (schedule_in table.now)) (Some pair) × (own ≡ (read_of table.now).horizon) × (own ≤ 60000) }
     ensures { RoundOf table.now result }
 {
     let once = pair.to - pair.from;

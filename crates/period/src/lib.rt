@@ -24,13 +24,11 @@ use model::{Verdict, layout};
 use recurrence::Pair;
 use window::Entry;
 
-// The verdict on a table, and the first pair of ticks at which all its components enter alike; found is false where there is none, and both are 0 then.
+// The verdict on a table, and the first pair of ticks at which all its components enter alike, if there is one.
 #[derive(Clone, Copy)]
 pub struct Repeating {
     pub verdict: Verdict,
-    pub found: bool,
-    pub from: u32,
-    pub to: u32,
+    pub pair: Option<Pair>,
 }
 
 // A place in the rows, and for each component the entry of its next passage from there on.
@@ -55,10 +53,8 @@ fn start(table: &[u8], rows: &[u32], count: usize, starts: [u16; 8]) -> Walker
         values,
     };
     let mut entries = [none; 8];
-    let mut component: usize = 0;
-    while component < components {
+    for component in 0..components {
         entries[component] = schedule::start_entry(table, parts::word_place(starts[component]));
-        component += 1;
     }
     Walker { row: 0, entries }
 }
@@ -76,14 +72,15 @@ fn carry(
     ensures { On table.now count result × (result.row ≡ until) }
 {
     let mut entries = from.entries;
-    let mut row = from.row;
-    while row < until {
+    for row in from.row..until {
         let component = rows::index(rows, row, rows::COMPONENT);
         let next = replay::grown(table, rows, row, entries[component], budgets);
         entries[component] = next;
-        row += 1;
     }
-    Walker { row, entries }
+    Walker {
+        row: until,
+        entries,
+    }
 }
 
 // Whether from that row on stand all components, in their order, entered at one tick.
@@ -95,15 +92,13 @@ fn joins(rows: &[u32], count: usize, components: usize, row: usize) -> bool
         return false;
     }
     let tick = rows::number(rows, row, rows::ENTRY);
-    let mut c: usize = 0;
-    while c < components {
+    for c in 0..components {
         if rows::index(rows, row + c, rows::COMPONENT) != c {
             return false;
         }
         if rows::number(rows, row + c, rows::ENTRY) != tick {
             return false;
         }
-        c += 1;
     }
     true
 }
@@ -113,14 +108,12 @@ fn to_joint(rows: &[u32], count: usize, components: usize, from: usize) -> usize
     requires { (count * 9 ≤ length rows.now) × (count ≤ 1024) × (from ≤ count) × (components ≤ 8) }
     ensures { Stops rows.now count components from result }
 {
-    let mut row = from;
-    while row < count {
+    for row in from..count {
         if joins(rows, count, components, row) {
             return row;
         }
-        row += 1;
     }
-    row
+    count
 }
 
 // On from a row to the next one at which all enter; to the number of rows where there is none.
@@ -144,32 +137,28 @@ fn last_joint(rows: &[u32], count: usize, components: usize) -> usize
     requires { (count * 9 ≤ length rows.now) × (count ≤ 1024) × (1 ≤ components) × (components ≤ 8) × Joins rows.now count components 0 }
     ensures { LastJoint rows.now count components result }
 {
-    let mut row = count - 1;
-    while 0 < row {
+    for row in (1..count).rev() {
         if joins(rows, count, components, row) {
             return row;
         }
-        row -= 1;
     }
-    row
+    0
 }
 
-// The last row before that one at which all enter at its locations; that row itself where there is none.
-fn last_there(rows: &[u32], count: usize, components: usize, last: usize) -> usize
+// The last row before that one at which all enter at its locations.
+fn last_there(rows: &[u32], count: usize, components: usize, last: usize) -> Option<usize>
     requires { (count * 9 ≤ length rows.now) × (count ≤ 1024) × (1 ≤ components) × (components ≤ 8) × Joins rows.now count components last }
     ensures { LastThere rows.now count components last result }
 {
-    let mut row = last;
-    while 0 < row {
-        row -= 1;
+    for row in (0..last).rev() {
         if states::enter_there(rows, count, components, row, last) {
-            return row;
+            return Some(row);
         }
     }
-    last
+    None
 }
 
-// The last row before that one at which all enter in its states; that row itself where there is none.
+// The last row before that one at which all enter in its states.
 fn last_like(
     table: &[u8],
     rows: &[u32],
@@ -179,15 +168,16 @@ fn last_like(
     first: Walker,
     last: Walker,
     budgets: bool,
-) -> usize
+) -> Option<usize>
     requires { AcceptedRows table.now rows.now count × (starts ≡ starts_of table.now (byte table.now 3)) × (components ≡ size (read_of table.now).table) × (budgets ≡ budgeted table.now) × On table.now count first × On table.now count last × Joins rows.now count components first.row × Joins rows.now count components last.row × (first.row ≡ 0) }
     ensures { LastLike table.now rows.now count components last.row result }
 {
-    let mut like = last.row;
+    let mut like = None;
     let mut here = first;
+    // A while: how far a walker goes on is read from the rows.
     while here.row < last.row {
         if states::alike(table, rows, count, starts, components, here, last) {
-            like = here.row;
+            like = Some(here.row);
         }
         here = next_joint(table, rows, count, components, here, budgets);
     }
@@ -204,18 +194,15 @@ fn like_before(
     first: Walker,
     last: usize,
     budgets: bool,
-) -> usize
+) -> Option<usize>
     requires { AcceptedRows table.now rows.now count × (starts ≡ starts_of table.now (byte table.now 3)) × (components ≡ size (read_of table.now).table) × (budgets ≡ budgeted table.now) × On table.now count first × Joins rows.now count components first.row × Joins rows.now count components last × (first.row ≡ 0) }
     ensures { LastLike table.now rows.now count components last result }
 {
-    let near = last_there(rows, count, components, last);
-    if near == last {
-        return last;
-    }
+    let near = last_there(rows, count, components, last)?;
     let here = carry(table, rows, count, first, near, budgets);
     let there = carry(table, rows, count, here, last, budgets);
     if states::alike(table, rows, count, starts, components, here, there) {
-        return near;
+        return Some(near);
     }
     last_like(
         table, rows, count, starts, components, first, there, budgets,
@@ -252,12 +239,13 @@ fn first_like(
     first: Walker,
     distance: u32,
     budgets: bool,
-) -> Pair
+) -> Option<Pair>
     requires { AcceptedRows table.now rows.now count × (starts ≡ starts_of table.now (byte table.now 3)) × (components ≡ size (read_of table.now).table) × (budgets ≡ budgeted table.now) × On table.now count first × Joins rows.now count components first.row × (first.row ≡ 0) × (0 < distance) × (distance ≤ 200000) × ((y : ℕ) × (z : ℕ) × Apart table.now rows.now count components distance y z) }
     ensures { FirstLike table.now rows.now count components distance result }
 {
     let mut early = first;
     let mut late = first;
+    // A while: two walkers take turns, by the ticks of their rows.
     while late.row < count {
         let from = rows::number(rows, early.row, rows::ENTRY);
         let to = from + distance;
@@ -265,24 +253,16 @@ fn first_like(
             late = next_joint(table, rows, count, components, late, budgets);
         } else {
             if alike_at(table, rows, count, starts, components, early, late, to) {
-                return Pair {
-                    found: true,
-                    from,
-                    to,
-                };
+                return Some(Pair { from, to });
             }
             early = next_joint(table, rows, count, components, early, budgets);
         }
     }
-    Pair {
-        found: false,
-        from: 0,
-        to: 0,
-    }
+    None
 }
 
 // The pair of an accepted table, whose passages are the rows.
-pub fn pair_in(table: &[u8], rows: &[u32], count: usize, starts: [u16; 8]) -> Pair
+pub fn pair_in(table: &[u8], rows: &[u32], count: usize, starts: [u16; 8]) -> Option<Pair>
     requires { AcceptedRows table.now rows.now count × (starts ≡ starts_of table.now (byte table.now 3)) }
     ensures { PairIs (recurrence (read_of table.now).table (read_of table.now).horizon (schedule_in table.now)) result }
 {
@@ -290,14 +270,7 @@ pub fn pair_in(table: &[u8], rows: &[u32], count: usize, starts: [u16; 8]) -> Pa
     let budgets = decoder::budgeted(table);
     let first = start(table, rows, count, starts);
     let last = last_joint(rows, count, components);
-    let like = like_before(table, rows, count, starts, components, first, last, budgets);
-    if like == last {
-        return Pair {
-            found: false,
-            from: 0,
-            to: 0,
-        };
-    }
+    let like = like_before(table, rows, count, starts, components, first, last, budgets)?;
     let distance = rows::number(rows, last, rows::ENTRY) - rows::number(rows, like, rows::ENTRY);
     first_like(
         table, rows, count, starts, components, first, distance, budgets,
@@ -309,9 +282,7 @@ fn refused(number: u8, component: u8) -> Repeating
 {
     Repeating {
         verdict: Verdict::Refused(number, component),
-        found: false,
-        from: 0,
-        to: 0,
+        pair: None,
     }
 }
 
@@ -329,9 +300,7 @@ fn pair_read(table: &[u8], starts: [u16; 8]) -> Repeating
             let pair = pair_in(table, &rows, planned.count, starts);
             Repeating {
                 verdict: Verdict::Accepted,
-                found: pair.found,
-                from: pair.from,
-                to: pair.to,
+                pair,
             }
         }
     }

@@ -1,6 +1,5 @@
 // Whether two states of all components are the same: locations, and of clocks and variables as many as each component has.
-ghost use Rattle.std.specs.Prelude.{◌≡◌, ◌↔◌, true, ◌&&◌, ◌+◌, ◌*◌, ◌≤◌, ◌<◌, length, take};
-ghost use Rattle.std.specs.Int.Signed.{le_z};
+ghost use Rattle.std.specs.Prelude.{◌≡◌, ◌↔◌, true, ◌+◌, ◌*◌, ◌≤◌, ◌<◌, length};
 ghost use Rattle.model.specs.Reader.{byte};
 ghost use Rattle.model.specs.Places.{Valid, read_of};
 ghost use Rattle.model.specs.Table.{size};
@@ -13,55 +12,15 @@ use crate::Walker;
 use model::layout;
 use window::Entry;
 
-// Whether so many clocks are the same.
-fn same_clocks(first: [u32; 4], second: [u32; 4], clocks: u8) -> bool
-    requires { clocks ≤ 4 }
-    ensures { (result ≡ true) ↔ (take clocks first ≡ take clocks second) }
-{
-    let mut k: usize = 0;
-    while k < clocks as usize {
-        if first[k] != second[k] {
-            return false;
-        }
-        k += 1;
-    }
-    true
-}
-
-fn same_value(first: i16, second: i16) -> bool
-    ensures { result ≡ le_z first second && le_z second first }
-{
-    parts::both(first <= second, second <= first)
-}
-
-// Whether so many variables are the same.
-fn same_values(first: [i16; 4], second: [i16; 4], variables: u8) -> bool
-    requires { variables ≤ 4 }
-    ensures { (result ≡ true) ↔ (take variables first ≡ take variables second) }
-{
-    let mut k: usize = 0;
-    while k < variables as usize {
-        if !same_value(first[k], second[k]) {
-            return false;
-        }
-        k += 1;
-    }
-    true
-}
-
 // Whether two entries of a component with so many clocks and variables have them in common.
 fn same_numbers(first: Entry, second: Entry, clocks: u8, variables: u8) -> bool
     requires { (clocks ≤ 4) × (variables ≤ 4) }
     ensures { (result ≡ true) ↔ SameNumbers clocks variables first second }
 {
-    let young = first.clocks;
-    let old = second.clocks;
-    if !same_clocks(young, old, clocks) {
-        return false;
-    }
-    let before = first.values;
-    let after = second.values;
-    same_values(before, after, variables)
+    let clocks = usize::from(clocks);
+    let variables = usize::from(variables);
+    first.clocks[..clocks] == second.clocks[..clocks]
+        && first.values[..variables] == second.values[..variables]
 }
 
 // Whether all components have their clocks and variables in common at both places.
@@ -77,15 +36,13 @@ fn numbers_agree(
 {
     let here = first.entries;
     let there = second.entries;
-    let mut c: usize = 0;
-    while c < components {
+    for c in 0..components {
         let start = parts::word_place(starts[c]);
         let clocks = table[start + layout::COMPONENT_CLOCKS];
         let variables = table[start + layout::COMPONENT_VARIABLES];
         if !same_numbers(here[c], there[c], clocks, variables) {
             return false;
         }
-        c += 1;
     }
     true
 }
@@ -95,14 +52,12 @@ fn places_agree(rows: &[u32], count: usize, components: usize, first: usize, sec
     requires { (count * 9 ≤ length rows.now) × (count ≤ 1024) × (first + components ≤ count) × (second + components ≤ count) }
     ensures { (result ≡ true) ↔ PlacesAgree rows.now components first second }
 {
-    let mut c: usize = 0;
-    while c < components {
+    for c in 0..components {
         let here = rows::number(rows, first + c, rows::LOCATION);
         let there = rows::number(rows, second + c, rows::LOCATION);
         if here != there {
             return false;
         }
-        c += 1;
     }
     true
 }

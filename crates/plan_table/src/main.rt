@@ -7,42 +7,15 @@
 use model::Verdict;
 use slot_plan::Slots;
 use std::env::Env;
-use text::Number;
 
 // The number that an argument is. What is none counts as the greatest one, which is out of every range of a plan.
 fn value(env: &impl Env, i: usize) -> u32 {
-    let number = arguments::argument(env, i);
-    match number {
-        Number::Read(n) => n,
-        Number::Unreadable => 4294967295,
-    }
-}
-
-fn write_table(output: &impl Print, errors: &impl Print, table: &[u8], size: usize) {
-    if table.len() < size {
-        return;
-    }
-    streams::write_or_say(
-        output,
-        errors,
-        &table[0..size],
-        b"The table could not be written.\n",
-    );
-}
-
-// A refusal in words, on standard error.
-fn say_refused(errors: &impl Print, number: u8, component: u8) {
-    let mut words = [0u8; 170];
-    let n = refusal_text::put_refusal_text(&mut words, 0, number, component);
-    streams::say(errors, &words[..n]);
+    arguments::argument(env, i).unwrap_or(u32::MAX)
 }
 
 fn main(rt: HostRuntime) {
     if arguments::count(&rt) != 5 {
-        streams::say(
-            &rt.stderr(),
-            b"usage: plan_table PROBES SLOT GUARD PERIOD\n",
-        );
+        streams::say_line(&rt.stderr(), "usage: plan_table PROBES SLOT GUARD PERIOD");
         return;
     }
     let slots = Slots {
@@ -53,10 +26,19 @@ fn main(rt: HostRuntime) {
     };
     // No plan is longer.
     let mut table = [0u8; 414];
-    let r = planner::plan(slots, &mut table);
-    let v = r.verdict;
-    match v {
-        Verdict::Accepted => write_table(&rt.stdout(), &rt.stderr(), &table, r.size),
-        Verdict::Refused(number, component) => say_refused(&rt.stderr(), number, component),
+    let plan = planner::plan(slots, &mut table);
+    match plan.verdict {
+        Verdict::Accepted => streams::write_front(
+            &rt.stdout(),
+            &rt.stderr(),
+            &table,
+            plan.size,
+            "The table could not be written.",
+        ),
+        Verdict::Refused(number, component) => streams::say_refused(
+            &rt.stderr(),
+            number,
+            component,
+        ),
     }
 }

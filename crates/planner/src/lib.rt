@@ -160,10 +160,8 @@ fn put_probes(slots: Slots, out: &mut [u8], from: usize) -> usize
     ensures { Put out.old from (each component_bytes (map (probe slots) (below slots.probes))) result out.new }
 {
     let mut at = from;
-    let mut i: u32 = 0;
-    while i < slots.probes {
+    for i in 0..slots.probes {
         at = put_probe(slots, i, out, at);
-        i += 1;
     }
     at
 }
@@ -174,14 +172,12 @@ fn put_hub_locations(slots: Slots, out: &mut [u8], from: usize) -> usize
     ensures { Put out.old from (each location_bytes (map (λ i. until (hear_to slots i)) (below slots.probes))) result out.new }
 {
     let mut at = from;
-    let mut i: u32 = 0;
-    while i < slots.probes {
+    for i in 0..slots.probes {
         at = put_location(
             out,
             at,
             slot_begin(slots, i) + slots.guard + slots.slot + slots.guard,
         );
-        i += 1;
     }
     at
 }
@@ -192,10 +188,8 @@ fn put_hub_edges(slots: Slots, out: &mut [u8], from: usize) -> usize
     ensures { Put out.old from (each arc_bytes (map (hear_arc slots) (below slots.probes))) result out.new }
 {
     let mut at = from;
-    let mut i: u32 = 0;
-    while i < slots.probes {
+    for i in 0..slots.probes {
         at = put_receive_edge(out, at, i as u8, slot_begin(slots, i));
-        i += 1;
     }
     at
 }

@@ -1,13 +1,12 @@
 -- One pair more is answered. Assumes nothing.
 use mathlib.Core.Path.{◌≡◌, refl, sym, ap, subst, ◌∙◌}
-use mathlib.Core.Bool.{Bool, true, false, cond, ◌&&◌}
+use mathlib.Core.Bool.{Bool, true, false, cond}
 use mathlib.Core.List.{List, [], ◌∷◌, ◌++◌, append_assoc, append-nil}
-use mathlib.Core.Logic.{by_cases}
-use Prim.Native.Nat.{ℕ, zero, suc, ◌+◌, ◌*◌, ◌/◌, ◌≤◌, ◌<◌}
+use Prim.Native.Nat.{ℕ, ◌+◌, ◌*◌, ◌/◌, ◌≤◌, ◌<◌}
 use native.Mathlib.Omega.{arith}
 use borrow.Author.Tests.{ltb-true, ltb-false}
 use lib.Dec.{ltb}
-use lib.ListN.{length, get_or, drop, replicate, length-append}
+use lib.ListN.{length, get_or, drop, length-append}
 use lib.Seq.{sets}
 use Rattle.model.specs.Lists.{each, snoc, be16}
 use Rattle.model.specs.Table.{Read, size}
@@ -17,7 +16,7 @@ use Rattle.model.specs.Checks.{limit, passage_at}
 use Rattle.model.specs.Chains.{IsSchedule}
 use Rattle.model.specs.Reasons.{askable, passage_number}
 use Rattle.model.specs.Positions.{Asked, asked, bad_pair, window_byte, position_bytes, entered_by, passages_read}
-use Rattle.model.proofs.Basics.Bools.{clash, and_is}
+use Rattle.model.proofs.Basics.Bools.{and_is}
 use Rattle.model.proofs.Schedule.Passages.{never_falls}
 use Rattle.model.proofs.Schedule.Reasoned.{Named, named}
 use Rattle.model.proofs.Schedule.Positioned.{read_is, last_named}

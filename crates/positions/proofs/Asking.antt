@@ -1,15 +1,19 @@
 -- The pairs of a list of numbers, one after the other. Assumes nothing.
+use Rattle.std.specs.Prelude.{Result, Ok, Err}
+use Rattle.positions.specs.declared.BadPair.{BadPair}
+use Rattle.positions.specs.declared.BadPair.TheVariants.{NotThere, Earlier}
+use Rattle.positions.specs.Pairs.{number_of, number_tried}
 use mathlib.Core.Path.{◌≡◌, refl, sym, ap, ◌∙◌}
 use mathlib.Core.Bool.{Bool, true, false, cond, ◌&&◌}
 use mathlib.Core.List.{List, [], ◌∷◌}
-use Prim.Native.Nat.{ℕ, suc, ◌+◌, ◌-◌, ◌/◌, ◌≤◌, ◌<◌}
+use Prim.Native.Nat.{ℕ, suc, ◌+◌, ◌/◌, ◌≤◌, ◌<◌, ◌*◌}
 use native.Mathlib.Omega.{arith}
 use borrow.Author.Tests.{lt-ltb, le-ltb}
 use lib.Dec.{ltb}
 use lib.ListN.{length, get_or, drop, length-drop}
 use lib.Seq.{drop-cons}
 use Rattle.model.specs.Table.{Read, size}
-use Rattle.model.specs.Positions.{Asked, asked, bad_pair}
+use Rattle.model.specs.Positions.{asked, bad_pair}
 
 -- the pair at a place, and those after it
 pub asked_next : (ps : List ℕ) (i : ℕ) → i + 1 < length ps → asked (drop i ps) ≡ record { component = get_or ps i 0; tick = get_or ps (i + 1) 0 } ∷ asked (drop (i + 2) ps)
@@ -32,6 +36,10 @@ pub asked_length : (ps : List ℕ) → length (asked ps) ≡ length ps / 2
 asked_length [] = omega arith
 asked_length (x ∷ []) = omega arith
 asked_length (x ∷ y ∷ ps) = omega (arith, asked_length ps)
+
+-- the pair after this one
+pub pair_on : (pair : ℕ) → pair * 2 + 2 ≡ (pair + 1) * 2
+pair_on pair = omega arith
 
 -- what one pair says
 module _ (t : Read) (ps : List ℕ) (i before x : ℕ) (h : i + 1 < length ps) (inv : bad_pair t before (asked (drop i ps)) ≡ x) where
@@ -60,3 +68,13 @@ module _ (t : Read) (ps : List ℕ) (i before x : ℕ) (h : i + 1 < length ps) (
 
 pub all_fine : (t : Read) (ps : List ℕ) (i before x : ℕ) → length ps ≤ i + 1 → bad_pair t before (asked (drop i ps)) ≡ x → ◌≡◌ {A = ℕ} 0 x
 all_fine t ps i before x h inv = ap (bad_pair t before) (sym (asked_done ps i h)) ∙ inv
+
+-- ## What was tried
+
+pub refuses : (why : BadPair) → number_of why ≡ 0 → ⊥
+refuses NotThere e = omega arith
+refuses Earlier e = omega arith
+
+pub tried_fine : {A : Type 0} (r : Result A BadPair) → ((why : BadPair) → r ≡ Err why → ⊥) → number_tried r ≡ 0
+tried_fine (Ok done) h = refl
+tried_fine (Err why) h = absurd (h why refl)

@@ -1,19 +1,17 @@
 -- The answer of the call, from what the pairs, the table and the bytes lent say. Assumes nothing.
-use mathlib.Core.Path.{◌≡◌, refl, sym, ap, ap₂, subst, ◌∙◌}
-use mathlib.Core.Bool.{Bool, true, false, cond}
-use mathlib.Core.List.{List, [], ◌∷◌, ◌++◌, map}
-use Prim.Native.Nat.{ℕ, ◌+◌, ◌*◌, ◌≤◌, ◌<◌}
-use native.Mathlib.Omega.{arith}
+use mathlib.Core.Path.{◌≡◌, refl, sym, ap, ap₂, ◌∙◌}
+use mathlib.Core.List.{List, ◌++◌}
+use Prim.Native.Nat.{ℕ, ◌*◌, ◌≤◌, ◌<◌}
 use borrow.Author.Tests.{le-leb, lt-leb, eq-eqb, ne_eqb}
-use lib.ListN.{length, get_or, drop}
+use lib.ListN.{length, drop}
 use Rattle.model.specs.declared.Verdict.TheVariants.{Accepted, Refused}
-use Rattle.model.specs.Lists.{each, Answer, accepted, refused}
+use Rattle.model.specs.Lists.{each, Answer, refused}
 use Rattle.model.specs.Table.{Read}
 use Rattle.model.specs.Reader.{read_table}
 use Rattle.model.specs.Places.{Valid, read_of}
-use Rattle.model.specs.Schedule.{Passage, light}
+use Rattle.model.specs.Schedule.{Passage}
 use Rattle.model.specs.Checks.{accepted_schedule_of}
-use Rattle.model.specs.Positions.{Asked, asked, bad_pair, position_bytes, passages_read, PositionsCall, not_answered, answered, positions_tried, positions_planned, positions_read, positions_call}
+use Rattle.model.specs.Positions.{asked, bad_pair, position_bytes, passages_read, PositionsCall, not_answered, answered, positions_tried, positions_planned, positions_read, positions_call}
 use Rattle.model.proofs.Reader.Located.{valid_read}
 use Rattle.model.proofs.Schedule.Positioned.{position-bytes}
 use Rattle.rows.specs.Rows.{rows_of}

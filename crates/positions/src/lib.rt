@@ -12,6 +12,7 @@ ghost use Rattle.model.specs.Positions.{asked, bad_pair, window_byte, position_b
 ghost use Rattle.table.specs.Directory.{starts_of};
 ghost use Rattle.rows.specs.Rows.{num, rows_of};
 ghost use Rattle.schedule.specs.Filled.{AcceptedRows};
+ghost use Rattle.positions.specs.Pairs.{number_of, number_tried};
 ghost use Rattle.positions.specs.Walks.{ReadUpTo, Walkable, Gives};
 
 use model::{Verdict, layout};
@@ -23,12 +24,32 @@ pub struct Positioned {
     pub read: usize,
 }
 
+// Why a pair is bad: its component is not there or its tick not below the horizon, or its tick is below that of the pair before it.
+#[derive(Clone, Copy, PartialEq, Eq)]
+enum BadPair {
+    NotThere,
+    Earlier,
+}
+
+impl BadPair {
+    // The number of the refusal (docs/REFUSALS.md).
+    fn number(self) -> u8
+        ensures { result ≡ number_of self }
+    {
+        match self {
+            BadPair::NotThere => 21,
+            BadPair::Earlier => 24,
+        }
+    }
+}
+
 // Reads on, past so many rows read, to the last row entered by the tick, and keeps of each component the last row; then how many rows were read.
 fn read_on(rows: &[u32], count: usize, latest: &mut [u16], read: usize, tick: u32) -> usize
     requires { ReadUpTo rows.now count latest.old read tick × (length latest.old ≡ 8) }
     ensures whole { ReadUpTo rows.now count latest.new result tick }
     ensures all { result < count → tick < num rows.now result 3 }
 {
+    // A while: where it stops is what is answered, and the next pair goes on from there. By a `for` a pair takes three instructions of 32 more.
     let mut i = read;
     while i < count {
         if tick < rows::number(rows, i, rows::ENTRY) {
@@ -40,30 +61,29 @@ fn read_on(rows: &[u32], count: usize, latest: &mut [u16], read: usize, tick: u3
     i
 }
 
-// The refusal of the first bad pair, 21 or 24; 0 where none is bad.
-fn bad_pair(table: &[u8], pairs: &[u32]) -> u8
+// Says of the first bad pair why it is bad, if one is.
+fn try_pairs(table: &[u8], pairs: &[u32]) -> Result<(), BadPair>
     requires { Valid table.now }
-    ensures { result ≡ bad_pair (read_of table.now) 0 (asked pairs.now) }
+    ensures { number_tried result ≡ bad_pair (read_of table.now) 0 (asked pairs.now) }
 {
     let components = parts::wide32(table[layout::TABLE_COMPONENTS]);
     let horizon = parts::word32(parts::word_at(table, layout::TABLE_HORIZON));
     let mut last: u32 = 0;
-    let mut i: usize = 0;
-    while i + 1 < pairs.len() {
-        let tick = pairs[i + 1];
-        if components <= pairs[i] {
-            return 21;
+    for pair in 0..pairs.len() / 2 {
+        let component = pairs[pair * 2];
+        let tick = pairs[pair * 2 + 1];
+        if components <= component {
+            return Err(BadPair::NotThere);
         }
         if horizon <= tick {
-            return 21;
+            return Err(BadPair::NotThere);
         }
         if tick < last {
-            return 24;
+            return Err(BadPair::Earlier);
         }
         last = tick;
-        i += 2;
     }
-    0
+    Ok(())
 }
 
 // Whether a tick before the end lies in the window, as a byte.
@@ -97,15 +117,13 @@ fn put_answers(
     ensures puts { answers.new ≡ each (position_bytes (rows_of rows.now count)) (asked pairs.now) ++ drop (length (asked pairs.now) * 3) answers.old }
 {
     let mut read: usize = 0;
-    let mut k: usize = 0;
-    while k < pairs.len() / 2 {
+    for k in 0..pairs.len() / 2 {
         let c = pairs[k * 2] as usize;
         let tick = pairs[k * 2 + 1];
         read = read_on(rows, count, latest, read, tick);
         let row = latest[c];
         let ready = rows::number(rows, parts::word_place(row), rows::READY);
         put_answer(answers, k, row, window_byte(tick, ready));
-        k += 1;
     }
     read
 }
@@ -124,9 +142,8 @@ fn answer(table: &[u8], rows: &[u32], count: usize, pairs: &[u32], answers: &mut
     requires { AcceptedRows table.now rows.now count }
     ensures { Gives (positions_call table.now pairs.now answers.old) result answers.new × (result.read ≤ 1024) }
 {
-    let bad = bad_pair(table, pairs);
-    if bad != 0 {
-        return refused(bad, 255);
+    if let Err(bad) = try_pairs(table, pairs) {
+        return refused(bad.number(), 255);
     }
     if answers.len() / 3 < pairs.len() / 2 {
         return refused(13, 255);

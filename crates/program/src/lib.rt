@@ -14,7 +14,7 @@ pub struct Span {
     pub long: usize,
 }
 
-// Where a node's part stands; 0 and 0 where it has none.
+// Where a node's part stands; 0 and 0 where it has none, as the C function `timed_network_part` answers.
 pub fn span_of(program: &[u8], node: u8) -> Span
     ensures { Spans program.now result (part_of program.now node) }
 {
@@ -26,6 +26,7 @@ pub fn span_of(program: &[u8], node: u8) -> Span
     }
     let mut at: usize = layout::PROGRAM_HEADER;
     let mut left = node;
+    // A while: where the next part stands is read from the bytes.
     while at + 2 <= program.len() {
         let n = parts::word_at(program, at) as usize;
         if program.len() - at < n {

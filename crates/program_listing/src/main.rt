@@ -3,21 +3,23 @@
 //
 // It takes any bytes. What a damaged program states and does not hold is said in a line of its own, and the listing goes on
 // with what can still be read. The text is made and written line by line, since a damaged program's blocks may overlap: the
-// lines are those of `listing_text`, in its order. Each function answers whether all its lines could be written.
+// lines are those of `listing_text`, in its order.
 #![tactic(auto)]
 
 ghost use Rattle.std.specs.Prelude.{◌≤◌, ◌<◌, length};
 ghost use Rattle.listing_text.specs.ListingText.{blocks_of, code_at};
 
+use std::io;
+
 // The line at the front of out.
-fn write_line(output: &impl Print, out: &[u8], n: usize) -> bool
+fn write_line(output: &impl Print, out: &[u8], n: usize) -> io::Result<()>
     requires { n ≤ length out.now }
 {
-    output.write_all(&out[0..n]).is_ok()
+    output.write_all(&out[..n])
 }
 
 // The statements of a block; the first that lies outside the part is the last.
-fn list_statements(output: &impl Print, out: &mut [u8], part: &[u8], block: u32) -> bool
+fn list_statements(output: &impl Print, out: &mut [u8], part: &[u8], block: u32) -> io::Result<()>
     requires { (160 ≤ length out.old) × (code_at part.now ≤ length part.now) × (length part.now ≤ 65536) × (block < blocks_of part.now) }
 {
     let statements = listing_text::statements_of(part);
@@ -25,76 +27,64 @@ fn list_statements(output: &impl Print, out: &mut [u8], part: &[u8], block: u32)
     let end = listing_text::end_of(part, block);
     for place in start..end {
         let n = listing_text::put_place(out, part, place);
-        if !write_line(output, out, n) {
-            return false;
-        }
+        write_line(output, out, n)?;
         if statements <= place {
-            return true;
+            return Ok(());
         }
     }
-    true
+    Ok(())
 }
 
-fn list_block(output: &impl Print, out: &mut [u8], part: &[u8], block: u32) -> bool
+fn list_block(output: &impl Print, out: &mut [u8], part: &[u8], block: u32) -> io::Result<()>
     requires { (160 ≤ length out.old) × (code_at part.now ≤ length part.now) × (length part.now ≤ 65536) × (block < blocks_of part.now) }
 {
     let n = listing_text::put_block_head(out, part, block);
-    if !write_line(output, out, n) {
-        return false;
-    }
+    write_line(output, out, n)?;
     list_statements(output, out, part, block)
 }
 
 // The blocks, then the bytes that are no whole statement.
-fn list_blocks(output: &impl Print, out: &mut [u8], part: &[u8]) -> bool
+fn list_blocks(output: &impl Print, out: &mut [u8], part: &[u8]) -> io::Result<()>
     requires { (160 ≤ length out.old) × (code_at part.now ≤ length part.now) × (length part.now ≤ 65536) }
 {
     let blocks = listing_text::blocks_of(part);
     for block in 0..blocks {
-        if !list_block(output, out, part, block) {
-            return false;
-        }
+        list_block(output, out, part, block)?;
     }
     let n = listing_text::put_behind(out, part);
     write_line(output, out, n)
 }
 
-fn list_node(output: &impl Print, out: &mut [u8], node: u8, part: &[u8]) -> bool
+fn list_node(output: &impl Print, out: &mut [u8], node: u8, part: &[u8]) -> io::Result<()>
     requires { (160 ≤ length out.old) × (length part.now ≤ 65536) }
 {
-    let n = listing_text::put_node_head(out, node as u32, part);
-    if !write_line(output, out, n) {
-        return false;
-    }
+    let n = listing_text::put_node_head(out, u32::from(node), part);
+    write_line(output, out, n)?;
     if part.len() < 6 {
-        return true;
+        return Ok(());
     }
     if part.len() < listing_text::code_at(part) {
-        return true;
+        return Ok(());
     }
     list_blocks(output, out, part)
 }
 
-fn list_nodes(output: &impl Print, out: &mut [u8], program: &[u8], nodes: u8) -> bool
+fn list_nodes(output: &impl Print, out: &mut [u8], program: &[u8], nodes: u8) -> io::Result<()>
     requires { (160 ≤ length out.old) × (length program.now ≤ 65536) }
 {
     for node in 0..nodes {
-        if !list_node(output, out, node, calls::part(program, node)) {
-            return false;
-        }
+        list_node(output, out, node, calls::part(program, node))?;
     }
-    true
+    Ok(())
 }
 
-fn list_program(output: &impl Print, out: &mut [u8], program: &[u8]) -> bool
+fn list_program(output: &impl Print, out: &mut [u8], program: &[u8]) -> io::Result<()>
     requires { (160 ≤ length out.old) × (length program.now ≤ 65536) }
 {
     let n = listing_text::put_program_head(out, program);
-    if !write_line(output, out, n) {
-        return false;
-    }
+    write_line(output, out, n)?;
     if program.len() < 6 {
-        return true;
+        return Ok(());
     }
     list_nodes(output, out, program, program[3])
 }
@@ -105,7 +95,7 @@ fn main(rt: HostRuntime) {
     let n = streams::read_full(&mut rt.stdin(), &mut input);
     // The longest lines are those of a node: fewer than 160 bytes.
     let mut out = [0u8; 160];
-    if !list_program(&rt.stdout(), &mut out, &input[..n]) {
-        streams::say(&rt.stderr(), b"The listing could not be written.\n");
+    if list_program(&rt.stdout(), &mut out, &input[..n]).is_err() {
+        streams::say_line(&rt.stderr(), "The listing could not be written.");
     }
 }

@@ -1,11 +1,11 @@
 -- The lines of the edges from a location, one after the other, and that they are those of the definition. Assumes nothing.
-use mathlib.Core.Path.{◌≡◌, refl, sym, ap, subst, ◌∙◌}
+use mathlib.Core.Path.{◌≡◌, refl, sym, ap, ◌∙◌}
 use mathlib.Core.Bool.{Bool, true, false, cond}
-use mathlib.Core.List.{List, [], ◌∷◌, ◌++◌, append-nil}
-use Prim.Native.Nat.{ℕ, ◌+◌, ◌<◌}
+use mathlib.Core.List.{List, [], ◌++◌, append-nil}
+use Prim.Native.Nat.{ℕ, ◌+◌}
 use borrow.Author.Tests.{eqb-true, eqb-false, eq-eqb, ne_eqb}
 use lib.Dec.{eqb}
-use lib.ListN.{length, get_or}
+use lib.ListN.{get_or}
 use mir.Syntax.{w8}
 use mir.Val.{Fits}
 use Rattle.model.specs.declared.Location.{Location}
@@ -22,7 +22,7 @@ use Rattle.schedule.proofs.Fields.{each_snoc}
 use Rattle.reasons.specs.declared.Asked.{Asked}
 use Rattle.reasons.specs.Stays.{named_by, Present}
 use Rattle.reasons.proofs.EdgeReasons.{edges_before, before_in, before_out}
-use Rattle.reasons.proofs.Laying.{each_same, in_limits, clock_there, edge_in, same_reason}
+use Rattle.reasons.proofs.Laying.{each_same, clock_there, edge_in, same_reason}
 use Rattle.text.specs.Words.{Added, ascii, field}
 use Rattle.schedule_text.specs.ScheduleText.{passage_line}
 use Rattle.text.proofs.Appended.{next, nothing, same_words}

@@ -1,7 +1,7 @@
-// Why this edge, in words, written into a lent slice: the passage, then a line an edge from its location. The definition is specs/ReasonText.antt.
+// Why this edge, in words, written into a lent slice, since there is no heap: the passage, then a line an edge from its location. The definition is specs/ReasonText.antt.
 #![tactic(auto)]
 
-pub mod words;
+pub mod sentences;
 
 ghost use Rattle.std.specs.Prelude.{◌≡◌, List, [], ◌++◌, ℕ, ◌+◌, ◌*◌, ◌≤◌, ◌<◌, length};
 ghost use Rattle.model.specs.Lists.{accepted, each};
@@ -44,7 +44,7 @@ fn put_edge(
     let reason = reasons::telling::reason_from(standing, e, taken, entry.tick, ready);
     let colon = put_field(out, at, b"edge ", e as u32);
     let words = put(out, colon, b": ");
-    let line = words::put_reason(
+    let line = sentences::put_reason(
         out, words, edge, location, entry, taken, ready, end, reason, budgets,
     );
     put(out, line, b"\n")
@@ -75,8 +75,7 @@ fn put_edges(
         + layout::COMPONENT_HEADER
         + parts::wide(table[start + layout::COMPONENT_LOCATIONS]) * layout::LOCATION_WIDTH;
     let mut at = from;
-    let mut e: usize = 0;
-    while e < count {
+    for e in 0..count {
         at = put_edge(
             out,
             at,
@@ -90,7 +89,6 @@ fn put_edges(
             budgets,
         );
         place += decoder::arc_length(&table[place..], budgets);
-        e += 1;
     }
     at
 }

@@ -7,7 +7,7 @@ use native.Mathlib.Numerals.{add-one}
 use native.Mathlib.Omega.{arith}
 use borrow.Author.Tests.{eq-eqb, ne_eqb, eqb-true, eqb-false}
 use lib.Dec.{ltb, eqb}
-use lib.ListN.{length, drop, length-append}
+use lib.ListN.{length, length-append}
 use lib.Seq.{sets}
 use Rattle.model.specs.declared.Location.{Location}
 use Rattle.model.specs.declared.Reason.{Reason}
@@ -15,10 +15,9 @@ use Rattle.model.specs.declared.Reason.TheVariants.{Taken, DataBound, NoWindow, 
 use Rattle.model.specs.Lists.{only, from, below, each, snoc}
 use Rattle.model.specs.Table.{Arc, Component, location_of, arc_of}
 use Rattle.model.specs.Window.{Entry, ready_of, past_of, data_holds, first_failing, long_enough}
-use Rattle.model.specs.Reasons.{reason_by, edges_from, reason_number, reason_bound}
+use Rattle.model.specs.Reasons.{reason_by, reason_number, reason_bound}
 use Rattle.model.proofs.Basics.Bools.{clash}
 use Rattle.model.proofs.Basics.Members.{only_append}
-use Rattle.window.specs.declared.Standing.{Standing}
 use Rattle.window.specs.declared.Standing.TheVariants.{Elsewhere, Blocked, Windowless, Candidate}
 use Rattle.window.specs.Views.{standing_of}
 use Rattle.schedule.proofs.Fields.{laid_more}

@@ -1,15 +1,13 @@
 -- The bytes of the reasons are those of the definition, and the answer of the call. Assumes nothing.
 use mathlib.Core.Path.{◌≡◌, refl, sym, ap, ap₂, subst, ◌∙◌}
-use mathlib.Core.Bool.{Bool, true, false, cond}
 use mathlib.Core.List.{List, [], ◌∷◌, ◌++◌}
-use Prim.Native.Nat.{ℕ, ◌+◌, ◌*◌, ◌≤◌, ◌<◌}
+use Prim.Native.Nat.{ℕ, ◌*◌, ◌≤◌, ◌<◌}
 use native.Mathlib.Omega.{arith}
 use borrow.Author.Tests.{le-leb, lt-leb}
 use lib.ListN.{length, get_or, drop}
 use mir.Syntax.{w8}
 use mir.Val.{Fits}
 use Rattle.model.specs.declared.Location.{Location}
-use Rattle.model.specs.declared.Verdict.{Verdict}
 use Rattle.model.specs.declared.Verdict.TheVariants.{Accepted, Refused}
 use Rattle.model.specs.Lists.{◌∈◌, here, there, each, Answer, accepted, refused}
 use Rattle.model.specs.Table.{Component, no_location, header_of, sizes_of, location_of, arc_of}
@@ -21,7 +19,6 @@ use Rattle.model.proofs.Basics.Walk.{all_at}
 use Rattle.model.proofs.Schedule.Own.{all_then}
 use Rattle.model.proofs.Schedule.Answered.{told_edge, reasons_length}
 use Rattle.window.specs.Views.{entry_of}
-use Rattle.schedule.specs.Going.{cut}
 use Rattle.schedule.proofs.Cut.{ready_cut, failing_cut, blocked_cut, windowless_cut, arc_in}
 use Rattle.schedule.proofs.Tables.{limits_of}
 use Rattle.reasons.specs.declared.Asked.{Asked}

@@ -1,12 +1,12 @@
 -- What a question names: from the rows of an accepted schedule to the definition's answer. Assumes nothing.
-use mathlib.Core.Path.{◌≡◌, refl, sym, ap, subst, ◌∙◌}
-use mathlib.Core.Bool.{Bool, true, false, cond, ◌&&◌}
-use mathlib.Core.List.{List, map}
+use mathlib.Core.Path.{◌≡◌, refl, sym, ap, ◌∙◌}
+use mathlib.Core.Bool.{Bool, true, false, cond}
+use mathlib.Core.List.{List}
 use mathlib.Core.Option.{Option, none, some}
 use Prim.Native.Nat.{ℕ, ◌+◌, ◌*◌, ◌≤◌, ◌<◌}
 use native.Mathlib.Omega.{arith}
 use borrow.Author.Tests.{lt-ltb, le-ltb, eqb-true}
-use lib.Dec.{ltb, eqb}
+use lib.Dec.{eqb}
 use lib.ListN.{length, get_or}
 use mir.Syntax.{w8}
 use mir.Val.{Fits}
@@ -15,16 +15,15 @@ use Rattle.model.specs.Lists.{Answer, accepted, refused, ◌after◌, or_else}
 use Rattle.model.specs.Table.{Read, size}
 use Rattle.model.specs.Reader.{read_table}
 use Rattle.model.specs.Places.{Valid, read_of, component_in, start_of}
-use Rattle.model.specs.Schedule.{Passage, schedule, light}
-use Rattle.model.specs.Checks.{limit, no_passage, passage_at, accepted_schedule_of}
-use Rattle.model.specs.Calls.{accepted_schedule_in}
-use Rattle.model.specs.Reasons.{askable, asked_in, asked}
+use Rattle.model.specs.Schedule.{Passage}
+use Rattle.model.specs.Checks.{no_passage, passage_at, accepted_schedule_of}
+use Rattle.model.specs.Reasons.{asked_in, asked}
 use Rattle.model.proofs.Basics.Walk.{all_at}
 use Rattle.model.proofs.Reader.Located.{valid_read}
 use Rattle.model.specs.Window.{Entry}
 use Rattle.window.specs.Views.{entry_of}
 use Rattle.schedule.specs.Going.{cut}
-use Rattle.rows.specs.Rows.{num, message_of, row_passage, rows_of}
+use Rattle.rows.specs.Rows.{num, message_of}
 use Rattle.rows.proofs.Placed.{known_bytes}
 use Rattle.schedule.specs.declared.Scheduled.{Scheduled}
 use Rattle.schedule.specs.Filled as filled
@@ -34,7 +33,7 @@ use Rattle.calls.proofs.Answering.{planned}
 use Rattle.passages.proofs.Bounds.{all_small}
 use Rattle.reasons.specs.declared.Stay.{Stay}
 use Rattle.reasons.specs.declared.Asked.{Asked}
-use Rattle.reasons.specs.Stays.{Walked, Stayed, named_by, Present, Answers}
+use Rattle.reasons.specs.Stays.{Walked, Stayed, named_by, Answers}
 
 module _ (bs : List ℕ) (c k : ℕ) where
   -- refused by 1 to 6

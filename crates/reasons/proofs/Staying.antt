@@ -1,27 +1,23 @@
 -- The walk to the passage of a component at a tick: turn by turn. Assumes nothing.
-use mathlib.Core.Path.{◌≡◌, refl, sym, ap, ap₂, subst, ◌∙◌}
-use mathlib.Core.Bool.{true}
+use mathlib.Core.Path.{◌≡◌, sym, ap, ap₂, subst, ◌∙◌}
 use mathlib.Core.List.{List, [], ◌∷◌}
-use mathlib.Core.Option.{Option}
-use Prim.Native.Nat.{ℕ, zero, suc, ◌+◌, ◌≤◌, ◌<◌}
+use Prim.Native.Nat.{ℕ, suc, ◌+◌, ◌≤◌, ◌<◌}
 use native.Mathlib.Omega.{arith}
 use lib.ListN.{length, get_or}
 use lib.IntN.{pos}
-use lib.ListN.{replicate}
 use mir.Syntax.{w8}
 use mir.Val.{Fits}
 use Rattle.model.specs.Lists.{All, Bytes, accepted}
-use Rattle.model.specs.Table.{Arc, Table, header_of, size, sizes_of, component_of, arc_of}
+use Rattle.model.specs.Table.{Arc, header_of, sizes_of, arc_of}
 use Rattle.model.specs.Window.{leads_to, leaves}
 use Rattle.model.specs.Reader.{byte}
-use Rattle.model.specs.Places.{read_of, component_in, start_of, Valid}
+use Rattle.model.specs.Places.{read_of, component_in, start_of}
 use Rattle.model.specs.Schedule.{Passage, passage_arc, light, start_entry}
-use Rattle.model.specs.Checks.{limit, no_passage, passage_at}
+use Rattle.model.specs.Checks.{limit, passage_at}
 use Rattle.model.specs.Chains.{IsSchedule}
-use Rattle.model.specs.Reasons.{passage_number}
 use Rattle.model.proofs.Reader.Located.{valid_in}
 use Rattle.model.proofs.Schedule.Replayed.{Ahead, ahead_start, ahead_other, ahead_here, ahead_next, ahead_end}
-use Rattle.model.proofs.Schedule.Reasoned.{Named, named}
+use Rattle.model.proofs.Schedule.Reasoned.{named}
 use Rattle.window.specs.declared.Entry.{Entry}
 use Rattle.window.specs.Views.{entry_of}
 use Rattle.rows.specs.Rows.{num, message_of, row_passage, RowKnown}

@@ -7,7 +7,6 @@ use Rattle.model.specs.Places.{read_of, component_in, start_of, Valid}
 use Rattle.model.specs.Schedule.{Passage, light}
 use Rattle.model.specs.Checks.{passage_at, accepted_schedule_of}
 use Rattle.model.specs.Reasons.{passage_number}
-use Rattle.window.specs.declared.Entry.{Entry}
 use Rattle.window.specs.Views.{entry_of}
 use Rattle.rows.specs.Rows.{num, message_of, row_passage}
 use Rattle.schedule.specs.Filled.{AcceptedRows}

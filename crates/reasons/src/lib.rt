@@ -84,15 +84,13 @@ fn stay_at(
     ensures { Stayed table.now rows.now count c tick result }
 {
     let mut at = schedule::start_entry(table, start);
-    let mut i: usize = 0;
-    while i < count {
+    for i in 0..count {
         if rows::number(rows, i, rows::COMPONENT) == parts::wide32(c) {
             if tick < rows::number(rows, i, rows::END) {
                 return stay_in(rows, i, at);
             }
             at = replay::grown(table, rows, i, at, budgets);
         }
-        i += 1;
     }
     Stay { row: count, at }
 }

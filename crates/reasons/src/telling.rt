@@ -113,11 +113,9 @@ pub fn count_edges(table: &[u8], start: usize, c: u8, here: u8, budgets: bool) -
         + layout::COMPONENT_HEADER
         + parts::wide(table[start + layout::COMPONENT_LOCATIONS]) * layout::LOCATION_WIDTH;
     let mut k: usize = 0;
-    let mut e: usize = 0;
-    while e < count {
+    for _ in 0..count {
         k += counted(table[place + layout::EDGE_SOURCE], here);
         place += decoder::arc_length(&table[place..], budgets);
-        e += 1;
     }
     k
 }
@@ -151,8 +149,7 @@ pub fn put_reasons(
         + layout::COMPONENT_HEADER
         + parts::wide(table[start + layout::COMPONENT_LOCATIONS]) * layout::LOCATION_WIDTH;
     let mut k: usize = 0;
-    let mut e: usize = 0;
-    while e < count {
+    for e in 0..count {
         k = put_edge(
             &table[place..],
             location,
@@ -165,6 +162,5 @@ pub fn put_reasons(
             budgets,
         );
         place += decoder::arc_length(&table[place..], budgets);
-        e += 1;
     }
 }

@@ -1,5 +1,5 @@
 -- The numbers of the place that is told are small, for a table's bytes; and a walk that goes on has kept no place. Assumes nothing.
-use mathlib.Core.Path.{◌≡◌, refl, sym, ap, ◌∙◌}
+use mathlib.Core.Path.{◌≡◌, refl, ◌∙◌}
 use mathlib.Core.Bool.{Bool, true, false, cond, ◌&&◌, not}
 use mathlib.Core.List.{List, [], ◌∷◌}
 use Prim.Native.Nat.{ℕ, zero, suc, pred, ◌+◌, ◌-◌, ◌^◌, min, ◌≤◌, ◌<◌}
@@ -7,13 +7,12 @@ use native.Mathlib.Omega.{arith}
 use borrow.Author.Tests.{eqb-true, eqb-false}
 use borrow.Author.Rules.{rules}
 use lib.Dec.{eqb}
-use lib.ListN.{length, drop}
+use lib.ListN.{length}
 use Rattle.model.specs.declared.Sizes.{Sizes}
 use Rattle.model.specs.declared.TableHeader.{TableHeader}
 use Rattle.model.specs.Lists.{Bytes}
-use Rattle.model.specs.Reader.{byte, word, listed, body_start, header_at}
+use Rattle.model.specs.Reader.{byte, word, body_start, header_at}
 use Rattle.model.proofs.Basics.Words.{byte_small}
-use Rattle.parts.specs.Place.{channels_before}
 use Rattle.table.specs.Directory.{header_of}
 use Rattle.refusal_place.specs.Ranges.{bytes_field, word_field, channel_field, allowed, number_at, data_limit, item_least, item_limit, fields_of, width_of}
 use Rattle.refusal_place.specs.Walk.{nowhere, going, stops_if, fits, once, ends, ranged, contents, passed, inside, one_part, one_pair, counted, numbered, of_component, of_edge, several, items, budget_part, edge_from, edge, edges, sizes_from, end_from, length_stated, body_from, component_from, component, components, place_of}

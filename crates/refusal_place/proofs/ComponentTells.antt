@@ -15,7 +15,7 @@ use Rattle.model.specs.Table.{Component}
 use Rattle.model.specs.Reader.{byte, ok, fault, ◌then◌, part, many, read_location, read_arc, head_fine, sizes_at, component_with, finished, read_body, read_component}
 use Rattle.table.proofs.Pieces.{few-clocks}
 use Rattle.refusal_place.specs.Ranges.{bytes_field, head_fields}
-use Rattle.refusal_place.specs.Walk.{going, ends, passed, inside, one_part, counted, numbered, of_component, several, edge, sizes_from, component}
+use Rattle.refusal_place.specs.Walk.{going, ends, passed, inside, one_part, counted, numbered, of_component, several, edge, sizes_from}
 use Rattle.refusal_place.specs.declared.Part.TheVariants.{ComponentHead, Location, ComponentEnd}
 use Rattle.refusal_place.specs.declared.Subject.{Subject}
 use Rattle.refusal_place.specs.declared.Walk.{Walk}

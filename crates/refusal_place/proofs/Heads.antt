@@ -1,28 +1,13 @@
 -- The numbers of a component's and of an edge's first bytes, one after the other; the ranges of a receive edge's counts. Assumes nothing.
+use Rattle.parts.specs.Kinds.{kind_of, kind_byte}
 use mathlib.Core.Path.{◌≡◌, refl}
 use mathlib.Core.List.{List, [], ◌∷◌}
-use Prim.Native.Nat.{ℕ, zero, suc, ◌^◌, min, ◌≤◌}
-use native.Mathlib.Omega.{arith}
+use Prim.Native.Nat.{ℕ, zero, suc, ◌^◌, min}
 use Rattle.model.specs.declared.Sizes.{Sizes}
 use Rattle.refusal_place.specs.Ranges.{byte_field, head_fields, edge_fields, data_limit, item_least, item_limit}
 use Rattle.refusal_place.specs.Walk.{ranged, contents}
 use Rattle.refusal_place.specs.declared.Subject.{Subject}
 use Rattle.refusal_place.specs.declared.Walk.{Walk}
-
-pub data_receive : (kind : ℕ) → 2 ≤ kind → data_limit kind ≡ 1
-data_receive zero h = absurd (omega arith)
-data_receive (suc zero) h = absurd (omega arith)
-data_receive (suc (suc kind)) h = refl
-
-pub item_receive : (kind : ℕ) → 2 ≤ kind → item_limit kind ≡ 9
-item_receive zero h = absurd (omega arith)
-item_receive (suc zero) h = absurd (omega arith)
-item_receive (suc (suc kind)) h = refl
-
--- an edge that is not internal has an item
-pub item_some : (kind : ℕ) → 1 ≤ kind → item_least kind ≡ 1
-item_some zero h = absurd (omega arith)
-item_some (suc kind) h = refl
 
 module _ (bs : List ℕ) (who : Subject) (w w₁ w₂ w₃ w₄ : Walk) where
   pub head_steps : (n : ℕ) (w₅ : Walk) → w₁ ≡ ranged bs who (byte_field 2 1 17) w → w₂ ≡ ranged bs who (byte_field 3 0 n) w₁ → w₃ ≡ ranged bs who (byte_field 4 1 5) w₂
@@ -37,3 +22,9 @@ module _ (bs : List ℕ) (who : Subject) (w w₁ w₂ w₃ w₄ : Walk) where
       → w₅ ≡ contents bs who (edge_fields s kind) w
   unfolding contents
   edge_steps s kind n limit w₅ p q a b c d e = rw (e, d, c, b, a, p, q)
+
+-- the fields of an edge hang on its kind alone
+pub fields_by_kind : (s : Sizes) (byte : ℕ) → edge_fields s (kind_byte (kind_of byte)) ≡ edge_fields s byte
+fields_by_kind s zero = refl
+fields_by_kind s (suc zero) = refl
+fields_by_kind s (suc (suc n)) = refl

@@ -8,15 +8,14 @@ use lib.Dec.{eqb}
 use lib.ListN.{length, take, drop, length-take}
 use Rattle.model.specs.declared.Sizes.{Sizes}
 use Rattle.model.specs.Reader.{Parsed, byte, many, read_location, read_arc}
-use Rattle.parts.specs.declared.Next.{Next}
-use Rattle.parts.specs.declared.Next.TheVariants.{At, Fault}
+use Rattle.std.specs.Prelude.{Result, Ok}
+use Rattle.parts.specs.declared.PartFault.{PartFault}
 use Rattle.parts.specs.declared.Kind.TheVariants.{Locations}
 use Rattle.parts.specs.Place.{left, failed, skim, Passed, passes}
 use Rattle.parts.proofs.Sequence.{locations_as}
 use Rattle.refusal_place.specs.Ranges.{allowed, number_at, fields_of, width_of, bytes_field, channel_field}
 use Rattle.refusal_place.specs.Walk.{going, stops_if, ranged, contents, fits, once, passed, inside, one_part, one_pair, counted, numbered, of_component, of_edge, several, pairs, items, budget_part, edge_from, edge}
 use Rattle.refusal_place.specs.Passing.{EdgeFine}
-use Rattle.refusal_place.specs.declared.Part.{Part}
 use Rattle.refusal_place.specs.declared.Part.TheVariants.{Location, EdgeHead, Budget, ClockBound, DataBound, Update, Channel, Pair}
 use Rattle.refusal_place.specs.declared.Subject.{Subject}
 use Rattle.refusal_place.specs.declared.Field.{Field}
@@ -143,10 +142,10 @@ module _ (bs : List ℕ) (end : ℕ) (h : end ≤ length bs) (c : ℕ) (w : Walk
         (ap (λ l. skim (read_arc s l)) (sym (drop_take w.at end bs)) ∙ f.2)
 
     -- locations
-    pub locations_over : (n next : ℕ) {r : Next} → Passed (take end bs) w.at r (many (passes Locations s) n (drop w.at (take end bs))) → r ≡ At next
+    pub locations_over : (n next : ℕ) {r : Result ℕ PartFault} → Passed (take end bs) w.at r (many (passes Locations s) n (drop w.at (take end bs))) → r ≡ Ok next
         → (next ≤ end) × (record { at = next; place = w.place } ≡ several bs end s (of_component c Location) n w)
     locations_over n next {r} p e =
-        let q : Passed (take end bs) w.at (At next) (many (passes Locations s) n (drop w.at (take end bs))) = subst (λ x. Passed (take end bs) w.at x (many (passes Locations s) n (drop w.at (take end bs)))) e p in
+        let q : Passed (take end bs) w.at (Ok next) (many (passes Locations s) n (drop w.at (take end bs))) = subst (λ x. Passed (take end bs) w.at x (many (passes Locations s) n (drop w.at (take end bs)))) e p in
         let m : next ≤ end = omega (arith, simp length-take at q.within.1) in (
           m,
           over (many (read_location s) n (rest bs end w.at)) (several bs end s (of_component c Location) n w) (several_kept bs end s (of_component c Location) n w) (locations_tell bs end h small c s n w on k) next m
@@ -159,11 +158,8 @@ locations_stay bs end s c n w e = sym (counted_stays (λ i. one_part bs end s (n
 
 -- ## What the reader answers
 
-pub not_at : {n m : ℕ} → Fault n ≡ At m → ⊥
-not_at e = let z : ◌≡◌ {A = ℕ} 0 1 = cc in omega arith
-
-pub read_fine : (bs : List ℕ) (end : ℕ) (s : Sizes) (at next : ℕ) → end ≤ length bs → s.clocks ≤ 4 → {r : Next} → Passed (take end bs) at r (read_arc s (drop at (take end bs))) → r ≡ At next
+pub read_fine : (bs : List ℕ) (end : ℕ) (s : Sizes) (at next : ℕ) → end ≤ length bs → s.clocks ≤ 4 → {r : Result ℕ PartFault} → Passed (take end bs) at r (read_arc s (drop at (take end bs))) → r ≡ Ok next
     → EdgeFine bs end s at next
 read_fine bs end s at next h few {r} p e =
-    let q : Passed (take end bs) at (At next) (read_arc s (drop at (take end bs))) = subst (λ x. Passed (take end bs) at x (read_arc s (drop at (take end bs)))) e p in
+    let q : Passed (take end bs) at (Ok next) (read_arc s (drop at (take end bs))) = subst (λ x. Passed (take end bs) at x (read_arc s (drop at (take end bs)))) e p in
     (few, omega (arith, simp length-take at q.within.1), q.says)

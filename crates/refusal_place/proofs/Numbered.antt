@@ -1,6 +1,6 @@
 -- Which part of the checks a number comes from: 7 to 9 from the schedule, 10 and more from the checks of it, so that a verdict with 4 to 6 is the reader's.
 -- Assumes nothing.
-use mathlib.Core.Path.{◌≡◌, refl, sym, ap, ◌∙◌}
+use mathlib.Core.Path.{◌≡◌, refl, sym, ap}
 use mathlib.Core.Bool.{Bool, true, false, cond}
 use mathlib.Core.List.{List, [], ◌∷◌}
 use mathlib.Core.Option.{Option, none, some}

@@ -1,4 +1,5 @@
 -- The parts of an edge and of a component one after the other, and the components, as the code walks them. Assumes nothing.
+use Rattle.parts.specs.Kinds.{kind_of, kind_byte}
 use mathlib.Core.Path.{◌≡◌, refl, sym, ap, ◌∙◌}
 use mathlib.Core.Bool.{Bool, true, false, cond}
 use mathlib.Core.List.{List}
@@ -10,16 +11,16 @@ use Rattle.model.specs.declared.Sizes.{Sizes}
 use Rattle.model.specs.declared.TableHeader.{TableHeader}
 use Rattle.model.specs.Reader.{byte, word, header_at}
 use Rattle.refusal_place.specs.Ranges.{word_field}
-use Rattle.refusal_place.specs.Walk.{judged, fits, ends, one_part, counted, of_component, of_edge, several, pairs, items, budget_part, edge_from, sizes_from, end_from, length_stated, body_from, component_from, component, components}
-use Rattle.refusal_place.specs.declared.Part.TheVariants.{ComponentLength, ComponentHead, EdgeHead, Budget, ClockBound, DataBound, Pair, TableEnd}
+use Rattle.refusal_place.specs.Walk.{judged, fits, ends, one_part, counted, of_component, of_edge, several, items, budget_part, edge_from, sizes_from, end_from, length_stated, body_from, component_from, component, components}
+use Rattle.refusal_place.specs.declared.Part.TheVariants.{ComponentLength, ComponentHead, EdgeHead, Budget, ClockBound, DataBound, TableEnd}
 use Rattle.refusal_place.specs.declared.Subject.{Subject}
 use Rattle.refusal_place.specs.declared.Walk.{Walk}
 
 module _ (bs : List ℕ) (end : ℕ) (s : Sizes) (c e : ℕ) where
-  pub items_receive : (kind n : ℕ) (w : Walk) → 2 ≤ kind → items bs end s c e kind n w ≡ pairs bs end s (of_edge c e Pair) n w
-  items_receive zero n w h = absurd (omega arith)
-  items_receive (suc zero) n w h = absurd (omega arith)
-  items_receive (suc (suc kind)) n w h = refl
+  pub items_by_kind : (byte n : ℕ) (w : Walk) → items bs end s c e (kind_byte (kind_of byte)) n w ≡ items bs end s c e byte n w
+  items_by_kind zero n w = refl
+  items_by_kind (suc zero) n w = refl
+  items_by_kind (suc (suc k)) n w = refl
 
   pub edge_is : (from kind n m l : ℕ) (u₁ u₂ u₃ : Subject) (w w₁ wᵇ w₂ w₃ w₄ : Walk) → kind ≡ byte bs from → n ≡ byte bs (from + 4) → m ≡ byte bs (from + 5)
       → l ≡ byte bs (from + 6)

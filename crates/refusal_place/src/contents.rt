@@ -2,11 +2,13 @@
 ghost use Rattle.std.specs.Prelude.{◌≡◌, [], ◌∷◌, ◌+◌, ◌≤◌};
 ghost use Rattle.model.specs.Reader.{byte};
 ghost use Rattle.refusal_place.specs.Ranges.{head_fields, location_fields, edge_fields, data_limit, item_least, item_limit, budget_fields, clock_bound_fields, data_bound_fields, update_fields, channel_fields, pair_fields, byte_field, ticks_field};
+ghost use Rattle.parts.specs.Kinds.{kind_byte};
 ghost use Rattle.refusal_place.specs.Walk.{ranged, contents};
 
 use crate::steps::{byte_at, ranged};
 use crate::{Field, Subject, Walk};
 use model::{Sizes, layout};
+use parts::EdgeKind;
 
 // A number of one byte must be in its range.
 fn byte_range(
@@ -50,7 +52,7 @@ pub fn component_head(table: &[u8], who: Subject, w: Walk) -> Walk
     requires { w.at ≤ 8192 }
     ensures { (result ≡ contents table.now who (head_fields (byte table.now (w.at + 2))) w) × (result.at ≡ w.at) }
 {
-    let n = parts::wide(byte_at(table, w.at + layout::COMPONENT_LOCATIONS));
+    let n = usize::from(byte_at(table, w.at + layout::COMPONENT_LOCATIONS));
     let locations = byte_range(table, who, layout::COMPONENT_LOCATIONS, 1, 17, w);
     let initial = byte_range(table, who, layout::COMPONENT_INITIAL, 0, n, locations);
     let clocks = byte_range(table, who, layout::COMPONENT_CLOCKS, 1, 5, initial);
@@ -62,43 +64,45 @@ pub fn location(table: &[u8], who: Subject, sizes: Sizes, w: Walk) -> Walk
     requires { w.at ≤ 8192 }
     ensures { (result ≡ contents table.now who (location_fields sizes) w) × (result.at ≡ w.at) }
 {
-    let clocks = parts::wide(sizes.clocks);
+    let clocks = usize::from(sizes.clocks);
     let clock = byte_range(table, who, layout::LOCATION_CLOCK, 0, clocks, w);
     bound_range(table, who, layout::LOCATION_BOUND, false, clock)
 }
 
 // The limit of an edge's count of data bounds, by its kind.
-fn data_limit(kind: u8) -> usize
-    ensures { result ≡ data_limit kind }
+fn data_limit(kind: EdgeKind) -> usize
+    ensures { result ≡ data_limit (kind_byte kind) }
 {
     match kind {
-        0 => 5,
-        1 => 5,
-        _ => 1,
+        EdgeKind::Internal | EdgeKind::Send => 5,
+        EdgeKind::Receive => 1,
     }
 }
 
 // The limits of its count of items.
-fn item_least(kind: u8) -> usize
-    ensures { result ≡ item_least kind }
-{
-    if kind == 0 { 0 } else { 1 }
-}
-
-fn item_limit(kind: u8) -> usize
-    ensures { result ≡ item_limit kind }
+fn item_least(kind: EdgeKind) -> usize
+    ensures { result ≡ item_least (kind_byte kind) }
 {
     match kind {
-        0 => 5,
-        1 => 2,
-        _ => 9,
+        EdgeKind::Internal => 0,
+        EdgeKind::Send | EdgeKind::Receive => 1,
+    }
+}
+
+fn item_limit(kind: EdgeKind) -> usize
+    ensures { result ≡ item_limit (kind_byte kind) }
+{
+    match kind {
+        EdgeKind::Internal => 5,
+        EdgeKind::Send => 2,
+        EdgeKind::Receive => 9,
     }
 }
 
 // An edge's counts of bounds and items.
-fn edge_counts(table: &[u8], who: Subject, kind: u8, w: Walk) -> Walk
+fn edge_counts(table: &[u8], who: Subject, kind: EdgeKind, w: Walk) -> Walk
     requires { w.at ≤ 8192 }
-    ensures { (result ≡ contents table.now who (byte_field 4 0 5 ∷ byte_field 5 0 (data_limit kind) ∷ byte_field 6 (item_least kind) (item_limit kind) ∷ []) w) × (result.at ≡ w.at) }
+    ensures { (result ≡ contents table.now who (byte_field 4 0 5 ∷ byte_field 5 0 (data_limit (kind_byte kind)) ∷ byte_field 6 (item_least (kind_byte kind)) (item_limit (kind_byte kind)) ∷ []) w) × (result.at ≡ w.at) }
 {
     let clock = byte_range(table, who, layout::EDGE_CLOCK_GUARDS, 0, 5, w);
     let data = byte_range(
@@ -124,9 +128,9 @@ pub fn edge_head(table: &[u8], who: Subject, sizes: Sizes, w: Walk) -> Walk
     requires { w.at ≤ 8192 }
     ensures { (result ≡ contents table.now who (edge_fields sizes (byte table.now w.at)) w) × (result.at ≡ w.at) }
 {
-    let own = byte_at(table, w.at);
-    let n = parts::wide(sizes.locations);
-    let limit = parts::wide(parts::mask_limit(sizes.clocks));
+    let own = EdgeKind::from(byte_at(table, w.at));
+    let n = usize::from(sizes.locations);
+    let limit = usize::from(parts::mask_limit(sizes.clocks));
     let kind = byte_range(table, who, layout::EDGE_KIND, 0, 3, w);
     let source = byte_range(table, who, layout::EDGE_SOURCE, 0, n, kind);
     let destination = byte_range(table, who, layout::EDGE_DESTINATION, 0, n, source);
@@ -146,7 +150,7 @@ pub fn clock_bound(table: &[u8], who: Subject, sizes: Sizes, w: Walk) -> Walk
     requires { w.at ≤ 8192 }
     ensures { (result ≡ contents table.now who (clock_bound_fields sizes) w) × (result.at ≡ w.at) }
 {
-    let clocks = parts::wide(sizes.clocks);
+    let clocks = usize::from(sizes.clocks);
     let clock = byte_range(table, who, layout::GUARD_SUBJECT, 0, clocks, w);
     let low = bound_range(table, who, layout::GUARD_LOW, false, clock);
     bound_range(table, who, layout::GUARD_HIGH, true, low)
@@ -156,7 +160,7 @@ pub fn data_bound(table: &[u8], who: Subject, sizes: Sizes, w: Walk) -> Walk
     requires { w.at ≤ 8192 }
     ensures { (result ≡ contents table.now who (data_bound_fields sizes) w) × (result.at ≡ w.at) }
 {
-    let variables = parts::wide(sizes.variables);
+    let variables = usize::from(sizes.variables);
     byte_range(table, who, layout::GUARD_SUBJECT, 0, variables, w)
 }
 
@@ -164,7 +168,7 @@ pub fn update(table: &[u8], who: Subject, sizes: Sizes, w: Walk) -> Walk
     requires { w.at ≤ 8192 }
     ensures { (result ≡ contents table.now who (update_fields sizes) w) × (result.at ≡ w.at) }
 {
-    let variables = parts::wide(sizes.variables);
+    let variables = usize::from(sizes.variables);
     let variable = byte_range(table, who, layout::UPDATE_VARIABLE, 0, variables, w);
     byte_range(table, who, layout::UPDATE_ADDS, 0, 2, variable)
 }
@@ -173,7 +177,7 @@ pub fn channel(table: &[u8], who: Subject, sizes: Sizes, w: Walk) -> Walk
     requires { w.at ≤ 8192 }
     ensures { (result ≡ contents table.now who (channel_fields sizes) w) × (result.at ≡ w.at) }
 {
-    let channels = parts::wide(sizes.channels);
+    let channels = usize::from(sizes.channels);
     byte_range(table, who, layout::PAIR_CHANNEL, 0, channels, w)
 }
 
@@ -182,6 +186,6 @@ pub fn pair(table: &[u8], who: Subject, sizes: Sizes, w: Walk) -> Walk
     ensures { (result ≡ contents table.now who (pair_fields sizes) w) × (result.at ≡ w.at) }
 {
     let first = channel(table, who, sizes, w);
-    let locations = parts::wide(sizes.locations);
+    let locations = usize::from(sizes.locations);
     byte_range(table, who, layout::PAIR_LOCATION, 0, locations, first)
 }

@@ -1,15 +1,15 @@
 // The parts of a component one after the other, up to its edges (specs/Walk.antt).
-ghost use Rattle.std.specs.Prelude.{◌≡◌, true, ℕ, ◌+◌, ◌*◌, ◌≤◌, length};
+ghost use Rattle.std.specs.Prelude.{◌≡◌, true, ◌+◌, ◌*◌, ◌≤◌, length, IfSome};
 ghost use Rattle.refusal_place.specs.declared.Part.TheVariants.{Location, Pair};
-ghost use Rattle.parts.specs.declared.Next.TheVariants.{At};
 ghost use Rattle.refusal_place.specs.Ranges.{width_of};
+ghost use Rattle.parts.specs.Kinds.{kind_byte};
 ghost use Rattle.refusal_place.specs.Passing.{EdgeFine};
 ghost use Rattle.refusal_place.specs.Walk.{going, inside, one_part, one_pair, numbered, of_component, of_edge, several, pairs, items, budget_part, edge_from, edge, edges};
 
 use crate::steps::{byte_at, fits, going, passed, stops_if};
 use crate::{Field, Part, Subject, Walk, contents};
 use model::{Sizes, layout};
-use parts::{Kind, Next};
+use parts::{EdgeKind, Kind, PartFault};
 
 // ## Parts
 
@@ -78,13 +78,20 @@ pub fn one_pair(table: &[u8], end: usize, from: usize, sizes: Sizes, who: Subjec
         offset: layout::PAIR_CHANNEL,
         width: 1,
         least: 0,
-        limit: parts::wide(sizes.channels),
+        limit: usize::from(sizes.channels),
         unbounded: false,
     };
-    let twice = parts::listed_before(&table[from..], parts::wide(who.index), channel);
+    let twice = parts::listed_before(&table[from..], usize::from(who.index), channel);
     passed(
         layout::PAIR_WIDTH,
-        stops_if(twice, 6, who, field, parts::wide(channel), tried),
+        stops_if(
+            twice,
+            PartFault::ListedTwice,
+            who,
+            field,
+            usize::from(channel),
+            tried,
+        ),
     )
 }
 
@@ -93,13 +100,7 @@ pub fn one_pair(table: &[u8], end: usize, from: usize, sizes: Sizes, who: Subjec
 pub fn numbered(who: Subject, index: u8) -> Subject
     ensures { result ≡ numbered who index }
 {
-    let part = who.part;
-    Subject {
-        component: who.component,
-        part,
-        edge: who.edge,
-        index,
-    }
+    Subject { index, ..who }
 }
 
 pub fn of_component(component: u8, part: Part) -> Subject
@@ -130,10 +131,8 @@ pub fn several(table: &[u8], end: usize, sizes: Sizes, who: Subject, count: u8, 
     ensures { (result ≡ several table.now end sizes who count w) × (result.at ≤ end) }
 {
     let mut walk = w;
-    let mut i: u8 = 0;
-    while i < count {
+    for i in 0..count {
         walk = one_part(table, end, sizes, numbered(who, i), walk);
-        i += 1;
     }
     walk
 }
@@ -145,10 +144,8 @@ pub fn pairs(table: &[u8], end: usize, sizes: Sizes, who: Subject, count: u8, w:
 {
     let from = w.at;
     let mut walk = w;
-    let mut i: u8 = 0;
-    while i < count {
+    for i in 0..count {
         walk = one_pair(table, end, from, sizes, numbered(who, i), walk);
-        i += 1;
     }
     walk
 }
@@ -160,26 +157,21 @@ pub fn items(
     sizes: Sizes,
     c: u8,
     e: u8,
-    kind: u8,
+    kind: EdgeKind,
     count: u8,
     w: Walk,
 ) -> Walk
     requires { (w.at ≤ end) × (end ≤ length table.now) × (length table.now ≤ 8192) }
-    ensures { (result ≡ items table.now end sizes c e kind count w) × (result.at ≤ end) }
+    ensures { (result ≡ items table.now end sizes c e (kind_byte kind) count w) × (result.at ≤ end) }
 {
-    if kind == 0 {
-        return several(table, end, sizes, of_edge(c, e, Part::Update), count, w);
+    match kind {
+        EdgeKind::Internal => several(table, end, sizes, of_edge(c, e, Part::Update), count, w),
+        EdgeKind::Send => {
+            let who = numbered(of_edge(c, e, Part::Channel), 0);
+            one_part(table, end, sizes, who, w)
+        }
+        EdgeKind::Receive => pairs(table, end, sizes, of_edge(c, e, Part::Pair), count, w),
     }
-    if kind == 1 {
-        return one_part(
-            table,
-            end,
-            sizes,
-            numbered(of_edge(c, e, Part::Channel), 0),
-            w,
-        );
-    }
-    pairs(table, end, sizes, of_edge(c, e, Part::Pair), count, w)
 }
 
 // The budget of an edge, where edges have one.
@@ -199,7 +191,7 @@ pub fn edge_from(table: &[u8], end: usize, sizes: Sizes, c: u8, e: u8, w: Walk) 
     ensures { (result ≡ edge_from table.now end sizes c e w.at w) × (result.at ≤ end) }
 {
     let from = w.at;
-    let kind = byte_at(table, from);
+    let kind = EdgeKind::from(byte_at(table, from));
     let clock_bounds = byte_at(table, from + layout::EDGE_CLOCK_GUARDS);
     let data_bounds = byte_at(table, from + layout::EDGE_DATA_GUARDS);
     let count = byte_at(table, from + layout::EDGE_ITEMS);
@@ -229,28 +221,24 @@ pub fn locations(table: &[u8], end: usize, sizes: Sizes, c: u8, count: u8, w: Wa
     requires { (w.at ≤ end) × (end ≤ length table.now) × (length table.now ≤ 8192) }
     ensures { (result ≡ several table.now end sizes (of_component c Location) count w) × (result.at ≤ end) }
 {
-    if going(w) {
-        let fine = parts::parts(&table[..end], w.at, count, Kind::Locations, sizes);
-        return match fine {
-            Next::At(next) => {
-                let place = w.place;
-                Walk { at: next, place }
-            }
-            Next::Fault(_) => several(table, end, sizes, of_component(c, Part::Location), count, w),
-        };
+    if !going(w) {
+        return w;
     }
-    w
+    match parts::parts(&table[..end], w.at, count, Kind::Locations, sizes) {
+        Ok(next) => Walk { at: next, ..w },
+        Err(_) => several(table, end, sizes, of_component(c, Part::Location), count, w),
+    }
 }
 
 // Where the edge at a place ends, if the reader finds it in order.
-fn fine_edge(table: &[u8], end: usize, sizes: Sizes, at: usize) -> Next
+fn fine_edge(table: &[u8], end: usize, sizes: Sizes, at: usize) -> Option<usize>
     requires { (at ≤ end) × (end ≤ length table.now) }
-    ensures { (next : ℕ) → result ≡ At next → EdgeFine table.now end sizes at next }
+    ensures { IfSome result (λ next. EdgeFine table.now end sizes at next) }
 {
     if 4 < sizes.clocks {
-        return Next::Fault(5);
+        return None;
     }
-    parts::arc(&table[..end], at, sizes)
+    parts::arc(&table[..end], at, sizes).ok()
 }
 
 // An edge that the reader finds in order is passed over, any other is walked.
@@ -258,17 +246,13 @@ pub fn edge(table: &[u8], end: usize, sizes: Sizes, c: u8, e: u8, w: Walk) -> Wa
     requires { (w.at ≤ end) × (end ≤ length table.now) × (length table.now ≤ 8192) }
     ensures { (result ≡ edge table.now end sizes c e w) × (result.at ≤ end) }
 {
-    if going(w) {
-        let fine = fine_edge(table, end, sizes, w.at);
-        return match fine {
-            Next::At(next) => {
-                let place = w.place;
-                Walk { at: next, place }
-            }
-            Next::Fault(_) => edge_from(table, end, sizes, c, e, w),
-        };
+    if !going(w) {
+        return w;
     }
-    w
+    match fine_edge(table, end, sizes, w.at) {
+        Some(next) => Walk { at: next, ..w },
+        None => edge_from(table, end, sizes, c, e, w),
+    }
 }
 
 pub fn edges(table: &[u8], end: usize, sizes: Sizes, c: u8, count: u8, w: Walk) -> Walk
@@ -276,10 +260,8 @@ pub fn edges(table: &[u8], end: usize, sizes: Sizes, c: u8, count: u8, w: Walk) 
     ensures { (result ≡ edges table.now end sizes c count w) × (result.at ≤ end) }
 {
     let mut walk = w;
-    let mut e: u8 = 0;
-    while e < count {
+    for e in 0..count {
         walk = edge(table, end, sizes, c, e, walk);
-        e += 1;
     }
     walk
 }

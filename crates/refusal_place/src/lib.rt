@@ -8,15 +8,17 @@ mod steps;
 
 ghost use Rattle.std.specs.Prelude.{◌≡◌, ◌+◌, min, ◌≤◌, ◌<◌, length};
 ghost use Rattle.model.specs.Reader.{byte, header_at};
+ghost use Rattle.refusal_place.specs.Ranges.{part_number};
 ghost use Rattle.refusal_place.specs.Walk.{nowhere, sizes_from, length_stated, body_from, component_from, component, components, place_of};
 
 use crate::edges::{edges, locations, of_component, one_part};
 use crate::steps::{byte_at, ends, fits, going, judged, number_at};
 use model::{Sizes, TableHeader, layout};
+use parts::PartFault;
 
 // The parts of a table, in document 01's words: "each part (component, its first 7 bytes, location, edge's 7 bytes, bound, item)". A component begins
 // with its length; what is left over at its end, and behind the last one, is told as a part too.
-#[derive(Clone, Copy)]
+#[derive(Clone, Copy, Debug, PartialEq, Eq)]
 pub enum Part {
     ComponentLength,
     ComponentHead,
@@ -30,6 +32,28 @@ pub enum Part {
     ComponentEnd,
     TableEnd,
     Budget,
+}
+
+// The number of a part, where an enum cannot go; 0 is no part.
+impl From<Part> for u8 {
+    ghost from_gives = { λ part number. number ≡ part_number part };
+
+    fn from(part: Part) -> u8 {
+        match part {
+            Part::ComponentLength => 1,
+            Part::ComponentHead => 2,
+            Part::Location => 3,
+            Part::EdgeHead => 4,
+            Part::ClockBound => 5,
+            Part::DataBound => 6,
+            Part::Update => 7,
+            Part::Channel => 8,
+            Part::Pair => 9,
+            Part::ComponentEnd => 10,
+            Part::TableEnd => 11,
+            Part::Budget => 12,
+        }
+    }
 }
 
 // A part by its numbers; 255 where it has none.
@@ -100,7 +124,13 @@ fn length_stated(table: &[u8], c: u8, w: Walk) -> Walk
         unbounded: false,
     };
     let stated = number_at(table, w.at, 2);
-    judged(4, who, field, stated, fits(table.len(), who, 2, w))
+    judged(
+        PartFault::NoFit,
+        who,
+        field,
+        stated,
+        fits(table.len(), who, 2, w),
+    )
 }
 
 // What follows the first 7 bytes of the component that starts at `from`: locations, then edges, and no byte more.
@@ -163,10 +193,8 @@ fn components(table: &[u8], count: u8, header: TableHeader, w: Walk) -> Walk
     ensures { result ≡ components table.now w }
 {
     let mut walk = w;
-    let mut c: u8 = 0;
-    while c < count {
+    for c in 0..count {
         walk = component(table, header, c, walk);
-        c += 1;
     }
     ends(table.len(), of_component(count - 1, Part::TableEnd), walk)
 }
@@ -192,24 +220,12 @@ fn nowhere() -> Place
     }
 }
 
-// What the components' reader has to know of the header.
-fn heading(table: &[u8]) -> TableHeader
-    ensures { result ≡ header_at table.now }
-{
-    let channels = byte_at(table, layout::TABLE_CHANNELS);
-    let version = byte_at(table, layout::TABLE_VERSION);
-    TableHeader {
-        channels,
-        budgets: layout::BUDGET_VERSION <= version,
-    }
-}
-
 // The place of a refusal with 4, 5 or 6; number 0 for any other table.
 pub fn locate(table: &[u8]) -> Place
     ensures value { result ≡ place_of table.now }
     ensures offset_bound { 0 < result.number → result.start + result.offset ≤ 8192 }
 {
-    if table::header(table) != 0 {
+    if table::header(table).is_err() {
         return nowhere();
     }
     let start = Walk {
@@ -217,7 +233,7 @@ pub fn locate(table: &[u8]) -> Place
         place: nowhere(),
     };
     let count = byte_at(table, layout::TABLE_COMPONENTS);
-    let header = heading(table);
+    let header = table::heading(table);
     let walked = components(table, count, header, start);
     walked.place
 }

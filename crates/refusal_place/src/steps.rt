@@ -1,10 +1,12 @@
 // One test of the walk: a number of the table against its range (specs/Walk.antt, 'Stops' and 'Parts').
 ghost use Rattle.std.specs.Prelude.{◌≡◌, ◌≤◌};
 ghost use Rattle.model.specs.Reader.{byte};
-ghost use Rattle.refusal_place.specs.Ranges.{bytes_field, allowed, number_at, part_number};
+ghost use Rattle.refusal_place.specs.Ranges.{bytes_field, allowed, number_at};
+ghost use Rattle.parts.specs.Place.{fault_number};
 ghost use Rattle.refusal_place.specs.Walk.{going, place_at, stops_if, judged, fits, ends, ranged, passed};
 
-use crate::{Field, Part, Place, Subject, Walk};
+use crate::{Field, Place, Subject, Walk};
+use parts::PartFault;
 
 // ## Numbers and ranges
 
@@ -21,9 +23,9 @@ pub fn number_at(table: &[u8], at: usize, width: usize) -> usize
     ensures { result ≡ number_at table.now at width }
 {
     if width == 2 {
-        parts::wide(byte_at(table, at)) * 256 + parts::wide(byte_at(table, at + 1))
+        usize::from(byte_at(table, at)) * 256 + usize::from(byte_at(table, at + 1))
     } else {
-        parts::wide(byte_at(table, at))
+        usize::from(byte_at(table, at))
     }
 }
 
@@ -50,33 +52,19 @@ pub fn allowed(field: Field, value: usize) -> bool
 
 // ## Steps
 
-pub fn part_number(part: Part) -> u8
-    ensures { result ≡ part_number part }
+pub fn place_at(
+    question: PartFault,
+    who: Subject,
+    start: usize,
+    field: Field,
+    value: usize,
+) -> Place
+    ensures { result ≡ place_at (fault_number question) who start field value }
 {
-    match part {
-        Part::ComponentLength => 1,
-        Part::ComponentHead => 2,
-        Part::Location => 3,
-        Part::EdgeHead => 4,
-        Part::ClockBound => 5,
-        Part::DataBound => 6,
-        Part::Update => 7,
-        Part::Channel => 8,
-        Part::Pair => 9,
-        Part::ComponentEnd => 10,
-        Part::TableEnd => 11,
-        Part::Budget => 12,
-    }
-}
-
-pub fn place_at(number: u8, who: Subject, start: usize, field: Field, value: usize) -> Place
-    ensures { result ≡ place_at number who start field value }
-{
-    let part = who.part;
     Place {
-        number,
+        number: u8::from(question),
         component: who.component,
-        part: part_number(part),
+        part: u8::from(who.part),
         edge: who.edge,
         index: who.index,
         start,
@@ -93,25 +81,31 @@ pub fn place_at(number: u8, who: Subject, start: usize, field: Field, value: usi
 pub fn going(w: Walk) -> bool
     ensures { result ≡ going w }
 {
-    let place = w.place;
-    place.number == 0
+    w.place.number == 0
 }
 
 // The walk stops where a test finds a fault, unless it has stopped before.
-pub fn stops_if(fault: bool, number: u8, who: Subject, field: Field, value: usize, w: Walk) -> Walk
-    ensures { (result ≡ stops_if fault number who field value w) × (result.at ≡ w.at) }
+pub fn stops_if(
+    fault: bool,
+    question: PartFault,
+    who: Subject,
+    field: Field,
+    value: usize,
+    w: Walk,
+) -> Walk
+    ensures { (result ≡ stops_if fault (fault_number question) who field value w) × (result.at ≡ w.at) }
 {
     if parts::both(going(w), fault) {
-        let place = place_at(number, who, w.at, field, value);
-        return Walk { at: w.at, place };
+        let place = place_at(question, who, w.at, field, value);
+        return Walk { place, ..w };
     }
     w
 }
 
-pub fn judged(number: u8, who: Subject, field: Field, value: usize, w: Walk) -> Walk
-    ensures { (result ≡ judged number who field value w) × (result.at ≡ w.at) }
+pub fn judged(question: PartFault, who: Subject, field: Field, value: usize, w: Walk) -> Walk
+    ensures { (result ≡ judged (fault_number question) who field value w) × (result.at ≡ w.at) }
 {
-    stops_if(!allowed(field, value), number, who, field, value, w)
+    stops_if(!allowed(field, value), question, who, field, value, w)
 }
 
 // A part of so many bytes must fit.
@@ -119,7 +113,13 @@ pub fn fits(end: usize, who: Subject, width: usize, w: Walk) -> Walk
     requires { w.at ≤ end }
     ensures { (result ≡ fits end who width w) × (result.at ≡ w.at) }
 {
-    judged(4, who, bytes_field(width, 8193), end - w.at, w)
+    judged(
+        PartFault::NoFit,
+        who,
+        bytes_field(width, 8193),
+        end - w.at,
+        w,
+    )
 }
 
 // No byte may be left.
@@ -127,7 +127,7 @@ pub fn ends(end: usize, who: Subject, w: Walk) -> Walk
     requires { w.at ≤ end }
     ensures { (result ≡ ends end who w) × (result.at ≡ w.at) }
 {
-    judged(4, who, bytes_field(0, 1), end - w.at, w)
+    judged(PartFault::NoFit, who, bytes_field(0, 1), end - w.at, w)
 }
 
 // A number of the part must be in its range.
@@ -136,7 +136,7 @@ pub fn ranged(table: &[u8], who: Subject, field: Field, w: Walk) -> Walk
     ensures { (result ≡ ranged table.now who field w) × (result.at ≡ w.at) }
 {
     let value = number_at(table, w.at + field.offset, field.width);
-    judged(5, who, field, value, w)
+    judged(PartFault::OutOfRange, who, field, value, w)
 }
 
 // The next part.
@@ -145,10 +145,9 @@ pub fn passed(width: usize, w: Walk) -> Walk
     ensures { result ≡ passed width w }
 {
     if going(w) {
-        let place = w.place;
         return Walk {
             at: w.at + width,
-            place,
+            ..w
         };
     }
     w

@@ -1,23 +1,21 @@
 -- The reasons of edges, one after the other. Assumes nothing.
 use mathlib.Core.Path.{◌≡◌, refl, sym, ap, ◌∙◌}
-use mathlib.Core.Bool.{Bool, true, false, cond, ◌&&◌, not}
+use mathlib.Core.Bool.{Bool, true, false}
 use mathlib.Core.List.{List, [], ◌∷◌}
-use Prim.Native.Nat.{ℕ, suc, ◌+◌, ◌≤◌, ◌<◌}
+use Prim.Native.Nat.{ℕ, ◌+◌, ◌≤◌, ◌<◌}
 use native.Mathlib.Numerals.{add-one}
 use native.Mathlib.Omega.{arith}
 use lib.Dec.{eqb}
 use lib.ListN.{length, drop, get_or, drop_of_length-le}
 use lib.Seq.{drop-cons}
 use Rattle.model.specs.declared.Location.{Location}
-use Rattle.model.specs.Lists.{only}
 use Rattle.model.specs.Table.{Arc, no_arc}
 use Rattle.model.specs.Window.{Entry, data_holds, long_enough}
-use Rattle.opening_place.specs.Opening.{Reasons}
 use Rattle.window.specs.declared.Standing.{Standing}
 use Rattle.window.specs.declared.Standing.TheVariants.{Elsewhere, Blocked, Windowless, Candidate}
 use Rattle.refused_opening.specs.declared.Tally.{Tally}
 use Rattle.window.specs.Views.{standing_of}
-use Rattle.refused_opening.specs.Counting.{leaves, fails, shut, reasons_of, leaving_of, reasons_among}
+use Rattle.refused_opening.specs.Counting.{leaves, fails, shut, reasons_of, reasons_among}
 
 -- ## One edge after the other
 

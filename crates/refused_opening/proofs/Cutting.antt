@@ -1,7 +1,7 @@
 -- Reasons and updates at an entry without the clocks and variables that its component lacks. Assumes nothing.
 use mathlib.Core.Path.{◌≡◌, refl, ap, ◌∙◌}
 use mathlib.Core.Bool.{Bool, true, false, cond}
-use mathlib.Core.List.{List, [], ◌∷◌}
+use mathlib.Core.List.{List, ◌∷◌}
 use mathlib.Core.Option.{Option, none, some}
 use Prim.Native.Nat.{ℕ, suc, ◌<◌}
 use lib.Dec.{eqb}
@@ -11,18 +11,16 @@ use lib.Seq.{take-set-lt}
 use Rattle.model.specs.declared.Update.{Update}
 use Rattle.model.specs.Lists.{All, empty, more, only}
 use Rattle.model.specs.declared.TableHeader.{TableHeader}
-use Rattle.model.specs.Table.{Arc, Component, no_location, location_of, arc_of}
+use Rattle.model.specs.Table.{Component, no_location, location_of, arc_of}
 use Rattle.model.specs.Limits.{ComponentIn}
-use Rattle.model.specs.Window.{Entry, Pick, blocked, windowless, choice, in_range, new_value}
+use Rattle.model.specs.Window.{Entry, Pick, blocked, windowless, choice, new_value}
 use Rattle.model.proofs.Basics.Walk.{all_at}
 use Rattle.model.proofs.Schedule.Own.{all_then}
 use Rattle.model.proofs.Window.Choice.{choice_taken}
-use Rattle.opening_place.specs.Opening.{reasons, first_out, Overflow, overflow_with, out_of, overflow, edge_told, update_told}
+use Rattle.opening_place.specs.Opening.{reasons, first_out, overflow_with, out_of, overflow}
 use Rattle.schedule.specs.Going.{cut}
 use Rattle.schedule.proofs.Cut.{blocked_cut, windowless_cut, new_cut, arc_updates, choice_cut}
-use Rattle.refused_opening.specs.declared.FirstOut.{FirstOut}
 use Rattle.refused_opening.specs.Counting.{leaving_of, reasons_among}
-use Rattle.refused_opening.specs.Counting.{out_of as out_found}
 
 -- ## What is selected
 
@@ -82,10 +80,3 @@ module _ (C : Component) (e : Entry) where
 
   pub one_taken : {p : Pick} {o : Option ℕ} → choice C e ≡ some p → o ≡ first_out 0 (arc_of C p.edge).updates e.values → overflow C e ≡ overflow_with p.edge o
   one_taken {p} q r = rw (q, r) refl
-
-module _ (r : FirstOut) (edge : ℕ) {o : Option Overflow} (is : o ≡ overflow_with edge (out_found r)) where
-  pub told_none : {k u : ℕ} → r.found ≡ false → k ≡ 255 → u ≡ 255 → (k ≡ edge_told o) × (u ≡ update_told o)
-  told_none e a b = rw (is, e) (a, b)
-
-  pub told_some : r.found ≡ true → (edge ≡ edge_told o) × (r.update ≡ update_told o)
-  told_some e = rw (is, e) (refl, refl)

@@ -2,7 +2,7 @@
 use mathlib.Core.Path.{◌≡◌, refl, sym, ap, ◌∙◌}
 use mathlib.Core.Bool.{Bool, true, false, cond}
 use mathlib.Core.List.{List, [], ◌∷◌}
-use mathlib.Core.Option.{Option, none, some}
+use mathlib.Core.Option.{none, some}
 use Prim.Native.Nat.{ℕ, suc, ◌+◌, ◌-◌, ◌<◌, ◌≤◌}
 use native.Mathlib.Numerals.{add-one}
 use native.Mathlib.Omega.{arith}
@@ -14,35 +14,30 @@ use Rattle.model.specs.Reader.{update_at}
 use Rattle.model.specs.Places.{list_at}
 use Rattle.model.specs.Window.{in_range, new_value, updated}
 use Rattle.parts.proofs.Skim.{tail}
-use Rattle.window.specs.declared.Updated.{Updated}
-use Rattle.window.specs.Views.{updated_of}
+use Rattle.std.specs.Prelude.{Option as Found}
+use Rattle.std.specs.Prelude.{Some, None}
+use Rattle.window.specs.Views.{option_of}
 use Rattle.window.proofs.Rests.{next, no_more, all_first, all_rest}
 use Rattle.opening_place.specs.Opening.{first_out}
-use Rattle.refused_opening.specs.declared.FirstOut.{FirstOut}
-use Rattle.refused_opening.specs.Counting.{out_of}
 
 -- one update carried out: it leaves the range, or the others follow
-module _ (u : Update) (us : List Update) (vs : List ℤ) (r : Updated) (is : updated_of r ≡ updated (u ∷ []) vs) (i : ℕ) where
-  one : updated_of r ≡ cond (in_range (new_value u vs)) (some (set vs u.variable (new_value u vs))) none
-  unfolding updated
-  one = is
-
-  pub out_here : r.fits ≡ false → first_out i (u ∷ us) vs ≡ some i
-  unfolding first_out
-  out_here e = go (in_range (new_value u vs)) (sym (ap (λ b. cond b (some r.values) none) e) ∙ one)
+module _ (u : Update) (us : List Update) (vs : List ℤ) (i : ℕ) where
+  pub out_here : none ≡ updated (u ∷ []) vs → first_out i (u ∷ us) vs ≡ some i
+  unfolding first_out updated
+  out_here = go (in_range (new_value u vs))
     where
       go : (b : Bool) → none ≡ cond b (some (set vs u.variable (new_value u vs))) none
           → cond b (first_out (suc i) us (set vs u.variable (new_value u vs))) (some i) ≡ some i
       go true q = let z : ◌≡◌ {A = ℕ} 0 1 = cc in absurd (omega arith)
       go false q = refl
 
-  pub out_later : r.fits ≡ true → first_out i (u ∷ us) vs ≡ first_out (suc i) us r.values
-  unfolding first_out
-  out_later e = go (in_range (new_value u vs)) (sym (ap (λ b. cond b (some r.values) none) e) ∙ one)
+  pub out_later : (after : List ℤ) → some after ≡ updated (u ∷ []) vs → first_out i (u ∷ us) vs ≡ first_out (suc i) us after
+  unfolding first_out updated
+  out_later after = go (in_range (new_value u vs))
     where
-      go : (b : Bool) → some r.values ≡ cond b (some (set vs u.variable (new_value u vs))) none
-          → cond b (first_out (suc i) us (set vs u.variable (new_value u vs))) (some i) ≡ first_out (suc i) us r.values
-      go true q = let e : set vs u.variable (new_value u vs) ≡ r.values = cc in ap (first_out (suc i) us) e
+      go : (b : Bool) → some after ≡ cond b (some (set vs u.variable (new_value u vs))) none
+          → cond b (first_out (suc i) us (set vs u.variable (new_value u vs))) (some i) ≡ first_out (suc i) us after
+      go true q = let e : set vs u.variable (new_value u vs) ≡ after = cc in ap (first_out (suc i) us) e
       go false q = let z : ◌≡◌ {A = ℕ} 0 1 = cc in absurd (omega arith)
 
 -- ## In a loop over their bytes
@@ -70,24 +65,26 @@ module _ (bytes : List ℕ) (count at done : ℕ) (left : done < count) where
       let m : count - done - 1 ≡ count - (done + 1) = omega arith in
       rw (← m) (all_rest update_at 4 bytes at (count - done) (omega arith) a)
 
-  module _ (vs : List ℤ) (r : Updated) (is : updated_of r ≡ updated (list_at update_at 4 1 (take (length bytes - at) (drop at bytes))) vs) where
-    carried : updated_of r ≡ updated (update_at (drop at bytes) ∷ []) vs
+  module _ (vs : List ℤ) (r : Found (List ℤ)) (is : option_of r ≡ updated (list_at update_at 4 1 (take (length bytes - at) (drop at bytes))) vs) where
+    carried : option_of r ≡ updated (update_at (drop at bytes) ∷ []) vs
     unfolding list_at
     carried = rw (tail bytes at) at is
 
-    pub stops_here : r.fits ≡ false → first_out done (rest bytes count at done) vs ≡ some done
-    stops_here e = ap (λ us. first_out done us vs) cons ∙ out_here (update_at (drop at bytes)) (rest bytes count (at + 4) (done + 1)) vs r carried done e
-
-    pub goes_on : r.fits ≡ true → first_out done (rest bytes count at done) vs ≡ first_out (done + 1) (rest bytes count (at + 4) (done + 1)) r.values
-    goes_on e =
+    pub stops_here : r ≡ None → first_out done (rest bytes count at done) vs ≡ some done
+    stops_here e =
         ap (λ us. first_out done us vs) cons
-        ∙ out_later (update_at (drop at bytes)) (rest bytes count (at + 4) (done + 1)) vs r carried done e
-        ∙ ap (λ k. first_out k (rest bytes count (at + 4) (done + 1)) r.values) (sym (add-one done))
+        ∙ out_here (update_at (drop at bytes)) (rest bytes count (at + 4) (done + 1)) vs done (sym (ap option_of e) ∙ carried)
+
+    pub goes_on : {after : List ℤ} → r ≡ Some after → first_out done (rest bytes count at done) vs ≡ first_out (done + 1) (rest bytes count (at + 4) (done + 1)) after
+    goes_on {after} e =
+        ap (λ us. first_out done us vs) cons
+        ∙ out_later (update_at (drop at bytes)) (rest bytes count (at + 4) (done + 1)) vs done after (sym (ap option_of e) ∙ carried)
+        ∙ ap (λ k. first_out k (rest bytes count (at + 4) (done + 1)) after) (sym (add-one done))
 
 pub none_left : (bytes : List ℕ) (count at done : ℕ) (vs : List ℤ) → count ≤ done → first_out done (rest bytes count at done) vs ≡ none
 unfolding first_out
 none_left bytes count at done vs h = rw (no_more update_at 4 (drop at bytes) (count - done) (omega arith)) refl
 
-pub no_updates : (r : FirstOut) (vs : List ℤ) {us : List Update} → r.found ≡ false → us ≡ [] → out_of r ≡ first_out 0 us vs
+pub no_updates : (vs : List ℤ) {us : List Update} → us ≡ [] → none ≡ first_out 0 us vs
 unfolding first_out
-no_updates r vs e q = rw (e, q) refl
+no_updates vs q = rw q refl

@@ -4,15 +4,15 @@ use mathlib.Core.Bool.{Bool, true, false, cond}
 use mathlib.Core.Logic.{◌↔◌}
 use mathlib.Core.List.{List, [], ◌∷◌}
 use mathlib.Core.Option.{Option, none, some}
-use Prim.Native.Nat.{ℕ, zero, suc, ◌+◌, ◌-◌, ◌≤◌, ◌<◌}
+use Prim.Native.Nat.{ℕ, zero, suc, ◌+◌, ◌-◌, ◌≤◌}
 use native.Mathlib.Omega.{arith}
 use borrow.Author.Tests.{eq-eqb, leb-true, leb-false}
 use lib.Dec.{leb, ltb}
 use lib.IntN.{ℤ}
 use lib.ListN.{length, length-append}
 use Rattle.model.specs.declared.Verdict.{Verdict}
-use Rattle.model.specs.declared.Verdict.TheVariants.{Accepted, Refused}
-use Rattle.model.specs.Lists.{Bytes, snoc, Answer, accepted, refused, ◌after◌}
+use Rattle.model.specs.declared.Verdict.TheVariants.{Refused}
+use Rattle.model.specs.Lists.{snoc, Answer, accepted, refused, ◌after◌}
 use Rattle.model.specs.Table.{Component, Table, Read, size, component_of, arc_of}
 use Rattle.model.specs.Reader.{read_table}
 use Rattle.model.specs.Window.{Entry, Pick, choice, updated, channel_of}
@@ -21,10 +21,9 @@ use Rattle.model.specs.Checks.{limit, checked, accepted_schedule, accepted_sched
 use Rattle.model.specs.Calls.{verdict_of, accepted_schedule_in, check_call}
 use Rattle.model.proofs.Reader.Limits.{read_limits}
 use Rattle.table.proofs.Answered.{verdict_refused}
-use Rattle.refusal_place.proofs.Numbered.{Numbered, Opening, opening_numbered, schedule_numbered, checked_numbered}
+use Rattle.refusal_place.proofs.Numbered.{Numbered, opening_numbered, checked_numbered}
 use Rattle.refusal_place.proofs.Whole.{told}
-use Rattle.opening_place.specs.declared.RefusedOpening.{RefusedOpening}
-use Rattle.opening_place.specs.Opening.{Stop, stops_or, begin_stop, while_below_stop, go_on_stop, first_or, schedule_stop, reasons, reasons_for, overflow, overflow_for, edge_told, update_told, opening_told, stop_read, table_stop, opening_of}
+use Rattle.opening_place.specs.Opening.{Stop, stops_or, begin_stop, while_below_stop, go_on_stop, first_or, schedule_stop, opening_told, stop_read, table_stop, opening_of}
 use Rattle.opening_place.proofs.Stopped.{Stopped, schedule_stops}
 use Rattle.opening_place.proofs.Why.{eight, nine}
 use Rattle.refused_opening.specs.Promised.{Why, OpeningTold}

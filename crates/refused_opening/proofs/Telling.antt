@@ -1,5 +1,11 @@
 -- What is told of a refused opening, field by field. Assumes nothing.
-use mathlib.Core.Path.{◌≡◌, sym, ap}
+use Rattle.std.specs.Prelude.{Option as Found}
+use Rattle.std.specs.Prelude.{Some, None}
+use Rattle.std.specs.Option.{unwrap_or}
+use Rattle.opening_place.specs.Opening.{Overflow as Told}
+use Rattle.refused_opening.specs.declared.Overflow.{Overflow}
+use Rattle.refused_opening.specs.Counting.{overflow_of}
+use mathlib.Core.Path.{◌≡◌, refl, sym, ap, ◌∙◌}
 use mathlib.Core.List.{List}
 use mathlib.Core.Option.{Option, some}
 use Prim.Native.Nat.{ℕ}
@@ -40,6 +46,22 @@ pub told_is : (s : Stop) {clocks : List ℕ} {values : List ℤ} {leaving blocke
     })
     (opening_told (some s))
 told_is s a b c d e f g = rw (a, b, c, d, e, f, g)
+
+-- the edge and the update that are told, with 255 where there is none
+module _ (found : Found Overflow) {o : Option Told} (is : overflow_of found ≡ o) where
+  pub edge_shown : (unwrap_or found (record { edge = 255; update = 255 })).edge ≡ edge_told o
+  edge_shown = go found ∙ ap edge_told is
+    where
+      go : (found : Found Overflow) → (unwrap_or found (record { edge = 255; update = 255 })).edge ≡ edge_told (overflow_of found)
+      go None = refl
+      go (Some x) = refl
+
+  pub update_shown : (unwrap_or found (record { edge = 255; update = 255 })).update ≡ update_told o
+  update_shown = go found ∙ ap update_told is
+    where
+      go : (found : Found Overflow) → (unwrap_or found (record { edge = 255; update = 255 })).update ≡ update_told (overflow_of found)
+      go None = refl
+      go (Some x) = refl
 
 -- a schedule that is made stops nowhere
 pub nothing_told : (bs : List ℕ) → verdict_of (schedule_of bs) ≡ Accepted → no_opening ≡ opening_told (stop_in bs)

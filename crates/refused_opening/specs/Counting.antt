@@ -1,5 +1,6 @@
 -- The reasons of edges that are no candidates, counted edge by edge; and a first update that is out of range.
-use Rattle.std.specs.Prelude.{cond, List, ℕ, eqb, length}
+use Rattle.std.specs.Prelude.{List, ℕ, eqb, length, Some, None}
+use Rattle.std.specs.Prelude.{Option as Found}
 use Rattle.std.proofs.Math.Option.{Option, none, some}
 use Rattle.model.specs.declared.Location.{Location}
 use Rattle.model.specs.Lists.{only}
@@ -9,7 +10,8 @@ use Rattle.opening_place.specs.Opening.{Reasons}
 use Rattle.window.specs.declared.Standing.{Standing}
 use Rattle.window.specs.declared.Standing.TheVariants.{Elsewhere, Blocked, Windowless, Candidate}
 use Rattle.refused_opening.specs.declared.Tally.{Tally}
-use Rattle.refused_opening.specs.declared.FirstOut.{FirstOut}
+use Rattle.refused_opening.specs.declared.Overflow.{Overflow}
+use Rattle.opening_place.specs.Opening.{Overflow as ToldOverflow}
 
 -- ## Edges
 
@@ -49,5 +51,7 @@ reasons_among l at as' =
 
 -- ## Updates
 
-abbrev pub out_of : FirstOut → Option ℕ
-out_of r = cond r.found (some r.update) none
+-- the edge taken and its update that leaves the range
+abbrev pub overflow_of : Found Overflow → Option ToldOverflow
+overflow_of None = none
+overflow_of (Some o) = some (record { edge = o.edge; update = o.update })

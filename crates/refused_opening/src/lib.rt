@@ -27,19 +27,18 @@ pub struct Tally {
     pub windowless: u8,
 }
 
-// Whether an update leaves the range, and the first that does.
-#[derive(Clone, Copy)]
-pub struct FirstOut {
-    pub found: bool,
-    pub update: u8,
-}
-
-// The edge taken and its first update that leaves the range; 255 where none does.
+// The edge taken and its first update that leaves the range.
 #[derive(Clone, Copy)]
 pub struct Overflow {
     pub edge: u8,
     pub update: u8,
 }
+
+// What is told where no update leaves the range.
+const NO_OVERFLOW: Overflow = Overflow {
+    edge: 255,
+    update: 255,
+};
 
 // No opening is refused.
 fn no_opening() -> RefusedOpening
@@ -63,39 +62,21 @@ fn no_opening() -> RefusedOpening
     }
 }
 
-fn clock_shown(there: bool, clock: u32) -> u32
-    ensures { result ≡ cond there clock 0 }
+fn shown<T: Copy>(there: bool, item: T, absent: T) -> T
+    ensures { result ≡ cond there item absent }
 {
-    if there { clock } else { 0 }
+    if there { item } else { absent }
 }
 
-fn value_shown(there: bool, value: i16) -> i16
-    ensures { result ≡ cond there value (pos 0) }
-{
-    if there { value } else { 0 }
-}
-
-// The clocks that a component has, 0 for the others.
-fn clocks_shown(count: u8, clocks: [u32; 4]) -> [u32; 4]
-    ensures { result ≡ four 0 (take count clocks) }
+// The clocks or variables that a component has, with another value for those that it lacks.
+fn first_shown<T: Copy>(count: u8, items: [T; 4], absent: T) -> [T; 4]
+    ensures { result ≡ four absent (take count items) }
 {
     [
-        clock_shown(0 < count, clocks[0]),
-        clock_shown(1 < count, clocks[1]),
-        clock_shown(2 < count, clocks[2]),
-        clock_shown(3 < count, clocks[3]),
-    ]
-}
-
-// The variables likewise.
-fn values_shown(count: u8, values: [i16; 4]) -> [i16; 4]
-    ensures { result ≡ four (pos 0) (take count values) }
-{
-    [
-        value_shown(0 < count, values[0]),
-        value_shown(1 < count, values[1]),
-        value_shown(2 < count, values[2]),
-        value_shown(3 < count, values[3]),
+        shown(0 < count, items[0], absent),
+        shown(1 < count, items[1], absent),
+        shown(2 < count, items[2], absent),
+        shown(3 < count, items[3], absent),
     ]
 }
 
@@ -107,15 +88,15 @@ fn told(table: &[u8], start: usize, number: u8, c: u8, passage: usize, at: Entry
     let clocks = at.clocks;
     let values = at.values;
     let reasons = reasons::reasons_for(table, start, c, number, at);
-    let overflow = updates::overflow_for(table, start, c, number, at);
+    let overflow = updates::overflow_for(table, start, c, number, at).unwrap_or(NO_OVERFLOW);
     RefusedOpening {
         number,
         component: c,
         passage: passage as u32,
         location: at.location,
         tick: at.tick,
-        clocks: clocks_shown(table[start + layout::COMPONENT_CLOCKS], clocks),
-        values: values_shown(table[start + layout::COMPONENT_VARIABLES], values),
+        clocks: first_shown(table[start + layout::COMPONENT_CLOCKS], clocks, 0),
+        values: first_shown(table[start + layout::COMPONENT_VARIABLES], values, 0),
         leaving: reasons.leaving,
         blocked: reasons.blocked,
         windowless: reasons.windowless,

@@ -57,12 +57,10 @@ fn count_edges(table: &[u8], start: usize, c: u8, location: Location, at: Entry)
         + layout::COMPONENT_HEADER
         + parts::wide(table[start + layout::COMPONENT_LOCATIONS]) * layout::LOCATION_WIDTH;
     let mut tally = none_counted();
-    let mut e: usize = 0;
-    while e < count {
+    for _ in 0..count {
         let found = window::judge(&table[place..], location, at, budgets);
         tally = tallied(tally, found);
         place += decoder::arc_length(&table[place..], budgets);
-        e += 1;
     }
     tally
 }

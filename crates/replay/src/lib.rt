@@ -19,8 +19,7 @@ pub fn grown(table: &[u8], rows: &[u32], i: usize, at: Entry, budgets: bool) -> 
     let place = rows::index(rows, i, rows::PLACE);
     let end = rows::number(rows, i, rows::END);
     let before = at.values;
-    let after = window::updates::edge_update(&table[place..], before, budgets);
-    let values = window::kept_values(after, before);
+    let values = window::updates::edge_update(&table[place..], before, budgets).unwrap_or(before);
     let young = at.clocks;
     let edge = decoder::edge_at(&table[place..], budgets);
     let clocks = window::age(edge.mask, end - at.tick, young);

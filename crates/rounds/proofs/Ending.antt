@@ -17,6 +17,8 @@ use Rattle.recurrence.proofs.ShiftRun.{rested_result}
 use Rattle.recurrence.proofs.Parts.{goes_long, part_ends}
 use Rattle.rows.specs.Rows.{rows_of}
 use Rattle.machine.specs.Running.{setting_in}
+use Rattle.model.specs.declared.End.TheVariants.{Horizon}
+use Rattle.model.specs.Calls.{end_of}
 use Rattle.run.specs.declared.Ended.{Ended}
 use Rattle.run.specs.Ends.{PartEnds, EndsAs}
 use Rattle.rounds.proofs.Moved.{goes_to}
@@ -25,7 +27,7 @@ use Rattle.rounds.proofs.InPart.{InPart, left, run_in, setting-in, rounds_in}
 
 -- the end of a part, with the choices of those before
 abbrev pub Totals : Ended → Ended → ℕ → Type 0
-Totals r e used = (r.end ≡ e.end) × (r.node ≡ e.node) × (r.tick ≡ e.tick) × (r.used ≡ used + e.used) × (r.written ≡ e.written)
+Totals r e used = (r.end ≡ e.end) × (r.tick ≡ e.tick) × (r.used ≡ used + e.used) × (r.written ≡ e.written)
 
 -- a run that is that part, but for the sleeps, ends as it does
 ends_so : (g : Setting) (m : ℕ → ℕ) (program : List ℕ) (X : ℕ) (rows : List ℕ) (n : ℕ) (l : List ℕ) (count used : ℕ) (cs ys : List ℕ) (s : Run) (out₀ : List ℕ) (e r : Ended) (l' : List ℕ) (v' : List ℤ) (out' : List ℕ)
@@ -33,11 +35,10 @@ ends_so : (g : Setting) (m : ℕ → ℕ) (program : List ℕ) (X : ℕ) (rows :
     → EndsAs g cs out₀ r out'
 ends_so g m program X rows n l count used cs ys s out₀ e r l' v' out' whole u p f =
     record {
-      end = f.0 ∙ p.end ∙ sym (ap (λ (x : Result). x.end) whole);
-      node = f.1 ∙ p.node ∙ sym (ap (λ (x : Result). x.node) whole);
-      tick = f.2 ∙ p.tick ∙ sym (ap (λ (x : Result). x.state.tick) whole);
-      used = omega (arith, f.3, p.used, ap (λ (x : Result). x.state.used) whole);
-      written = f.4 ∙ p.written ∙ sym (ap (λ (x : Result). length x.state.observations) whole);
+      end = f.0 ∙ p.end ∙ sym (ap (λ (x : Result). end_of x.end x.node) whole);
+      tick = f.1 ∙ p.tick ∙ sym (ap (λ (x : Result). x.state.tick) whole);
+      used = omega (arith, f.2, p.used, ap (λ (x : Result). x.state.used) whole);
+      written = f.3 ∙ p.written ∙ sym (ap (λ (x : Result). length x.state.observations) whole);
       bytes = rw whole p.bytes;
     }
 
@@ -65,7 +66,7 @@ module _ {bytes : List ℕ} {t : Read} {S : List Passage} {program : List ℕ} {
 
   -- The law: a part that reaches the horizon, or does not reach its own end, is the end of the run.
   pub part_returns : (X : ℕ) → X ≤ until → X ≤ H → ((m : ℕ) → m ≤ until → m ≤ H → m ≤ X) → (e r : Ended) {l' : List ℕ} {v' : List ℤ} {out' : List ℕ}
-      → PartEnds program X rows n l count (drop used choices) I.s out₀ e l' v' out' → (e.end ≡ 0 → H ≤ until) → Totals r e used
+      → PartEnds program X rows n l count (drop used choices) I.s out₀ e l' v' out' → (e.end ≡ Horizon → H ≤ until) → Totals r e used
       → (L : List Passage) → accepted_schedule_to t.table H ≡ accepted L → EndsAs (setting_to t H L) choices out₀ r out'
   part_returns X a b g e r {l'} {v'} {out'} p z f L q = go (ltb until H) refl
     where
@@ -75,7 +76,7 @@ module _ {bytes : List ℕ} {t : Read} {S : List Passage} {program : List ℕ} {
           let same : X ≡ until = omega (arith, g until (omega arith) (omega arith)) in
           let p' = subst (λ (k : ℕ). PartEnds program k rows n l count (drop used choices) I.s out₀ e l' v' out') same p in
           ends_so (setting_to t H L) (left I) program until rows n l count used choices (drop used choices) I.s out₀ e r l' v' out'
-          (whole_run L q ∙ ends_early h (λ o. (let k = z (p'.end ∙ o) in omega arith))) I.used_is p' f
+          (whole_run L q ∙ ends_early h (λ o. (let k = z (p'.end ∙ ap (λ (i : ℕ). end_of i (run_from (setting_in program until rows n l count) (drop used choices) I.s).node) o) in omega arith))) I.used_is p' f
       go false y =
           let h = ltb-false until H y in
           let same : X ≡ H = omega (arith, g H (omega arith) (omega arith)) in

@@ -23,6 +23,8 @@ use Rattle.rows.specs.Rows.{rows_of}
 use Rattle.registers.specs.Words.{row_in}
 use Rattle.machine.specs.Running.{RowIs, ready_at, setting_in, Standing, Running}
 use Rattle.turning.proofs.Running.{running_sleeps}
+use Rattle.model.specs.declared.End.TheVariants.{Horizon}
+use Rattle.run.proofs.Carried.{horizon_end}
 use Rattle.run.specs.declared.Ended.{Ended}
 use Rattle.run.specs.Ends.{most_used, Over, Begun, GoesOn, PartEnds}
 use Rattle.run.proofs.Stages.{first_stage, standing}
@@ -41,7 +43,7 @@ apart R first second c = length (own c (take (second - first) (drop first R)))
 module _ {bytes : List ℕ} {t : Read} {S : List Passage} {program : List ℕ} {n count first second P H : ℕ} {choices out₀ rows l : List ℕ} {v : List ℤ} {out : List ℕ} {tick used written until : ℕ}
     (I : InPart bytes t S program n count first second P H choices out₀ rows l v out tick used written until)
     (nearer : until < H) {e : Ended} {l' : List ℕ} {v' : List ℤ} {out' : List ℕ}
-    (p : PartEnds program until rows n l count (drop used choices) I.s out₀ e l' v' out') (arrives : e.end ≡ 0) where
+    (p : PartEnds program until rows n l count (drop used choices) I.s out₀ e l' v' out') (arrives : e.end ≡ Horizon) where
   -- where it has arrived
   abbrev pub arrived : Run
   arrived = (run_from (setting_in program until rows n l count) (drop used choices) I.s).state
@@ -50,7 +52,7 @@ module _ {bytes : List ℕ} {t : Read} {S : List Passage} {program : List ℕ} {
   goes_on = p.further arrives
 
   end_is : (run_from (setting_in program until rows n l count) (drop used choices) I.s).end ≡ 0
-  end_is = sym p.end ∙ arrives
+  end_is = horizon_end _ _ (sym p.end ∙ arrives)
 
   early : tick < until
   early = omega (arith, I.part.near, I.tick_is, I.until_is)

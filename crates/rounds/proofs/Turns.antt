@@ -15,6 +15,7 @@ use Rattle.machine.specs.Running.{RowsStand, setting_in}
 use Rattle.turning.specs.Turned.{between, MayTurn, Turned}
 use Rattle.turning.proofs.Between.{between_delayed}
 use Rattle.turning.proofs.Running.{running_sleeps, goes_on_turned}
+use Rattle.model.specs.declared.End.TheVariants.{Horizon}
 use Rattle.run.specs.declared.Ended.{Ended}
 use Rattle.run.specs.Ends.{most_used, Begun, PartEnds}
 use Rattle.rounds.proofs.InPart.{InPart, begun_in}
@@ -52,7 +53,7 @@ module _ {bytes : List ℕ} {t : Read} {S : List Passage} {program : List ℕ} {
 
     -- ## From a part to the next
 
-    module _ (nearer : until < H) (arrives : e.end ≡ 0) where
+    module _ (nearer : until < H) (arrives : e.end ≡ Horizon) where
       X-is : X ≡ until
       X-is = omega (arith, nearest until (omega arith) (omega arith))
 

@@ -1,7 +1,8 @@
 // The run to a horizon beyond the table's own (document 02, wish 14), in parts: one after the other by the same rows, each a period later.
 #![tactic(auto)]
 
-ghost use Rattle.std.specs.Prelude.{◌≡◌, List, [], ℕ, ◌+◌, ◌*◌, ◌≤◌, ◌<◌, length};
+ghost use Rattle.std.specs.Prelude.{◌≡◌, true, false, List, [], ℕ, ◌+◌, ◌*◌, ◌≤◌, ◌<◌, length};
+ghost use Rattle.model.specs.declared.End.TheVariants.{Horizon};
 ghost use Rattle.model.specs.Lists.{accepted};
 ghost use Rattle.model.specs.Reader.{byte};
 ghost use Rattle.model.specs.Places.{Valid, read_of};
@@ -13,8 +14,16 @@ ghost use Rattle.recurrence.specs.Recurrence.{accepted_schedule_to};
 ghost use Rattle.period.specs.Rounds.{RoundOf};
 ghost use Rattle.run.specs.Ends.{Started, EndsAs};
 
+use model::End;
 use period::counting::Round;
 use run::Ended;
+
+// Whether a part ends at its horizon.
+fn arrives(end: End) -> bool
+    ensures { (result ≡ true → end ≡ Horizon) × (result ≡ false → end ≡ Horizon → ⊥) }
+{
+    matches!(end, End::Horizon)
+}
 
 // Runs to a horizon beyond the table's own, from the nodes at their programs' start. The rows are those entered before the round's end and one of each
 // component entered there.
@@ -40,8 +49,9 @@ pub fn run_rounds(
     let mut tick: u64 = 0;
     let mut used: usize = 0;
     let mut written: usize = 0;
+    // A loop: how many parts there are is told by where they end.
     loop {
-        let bound = run::lesser(until, last);
+        let bound = until.min(last);
         let part = run::carry_out(
             program,
             rows,
@@ -56,8 +66,8 @@ pub fn run_rounds(
             out,
         );
         used += part.used;
-        if part.end != 0 || last <= until {
-            return run::end_of(part.end, part.node, part.tick, used, part.written);
+        if !arrives(part.end) || last <= until {
+            return run::end_of(part.end, part.tick, used, part.written);
         }
         turning::turn(
             rows,

@@ -1,5 +1,5 @@
 -- What is known of a row of a valid table's passages: its edge stands at its place, whole, and is within the limits. Assumes nothing.
-use mathlib.Core.Path.{◌≡◌, refl, sym, ap, subst}
+use mathlib.Core.Path.{◌≡◌, refl, sym, ap, subst, ◌∙◌}
 use mathlib.Core.Bool.{Bool}
 use mathlib.Core.List.{List}
 use Prim.Native.Nat.{ℕ, ◌+◌, ◌-◌, ◌≤◌, ◌<◌}
@@ -21,7 +21,11 @@ use Rattle.model.proofs.Reader.RoundTrip.{written_read}
 use Rattle.decoder.specs.Decoded.{Decodable}
 use Rattle.decoder.proofs.Callers.{decodable, head_seven}
 use Rattle.parts.proofs.Skim.{tail}
-use Rattle.rows.specs.Rows.{num, row_passage, RowPlaced, RowsPlaced, EdgeStands, RowKnown}
+use Rattle.rows.specs.Rows.{num, row_passage, RowPlaced, RowsPlaced, EdgeStands, RowKnown, option_of}
+use Rattle.rows.proofs.Channels.{sent_small}
+use Rattle.std.specs.Prelude.{IfSome}
+use Rattle.std.specs.declared.option.Option.{Option as Found}
+use Rattle.model.specs.Window.{channel_of}
 
 -- a send's channel is one of the table's
 channel_below : (s : Sizes) (a : Arc) (k : ℕ) → ArcIn s a → Send k ≡ a.edge.action → k < s.channels
@@ -89,6 +93,12 @@ module _ (bs l : List ℕ) (i at : ℕ) (b : (j : ℕ) → Fits w8 (get_or bs j 
 
   pub at_arc : (w : Bool) → w ≡ budgeted bs → arc_at w (take (length bs - at) (drop at bs)) ≡ passage_arc (read_of bs).table (row_passage l i)
   at_arc w same = rw (same, tail bs at, e) (row_arc bs l i (known_bytes bs b) r.valid r.row)
+
+-- the channel that a row's edge sends on is not the number that stands for none
+pub sent_below : (bs l : List ℕ) (i : ℕ) → ((j : ℕ) → Fits w8 (get_or bs j 0)) → RowKnown bs l i → (o : Found ℕ) → option_of o ≡ channel_of (passage_arc (read_of bs).table (row_passage l i)) → IfSome o (λ k. k < 255)
+sent_below bs l i b r o q =
+    let bytes = known_bytes bs b in
+    sent_small (budgeted bs) (drop (num l i 7) bs) (row_stands bs l i bytes r.valid r.row) o (q ∙ ap channel_of (sym (row_arc bs l i bytes r.valid r.row)))
 
 -- a table with a row has a first byte
 pub has_first : (bs l : List ℕ) (i : ℕ) → ((j : ℕ) → Fits w8 (get_or bs j 0)) → RowKnown bs l i → 1 ≤ length bs

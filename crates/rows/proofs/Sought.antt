@@ -3,7 +3,11 @@ use mathlib.Core.Path.{◌≡◌, refl, sym, ap, subst, ◌∙◌}
 use mathlib.Core.Bool.{Bool, true, false, cond, ◌&&◌, ◌||◌, not}
 use mathlib.Core.List.{List, [], ◌∷◌, ◌++◌}
 use mathlib.Core.Option.{Option, none, some}
-use Prim.Native.Nat.{ℕ, zero, suc, ◌+◌, ◌-◌, ◌≤◌, ◌<◌}
+use mathlib.Core.Logic.{inl, inr}
+use Rattle.std.specs.Prelude.{◌⊎◌, IfSome}
+use Rattle.std.specs.declared.option.Option.{Option as Found}
+use Rattle.std.specs.declared.option.Option.TheVariants.{Some, None}
+use Prim.Native.Nat.{ℕ, zero, suc, ◌+◌, ◌-◌, ◌*◌, ◌≤◌, ◌<◌}
 use native.Mathlib.Numerals.{add-one}
 use native.Mathlib.Omega.{arith}
 use borrow.Author.Tests.{lt-ltb, le-ltb, eq-eqb, ltb-true, ltb-false, eqb-true, eqb-false}
@@ -13,7 +17,7 @@ use Rattle.model.specs.Window.{channel_of, listens}
 use Rattle.model.specs.Places.{read_of}
 use Rattle.model.specs.Schedule.{Passage, passage_arc, names, others, heard_by, ends_sooner, sooner, earliest, carried, message_in}
 use Rattle.model.proofs.Basics.Bools.{clash}
-use Rattle.rows.specs.Rows.{num, in_time, row_passage, rows_from, rows_of, Linked, RowsPlaced, best_of, heard_row, sooner_first, heard_first}
+use Rattle.rows.specs.Rows.{num, in_time, row_passage, rows_from, rows_of, Linked, RowsPlaced, sooner_of}
 
 -- ## Tests
 
@@ -168,30 +172,30 @@ module _ (s w v : Passage) where
 
 -- ## The earliest, when an earlier passage is looked at last
 
-sooner_both : (v s : Passage) (b : Option Passage) → sooner (sooner_first v b) s ≡ sooner_first v (sooner b s)
+sooner_both : (v s : Passage) (b : Option Passage) → sooner (sooner_of (some v) b) s ≡ sooner_of (some v) (sooner b s)
 sooner_both v s none = refl
 sooner_both v s (some w) = go (ends_sooner w v) refl (ends_sooner s w) refl
   where
     go : (x : Bool) → ends_sooner w v ≡ x → (y : Bool) → ends_sooner s w ≡ y
-        → sooner (cond x (some w) (some v)) s ≡ sooner_first v (cond y (some s) (some w))
+        → sooner (cond x (some w) (some v)) s ≡ sooner_of (some v) (cond y (some s) (some w))
     go true p true q = rw (q, soon_soon s w v p q)
     go true p false q = rw (q, p)
     go false p true q = refl
     go false p false q = rw (p, late_late s w v p q)
 
 module _ (p : Passage → Bool) where
-  earliest_both : (v : Passage) (vs : List Passage) (b : Option Passage) → earliest p vs (sooner_first v b) ≡ sooner_first v (earliest p vs b)
+  earliest_both : (v : Passage) (vs : List Passage) (b : Option Passage) → earliest p vs (sooner_of (some v) b) ≡ sooner_of (some v) (earliest p vs b)
   earliest_both v [] b = refl
   earliest_both v (s ∷ vs) b = ap (earliest p vs) (one (p s)) ∙ earliest_both v vs (cond (p s) (sooner b s) b)
     where
-      one : (t : Bool) → cond t (sooner (sooner_first v b) s) (sooner_first v b) ≡ sooner_first v (cond t (sooner b s) b)
+      one : (t : Bool) → cond t (sooner (sooner_of (some v) b) s) (sooner_of (some v) b) ≡ sooner_of (some v) (cond t (sooner b s) b)
       one true = sooner_both v s b
       one false = refl
 
-  earliest_first : (v : Passage) (vs : List Passage) → earliest p (v ∷ vs) none ≡ cond (p v) (sooner_first v (earliest p vs none)) (earliest p vs none)
+  earliest_first : (v : Passage) (vs : List Passage) → earliest p (v ∷ vs) none ≡ cond (p v) (sooner_of (some v) (earliest p vs none)) (earliest p vs none)
   earliest_first v vs = go (p v)
     where
-      go : (t : Bool) → earliest p vs (cond t (some v) none) ≡ cond t (sooner_first v (earliest p vs none)) (earliest p vs none)
+      go : (t : Bool) → earliest p vs (cond t (some v) none) ≡ cond t (sooner_of (some v) (earliest p vs none)) (earliest p vs none)
       go true = earliest_both v vs none
       go false = refl
 
@@ -204,49 +208,40 @@ module _ (T : Table) (H : ℕ) (v s : Passage) where
   pub heard_in_time : (x : Bool) → in_time H v s ≡ true → x ≡ names (passage_arc T v) (channel_of (passage_arc T s)) → x ≡ heard_by T H v s
   heard_in_time x e q = q ∙ sym (turned (names (passage_arc T v) (channel_of (passage_arc T s))) (others v s) _ ∙ rw e)
 
-module _ (bs l : List ℕ) (H i j : ℕ) (b : Option Passage) where
-  pub row_heard : (x : Option Passage) → heard_by (read_of bs).table H (row_passage l i) (row_passage l j) ≡ true → x ≡ sooner b (row_passage l j) → x ≡ heard_row bs l H i j b
-  row_heard x e q = q ∙ sym (ap (λ (t : Bool). cond t (sooner b (row_passage l j)) b) e)
+-- row j is looked at for row i: one turn of `earliest` ..
+abbrev pub heard_row : List ℕ → List ℕ → ℕ → ℕ → ℕ → Option Passage → Option Passage
+heard_row bs l H i j b = cond (heard_by (read_of bs).table H (row_passage l i) (row_passage l j)) (sooner b (row_passage l j)) b
 
-  pub row_unheard : heard_by (read_of bs).table H (row_passage l i) (row_passage l j) ≡ false → b ≡ heard_row bs l H i j b
-  row_unheard e = sym (ap (λ (t : Bool). cond t (sooner b (row_passage l j)) b) e)
+-- .. or after the rows behind it
+abbrev pub heard_first : List ℕ → List ℕ → ℕ → ℕ → ℕ → Option Passage → Option Passage
+heard_first bs l H i j b = cond (heard_by (read_of bs).table H (row_passage l i) (row_passage l j)) (sooner_of (some (row_passage l j)) b) b
 
-  pub first_heard : (x : Option Passage) → heard_by (read_of bs).table H (row_passage l i) (row_passage l j) ≡ true → x ≡ sooner_first (row_passage l j) b → x ≡ heard_first bs l H i j b
-  first_heard x e q = q ∙ sym (ap (λ (t : Bool). cond t (sooner_first (row_passage l j) b) b) e)
+sooner_last : (b : Option Passage) (v : Passage) → sooner_of b (some v) ≡ sooner b v
+sooner_last none v = refl
+sooner_last (some w) v = refl
 
-  pub first_unheard : heard_by (read_of bs).table H (row_passage l i) (row_passage l j) ≡ false → b ≡ heard_first bs l H i j b
-  first_unheard e = sym (ap (λ (t : Bool). cond t (sooner_first (row_passage l j) b) b) e)
+module _ (bs l : List ℕ) (H i j : ℕ) (b x : Option Passage) (h : Bool) (e : h ≡ heard_by (read_of bs).table H (row_passage l i) (row_passage l j)) where
+  pub row_heard : h ≡ true → x ≡ sooner_of b (some (row_passage l j)) → x ≡ heard_row bs l H i j b
+  row_heard t q = q ∙ sooner_last b (row_passage l j) ∙ sym (ap (λ (k : Bool). cond k (sooner b (row_passage l j)) b) (sym e ∙ t))
 
--- ## The best so far and row j
+  pub row_unheard : h ≡ false → x ≡ b → x ≡ heard_row bs l H i j b
+  row_unheard t q = q ∙ sym (ap (λ (k : Bool). cond k (sooner b (row_passage l j)) b) (sym e ∙ t))
 
-module _ (l : List ℕ) (n best j : ℕ) (h : j < n) where
-  -- the first one heard
-  pub first_best : n ≤ best → best_of l n j ≡ sooner (best_of l n best) (row_passage l j)
-  first_best k = rw (lt-ltb j n h, le-ltb best n k)
+  pub first_heard : h ≡ true → x ≡ sooner_of (some (row_passage l j)) b → x ≡ heard_first bs l H i j b
+  first_heard t q = q ∙ sym (ap (λ (k : Bool). cond k (sooner_of (some (row_passage l j)) b) b) (sym e ∙ t))
 
-  -- one that ends sooner, or not
-  pub sooner_best : best < n → ends_sooner (row_passage l j) (row_passage l best) ≡ true → best_of l n j ≡ sooner (best_of l n best) (row_passage l j)
-  sooner_best k e = rw (lt-ltb j n h, lt-ltb best n k, e)
+  pub first_unheard : h ≡ false → x ≡ b → x ≡ heard_first bs l H i j b
+  first_unheard t q = q ∙ sym (ap (λ (k : Bool). cond k (sooner_of (some (row_passage l j)) b) b) (sym e ∙ t))
 
-  pub kept_best : best < n → ends_sooner (row_passage l j) (row_passage l best) ≡ false → best_of l n best ≡ sooner (best_of l n best) (row_passage l j)
-  kept_best k e = rw (lt-ltb best n k, e)
+-- one of two rows below a bound is below it
+pub below_one : (n : ℕ) {x y z : Found ℕ} → (x ≡ y) ⊎ (x ≡ z) → IfSome y (λ i. i < n) → IfSome z (λ i. i < n) → IfSome x (λ i. i < n)
+below_one n (inl e) a b = rw e a
+below_one n (inr e) a b = rw e b
 
-  -- the same for a row before the best
-  pub first_before : n ≤ best → best_of l n j ≡ sooner_first (row_passage l j) (best_of l n best)
-  first_before k = rw (lt-ltb j n h, le-ltb best n k)
-
-  pub kept_before : best < n → ends_sooner (row_passage l best) (row_passage l j) ≡ true → best_of l n best ≡ sooner_first (row_passage l j) (best_of l n best)
-  kept_before k e = rw (lt-ltb best n k, e)
-
-  pub sooner_before : best < n → ends_sooner (row_passage l best) (row_passage l j) ≡ false → best_of l n j ≡ sooner_first (row_passage l j) (best_of l n best)
-  sooner_before k e = rw (lt-ltb j n h, lt-ltb best n k, e)
-
--- none yet; one that is there
-pub none_best : (l : List ℕ) (n best : ℕ) → n ≤ best → best_of l n best ≡ none
-none_best l n best k = rw (le-ltb best n k)
-
-pub some_best : (l : List ℕ) (n best : ℕ) → best < n → best_of l n best ≡ some (row_passage l best)
-some_best l n best k = rw (lt-ltb best n k)
+-- and its numbers stand in the slice
+pub fits_below : (n m : ℕ) (x : Found ℕ) → n * 9 ≤ m → IfSome x (λ i. i < n) → IfSome x (λ i. i * 9 + 9 ≤ m)
+fits_below n m None h b = tt
+fits_below n m (Some i) h b = omega (arith, h, b)
 
 -- ## What row i hears
 
@@ -286,7 +281,7 @@ module _ (bs l : List ℕ) (n i H : ℕ) (r : RowsPlaced bs l n) (there : i < n)
       ∙ ap (earliest hears_it (rows_from l k (i - k))) (ended_none j (k - j) none (omega (arith, there)) (λ t x y. e t x (omega arith)))
       ∙ ap (λ (vs : List Passage). earliest hears_it vs none) one
       ∙ earliest_first hears_it (row_passage l k) (rows_from l (k + 1) (i - (k + 1)))
-      ∙ ap (λ (o : Option Passage). cond (hears_it (row_passage l k)) (sooner_first (row_passage l k) o) o) q
+      ∙ ap (λ (o : Option Passage). cond (hears_it (row_passage l k)) (sooner_of (some (row_passage l k)) o) o) q
       ∙ sym f
 
   -- .. the rest of the search starts at row i ..

@@ -1,10 +1,12 @@
 -- The passages as rows of numbers in a lent slice: what a row says, and what is known of the rows of a schedule.
 use Rattle.std.specs.Prelude.{◌≡◌, Bool, cond, ◌&&◌, List, [], ◌∷◌, ℕ, zero, suc, ◌+◌, ◌*◌, ◌≤◌, ◌<◌, eqb, ltb, length, get_or}
 use Rattle.std.proofs.Math.Option.{Option, none, some}
+use Rattle.std.specs.declared.option.Option.{Option as Found}
+use Rattle.std.specs.declared.option.Option.TheVariants.{Some, None}
 use Rattle.model.specs.declared.Action.TheVariants.{Send}
 use Rattle.model.specs.Table.{size}
 use Rattle.model.specs.Places.{arc_length, arc_at, arc_place, start_of, Valid, read_of, component_in}
-use Rattle.model.specs.Schedule.{Passage, others, heard_by, ends_sooner, sooner, message_in}
+use Rattle.model.specs.Schedule.{Passage, others, ends_sooner, message_in}
 
 -- number k of row i. A row has nine: component, edge, location, entry, ready, end, message (255: none), the place of the edge in the
 -- table's bytes, and its link: a row from which on, up to this one, no row ends later than this one.
@@ -90,19 +92,18 @@ pub record RowKnown (bs l : List ℕ) (i : ℕ) : Type 0 where
 abbrev pub in_time : ℕ → Passage → Passage → Bool
 in_time H v s = others v s && (ltb v.ready s.ready && ltb s.ready H && ltb s.end v.end)
 
--- the best so far: a row of the first n
-abbrev pub best_of : List ℕ → ℕ → ℕ → Option Passage
-best_of l n b = cond (ltb b n) (some (row_passage l b)) none
+-- what a function found, as the model has it
+abbrev pub option_of : Found ℕ → Option ℕ
+option_of None = none
+option_of (Some k) = some k
 
--- row j is looked at for row i: one turn of `earliest`
-abbrev pub heard_row : List ℕ → List ℕ → ℕ → ℕ → ℕ → Option Passage → Option Passage
-heard_row bs l H i j b = cond (heard_by (read_of bs).table H (row_passage l i) (row_passage l j)) (sooner b (row_passage l j)) b
+-- a row that was found, as the passage that it is
+abbrev pub found_passage : List ℕ → Found ℕ → Option Passage
+found_passage l None = none
+found_passage l (Some i) = some (row_passage l i)
 
--- the best of later rows, or an earlier one where that does not end later: "on a tie" the first stays
-abbrev pub sooner_first : Passage → Option Passage → Option Passage
-sooner_first v none = some v
-sooner_first v (some b) = cond (ends_sooner b v) (some b) (some v)
-
--- row j is looked at for row i after the rows behind it
-abbrev pub heard_first : List ℕ → List ℕ → ℕ → ℕ → ℕ → Option Passage → Option Passage
-heard_first bs l H i j b = cond (heard_by (read_of bs).table H (row_passage l i) (row_passage l j)) (sooner_first (row_passage l j) b) b
+-- of an earlier passage and a later one, that which ends sooner: "on a tie" the first stays
+abbrev pub sooner_of : Option Passage → Option Passage → Option Passage
+sooner_of none b = b
+sooner_of (some v) none = some v
+sooner_of (some v) (some w) = cond (ends_sooner w v) (some w) (some v)

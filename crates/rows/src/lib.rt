@@ -1,13 +1,13 @@
 // The passages of a schedule as rows of numbers in a lent slice: writing one, and seeking messages.
 #![tactic(auto)]
 
-ghost use Rattle.std.specs.Prelude.{◌≡◌, [], ◌∷◌, ℕ, ◌+◌, ◌*◌, ◌≤◌, ◌<◌, length, set};
+ghost use Rattle.std.specs.Prelude.{◌⊎◌, ◌≡◌, [], ◌∷◌, ℕ, ◌+◌, ◌*◌, ◌≤◌, ◌<◌, length, set, IfSome};
 ghost use Rattle.std.proofs.Math.Option.{none};
 ghost use Rattle.std.proofs.lemmas.List.Edits.{sets};
 ghost use Rattle.model.specs.Window.{channel_of, listens};
 ghost use Rattle.model.specs.Places.{arc_at, budgeted, read_of};
-ghost use Rattle.model.specs.Schedule.{passage_arc, names, heard_by, ends_sooner, sooner, earliest, message_in};
-ghost use Rattle.rows.specs.Rows.{num, message_of, row_passage, rows_of, RowsPlaced, Told, MessagesPut, EdgeStands, RowKnown, Linked, in_time, best_of, heard_row, sooner_first, heard_first};
+ghost use Rattle.model.specs.Schedule.{passage_arc, names, heard_by, ends_sooner, earliest, message_in};
+ghost use Rattle.rows.specs.Rows.{num, message_of, row_passage, rows_of, RowsPlaced, Told, MessagesPut, EdgeStands, RowKnown, Linked, in_time, option_of, found_passage, sooner_of};
 
 use model::Action;
 
@@ -49,7 +49,7 @@ pub fn index(rows: &[u32], i: usize, field: usize) -> usize
     rows[i * WIDTH + field] as usize
 }
 
-// Writes row i; message none (255).
+// Writes row i; message none (255), as a row of numbers holds it.
 pub fn put_row(
     rows: &mut [u32],
     i: usize,
@@ -84,6 +84,7 @@ pub fn open_before(rows: &[u32], j: usize, tick: u32) -> usize
     ensures { (result ≤ j) × ((i : ℕ) → result ≤ i → i < j → num rows.now i 5 < tick) }
 {
     let mut k = j;
+    // A while: the next row is read from the link. What is returned is a link too: `schedule` writes it into a row.
     while 0 < k {
         if tick <= number(rows, k - 1, END) {
             return k;
@@ -93,47 +94,44 @@ pub fn open_before(rows: &[u32], j: usize, tick: u32) -> usize
     k
 }
 
-// The channel that the edge at the front sends on (255: none).
-pub fn sent(edge: &[u8], budgets: bool) -> u8
+// The channel that the edge at the front sends on.
+pub fn sent(edge: &[u8], budgets: bool) -> Option<u8>
     requires { EdgeStands budgets edge.now }
-    ensures { message_of result ≡ channel_of (arc_at budgets edge.now) }
+    ensures { option_of result ≡ channel_of (arc_at budgets edge.now) }
 {
-    let action = decoder::action_at(edge, budgets);
-    match action {
-        Action::Internal => 255,
-        Action::Send(channel) => channel,
-        Action::Receive => 255,
+    match decoder::action_at(edge, budgets) {
+        Action::Send(channel) => Some(channel),
+        Action::Internal | Action::Receive => None,
     }
 }
 
-// Whether the edge at the front lists the channel (255: no).
-pub fn lists(edge: &[u8], channel: u8, budgets: bool) -> bool
+// Whether the edge at the front lists the channel; it lists no missing one.
+pub fn lists(edge: &[u8], channel: Option<u8>, budgets: bool) -> bool
     requires { EdgeStands budgets edge.now }
-    ensures { result ≡ names (arc_at budgets edge.now) (message_of channel) }
+    ensures { result ≡ names (arc_at budgets edge.now) (option_of channel) }
 {
-    if channel == 255 {
+    let Some(channel) = channel else {
         return false;
-    }
-    let action = decoder::action_at(edge, budgets);
-    match action {
-        Action::Internal => {
-            return false;
-        }
-        Action::Send(_) => {
-            return false;
-        }
-        Action::Receive => {}
-    }
-    let mut at = decoder::items_place(edge, budgets);
-    let mut k = edge[6];
-    while 0 < k {
-        if edge[at] == channel {
+    };
+    let Action::Receive = decoder::action_at(edge, budgets) else {
+        return false;
+    };
+    let items = decoder::items_place(edge, budgets);
+    for k in 0..usize::from(edge[6]) {
+        if edge[items + 2 * k] == channel {
             return true;
         }
-        at += 2;
-        k -= 1;
     }
     false
+}
+
+// The bytes of the table from row i's edge on.
+pub fn row_edge<'table>(table: &'table [u8], rows: &[u32], i: usize) -> &'table [u8]
+    requires { RowKnown table.now rows.now i }
+    ensures stands { EdgeStands (budgeted table.now) result.now }
+    ensures arc { arc_at (budgeted table.now) result.now ≡ passage_arc (read_of table.now).table (row_passage rows.now i) }
+{
+    &table[index(rows, i, PLACE)..]
 }
 
 // Whether row i's edge receives.
@@ -141,34 +139,27 @@ pub fn row_receives(table: &[u8], rows: &[u32], i: usize) -> bool
     requires { RowKnown table.now rows.now i }
     ensures { result ≡ listens (passage_arc (read_of table.now).table (row_passage rows.now i)) }
 {
-    let budgets = decoder::budgeted(table);
-    let at = index(rows, i, PLACE);
-    let action = decoder::action_at(&table[at..], budgets);
-    match action {
-        Action::Internal => false,
-        Action::Send(_) => false,
-        Action::Receive => true,
-    }
+    let edge = row_edge(table, rows, i);
+    matches!(
+        decoder::action_at(edge, decoder::budgeted(table)),
+        Action::Receive
+    )
 }
 
-// The channel that row i's edge sends on (255: none).
-pub fn row_sent(table: &[u8], rows: &[u32], i: usize) -> u8
+// The channel that row i's edge sends on.
+pub fn row_sent(table: &[u8], rows: &[u32], i: usize) -> Option<u8>
     requires { RowKnown table.now rows.now i }
-    ensures { message_of result ≡ channel_of (passage_arc (read_of table.now).table (row_passage rows.now i)) }
+    ensures { option_of result ≡ channel_of (passage_arc (read_of table.now).table (row_passage rows.now i)) }
 {
-    let budgets = decoder::budgeted(table);
-    let at = index(rows, i, PLACE);
-    sent(&table[at..], budgets)
+    sent(row_edge(table, rows, i), decoder::budgeted(table))
 }
 
-// Whether row i's edge lists the channel (255: no).
-pub fn row_lists(table: &[u8], rows: &[u32], i: usize, channel: u8) -> bool
+// Whether row i's edge lists the channel.
+pub fn row_lists(table: &[u8], rows: &[u32], i: usize, channel: Option<u8>) -> bool
     requires { RowKnown table.now rows.now i }
-    ensures { result ≡ names (passage_arc (read_of table.now).table (row_passage rows.now i)) (message_of channel) }
+    ensures { result ≡ names (passage_arc (read_of table.now).table (row_passage rows.now i)) (option_of channel) }
 {
-    let budgets = decoder::budgeted(table);
-    let at = index(rows, i, PLACE);
-    lists(&table[at..], channel, budgets)
+    lists(row_edge(table, rows, i), channel, decoder::budgeted(table))
 }
 
 // Whether row j is of another component than row i, starts after its ready and before the tick h, and ends before its end.
@@ -195,10 +186,8 @@ pub fn hears(table: &[u8], rows: &[u32], i: usize, j: usize, horizon: u32, budge
     if !in_time(rows, i, j, horizon) {
         return false;
     }
-    let at = index(rows, j, PLACE);
-    let channel = sent(&table[at..], budgets);
-    let place = index(rows, i, PLACE);
-    lists(&table[place..], channel, budgets)
+    let channel = sent(row_edge(table, rows, j), budgets);
+    lists(row_edge(table, rows, i), channel, budgets)
 }
 
 fn ends_sooner(rows: &[u32], j: usize, best: usize) -> bool
@@ -211,71 +200,20 @@ fn ends_sooner(rows: &[u32], j: usize, best: usize) -> bool
     parts::either(end < other, parts::both(end == other, lower))
 }
 
-// The row best so far (n where there is none), or row j where that ends sooner.
-fn nearer(rows: &[u32], best: usize, j: usize, count: usize) -> usize
-    requires { (count * 9 ≤ length rows.now) × (j < count) }
-    ensures { best_of rows.now count result ≡ sooner (best_of rows.now count best) (row_passage rows.now j) }
+// Of two rows the one that ends sooner, on a tie the earlier; where one is missing, the other.
+fn sooner(rows: &[u32], earlier: Option<usize>, later: Option<usize>) -> Option<usize>
+    requires { IfSome earlier (λ i. i * 9 + 9 ≤ length rows.now) × IfSome later (λ i. i * 9 + 9 ≤ length rows.now) }
+    ensures found { found_passage rows.now result ≡ sooner_of (found_passage rows.now earlier) (found_passage rows.now later) }
+    ensures one { (result ≡ earlier) ⊎ (result ≡ later) }
 {
-    if count <= best {
-        return j;
-    }
-    if ends_sooner(rows, j, best) { j } else { best }
-}
-
-// The best so far, or row j where row i hears it and it ends sooner.
-fn heard(
-    table: &[u8],
-    rows: &[u32],
-    best: usize,
-    i: usize,
-    j: usize,
-    count: usize,
-    horizon: u32,
-    budgets: bool,
-) -> usize
-    requires { RowsPlaced table.now rows.now count × (i < count) × (j < count) × (budgets ≡ budgeted table.now) }
-    ensures { best_of rows.now count result ≡ heard_row table.now rows.now horizon i j (best_of rows.now count best) }
-{
-    if hears(table, rows, i, j, horizon, budgets) {
-        nearer(rows, best, j, count)
-    } else {
-        best
+    match (earlier, later) {
+        (Some(first), Some(second)) if ends_sooner(rows, second, first) => later,
+        (Some(_), _) => earlier,
+        (None, _) => later,
     }
 }
 
-// The row best so far among later ones (n where there is none), or row j where that does not end sooner.
-fn nearer_before(rows: &[u32], best: usize, j: usize, count: usize) -> usize
-    requires { (count * 9 ≤ length rows.now) × (j < count) }
-    ensures { best_of rows.now count result ≡ sooner_first (row_passage rows.now j) (best_of rows.now count best) }
-{
-    if count <= best {
-        return j;
-    }
-    if ends_sooner(rows, best, j) { best } else { j }
-}
-
-// The best so far among later rows, or row j where row i hears it and none of them ends sooner.
-fn heard_before(
-    table: &[u8],
-    rows: &[u32],
-    best: usize,
-    i: usize,
-    j: usize,
-    count: usize,
-    horizon: u32,
-    budgets: bool,
-) -> usize
-    requires { RowsPlaced table.now rows.now count × (i < count) × (j < count) × (budgets ≡ budgeted table.now) }
-    ensures { best_of rows.now count result ≡ heard_first table.now rows.now horizon i j (best_of rows.now count best) }
-{
-    if hears(table, rows, i, j, horizon, budgets) {
-        nearer_before(rows, best, j, count)
-    } else {
-        best
-    }
-}
-
-// The row before row i whose message it hears, the count of rows where there is none. Rows that ended before its ready are passed over by their links.
+// The row before row i whose message it hears. Rows that ended before its ready are passed over by their links.
 fn seek_before(
     table: &[u8],
     rows: &[u32],
@@ -283,56 +221,74 @@ fn seek_before(
     i: usize,
     horizon: u32,
     budgets: bool,
-) -> usize
+) -> Option<usize>
     requires { RowsPlaced table.now rows.now count × (i < count) × (budgets ≡ budgeted table.now) }
-    ensures { best_of rows.now count result ≡ earliest (heard_by (read_of table.now).table horizon (row_passage rows.now i)) (rows_of rows.now i) none }
+    ensures found { found_passage rows.now result ≡ earliest (heard_by (read_of table.now).table horizon (row_passage rows.now i)) (rows_of rows.now i) none }
+    ensures there { IfSome result (λ row. row < count) }
 {
     let ready = number(rows, i, READY);
-    let mut best = count;
+    let mut best = None;
+    // A while of its own: the next row is read from the links, where from row i on rows are counted, and another tick ends the walk.
     let mut j = open_before(rows, i, ready);
     while 0 < j {
         let k = j - 1;
-        best = heard_before(table, rows, best, i, k, count, horizon, budgets);
+        if hears(table, rows, i, k, horizon, budgets) {
+            best = sooner(rows, Some(k), best);
+        }
         j = open_before(rows, k, ready);
     }
     best
 }
 
-// The row whose message row i hears, n where there is none. Rows that open at its end or later end too late.
-fn seek(table: &[u8], rows: &[u32], count: usize, i: usize, horizon: u32, budgets: bool) -> usize
+// The row whose message row i hears. Rows that open at its end or later end too late.
+fn seek(
+    table: &[u8],
+    rows: &[u32],
+    count: usize,
+    i: usize,
+    horizon: u32,
+    budgets: bool,
+) -> Option<usize>
     requires { RowsPlaced table.now rows.now count × (i < count) × (budgets ≡ budgeted table.now) }
-    ensures { best_of rows.now count result ≡ earliest (heard_by (read_of table.now).table horizon (row_passage rows.now i)) (rows_of rows.now count) none }
+    ensures found { found_passage rows.now result ≡ earliest (heard_by (read_of table.now).table horizon (row_passage rows.now i)) (rows_of rows.now count) none }
+    ensures there { IfSome result (λ row. row < count) }
 {
     let until = number(rows, i, END);
     let mut best = seek_before(table, rows, count, i, horizon, budgets);
-    let mut j = i;
-    while j < count {
+    for j in i..count {
         if until <= number(rows, j, ENTRY) {
             return best;
         }
-        best = heard(table, rows, best, i, j, count, horizon, budgets);
-        j += 1;
+        if hears(table, rows, i, j, horizon, budgets) {
+            best = sooner(rows, best, Some(j));
+        }
     }
     best
 }
 
-// The message of the passage of row i among n rows (255: none).
-pub fn message(table: &[u8], rows: &[u32], count: usize, i: usize, horizon: u32) -> u8
+// The channel of the message of the passage of row i among n rows.
+fn message_channel(table: &[u8], rows: &[u32], count: usize, i: usize, horizon: u32) -> Option<u8>
     requires { RowsPlaced table.now rows.now count × (i < count) }
-    ensures { message_of result ≡ message_in (read_of table.now).table horizon (rows_of rows.now count) (row_passage rows.now i) }
+    ensures found { option_of result ≡ message_in (read_of table.now).table horizon (rows_of rows.now count) (row_passage rows.now i) }
+    ensures small { IfSome result (λ channel. channel < 255) }
 {
     if !row_receives(table, rows, i) {
         return row_sent(table, rows, i);
     }
     let budgets = decoder::budgeted(table);
-    let best = seek(table, rows, count, i, horizon, budgets);
-    if best < count {
-        return row_sent(table, rows, best);
-    }
-    255
+    let sender = seek(table, rows, count, i, horizon, budgets)?;
+    row_sent(table, rows, sender)
 }
 
-// Gives row i that message.
+// The same as a row holds it (255: none).
+pub fn message(table: &[u8], rows: &[u32], count: usize, i: usize, horizon: u32) -> u8
+    requires { RowsPlaced table.now rows.now count × (i < count) }
+    ensures { message_of result ≡ message_in (read_of table.now).table horizon (rows_of rows.now count) (row_passage rows.now i) }
+{
+    message_channel(table, rows, count, i, horizon).unwrap_or(255)
+}
+
+// Gives row i that message (255: none, as a row of numbers holds it).
 pub fn put_message(rows: &mut [u32], i: usize, message: u8)
     requires { (i * 9 + 9 ≤ length rows.old) × (i ≤ 1024) }
     ensures { rows.new ≡ set rows.old (i * 9 + 6) message }
@@ -340,7 +296,7 @@ pub fn put_message(rows: &mut [u32], i: usize, message: u8)
     rows[i * WIDTH + MESSAGE] = parts::wide32(message);
 }
 
-// The message of the passage of row i among n rows (255: none), which the row has if it ends before the tick h.
+// The message of the passage of row i among n rows (255: none, as the row holds it), which the row has if it ends before the tick h.
 fn message_then(table: &[u8], rows: &[u32], count: usize, i: usize, horizon: u32) -> u32
     requires { RowsPlaced table.now rows.now count × (i < count) × (num rows.now i 5 < horizon → Told table.now horizon rows.now count i) }
     ensures { message_of result ≡ message_in (read_of table.now).table horizon (rows_of rows.now count) (row_passage rows.now i) }
@@ -356,10 +312,7 @@ pub fn put_messages(table: &[u8], rows: &mut [u32], count: usize, horizon: u32)
     requires { RowsPlaced table.now rows.old count × ((i : ℕ) → i < count → num rows.old i 5 < horizon → Told table.now horizon rows.old count i) }
     ensures { MessagesPut table.now horizon count rows.old rows.new }
 {
-    let mut i: usize = 0;
-    while i < count {
-        let m = message_then(table, rows, count, i, horizon);
-        rows[i * WIDTH + MESSAGE] = m;
-        i += 1;
+    for i in 0..count {
+        rows[i * WIDTH + MESSAGE] = message_then(table, rows, count, i, horizon);
     }
 }

@@ -1,7 +1,7 @@
 -- Choices carried out one after the other: how far the list has come, and what the next choice makes of it. Assumes nothing.
 use mathlib.Core.Path.{◌≡◌, refl, sym, ap, subst, ◌∙◌}
 use mathlib.Core.List.{List, [], ◌∷◌, ◌++◌, append-nil}
-use Prim.Native.Nat.{ℕ, suc, ◌+◌, ◌*◌, ◌≤◌, ◌<◌}
+use Prim.Native.Nat.{ℕ, zero, suc, ◌+◌, ◌*◌, ◌≤◌, ◌<◌}
 use native.Mathlib.Omega.{arith}
 use native.Mathlib.Numerals.{add-one}
 use lib.IntN.{ℤ}
@@ -11,6 +11,8 @@ use Rattle.model.specs.Lists.{each}
 use Rattle.model.specs.Run.{Setting, Run, start_run, Outcome, forbidden, on, over, choose1, Result, ends, continue, run_from, run, observation_width, Written, written_bytes, written_in}
 use Rattle.model.proofs.Observations.Size.{all_long}
 use Rattle.model.proofs.Basics.Sums.{each_join}
+use Rattle.model.specs.declared.End.TheVariants.{Horizon}
+use Rattle.model.specs.Calls.{end_of}
 use Rattle.run.specs.declared.Ended.{Ended}
 use Rattle.machine.specs.Running.{setting_in}
 use Rattle.run.specs.Ends.{Roomy, most_used, Brief, Over, GoesOn, PartEnds, EndsAs}
@@ -107,18 +109,24 @@ over_more os seen out₀ out e h =
 
 -- ## The end
 
+-- the horizon's is number 0
+pub horizon_end : (k c : ℕ) → end_of k c ≡ Horizon → k ≡ 0
+horizon_end zero c e = refl
+horizon_end (suc zero) c e = absurd (cc)
+horizon_end (suc (suc zero)) c e = absurd (cc)
+horizon_end (suc (suc (suc k))) c e = absurd (cc)
+
 pub ends_as : (program : List ℕ) (H : ℕ) (rows : List ℕ) (n : ℕ) (l : List ℕ) (count : ℕ) (cs : List ℕ) (s₀ : Run) (out : List ℕ) (e : Ended) (l' : List ℕ) (v' : List ℤ) (out' : List ℕ) (s : Run) (k c : ℕ)
-    → run_from (setting_in program H rows n l count) cs s₀ ≡ ends s k c → e.end ≡ k → e.node ≡ c → e.tick ≡ s.tick → s.used ≡ s₀.used + e.used
+    → run_from (setting_in program H rows n l count) cs s₀ ≡ ends s k c → e.end ≡ end_of k c → e.tick ≡ s.tick → s.used ≡ s₀.used + e.used
     → e.written ≡ length s.observations → Over (written_in s) out out' → (k ≡ 0 → GoesOn program H rows n l count l' v' s) → PartEnds program H rows n l count cs s₀ out e l' v' out'
-ends_as program H rows n l count cs s₀ out e l' v' out' s k c r end node tick used written bytes goes =
+ends_as program H rows n l count cs s₀ out e l' v' out' s k c r end tick used written bytes goes =
     record {
       end = rw r end;
-      node = rw r node;
       tick = rw r tick;
       used = rw r used;
       written = rw r written;
       bytes = rw r bytes;
-      further = λ z. subst (λ (x : Result). GoesOn program H rows n l count l' v' x.state) (sym r) (goes (sym end ∙ z));
+      further = λ z. subst (λ (x : Result). GoesOn program H rows n l count l' v' x.state) (sym r) (goes (horizon_end k c (sym end ∙ z)));
     }
 
 -- a run from the start is all of it
@@ -126,4 +134,4 @@ pub ends_whole : (program : List ℕ) (H : ℕ) (rows : List ℕ) (n : ℕ) (l :
     → PartEnds program H rows n l count cs (start_run (setting_in program H rows n l count)) out e l' v' out' → EndsAs (setting_in program H rows n l count) cs out e out'
 unfolding run
 ends_whole program H rows n l count cs out e l' v' out' p =
-    record { end = p.end; node = p.node; tick = p.tick; used = omega (arith, p.used); written = p.written; bytes = p.bytes }
+    record { end = p.end; tick = p.tick; used = omega (arith, p.used); written = p.written; bytes = p.bytes }

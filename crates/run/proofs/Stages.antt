@@ -19,7 +19,9 @@ use Rattle.node.specs.declared.Node.{Node}
 use Rattle.node.specs.Views.{Within}
 use Rattle.registers.specs.Words.{word_in, node_in, part_in, wake_tick_in}
 use Rattle.machine.proofs.Alone.{offset_at}
-use Rattle.machine.specs.declared.Moved.{Moved}
+use Rattle.std.specs.Prelude.{Option, None, Some}
+use Rattle.std.specs.Option.{is_some}
+use Rattle.model.specs.Calls.{end_of}
 use Rattle.machine.specs.Running.{setting_in, view_in, NodeStands, Standing, Running}
 use Rattle.machine.specs.Chosen.{op_of, observes_now, Chosen}
 use Rattle.run.specs.declared.Ended.{Ended}
@@ -57,7 +59,7 @@ stands_more program rows n l v c m k h N =
 
 -- what the end that is answered says
 abbrev pub Says : Ended → ℕ → ℕ → ℕ → ℕ → ℕ → Type 0
-Says e end node tick used written = (e.end ≡ end) × (e.node ≡ node) × (e.tick ≡ tick) × (e.used ≡ used) × (e.written ≡ written)
+Says e end node tick used written = (e.end ≡ end_of end node) × (e.tick ≡ tick) × (e.used ≡ used) × (e.written ≡ written)
 
 module _ (program : List ℕ) (H : ℕ) (rows : List ℕ) (n count : ℕ) (l₀ choices out₀ : List ℕ) (s₀ : Run) where
   -- what the run goes by
@@ -104,7 +106,7 @@ module _ {program : List ℕ} {H : ℕ} {rows : List ℕ} {n count : ℕ} {l₀ 
   -- the end as it is answered
   ends_here : {e : Ended} {end node : ℕ} → Says e end node now k w → (end ≡ 0 → ⊥) → run_from g choices s₀ ≡ ends s end node → PartEnds program H rows n l₀ count choices s₀ out₀ e l v out
   ends_here {e} {end} {node} h other r =
-      ends_as program H rows n l₀ count choices s₀ out₀ e l v out s end node r h.0 h.1 (h.2 ∙ sym St.tick) (St.used ∙ ap (λ (x : ℕ). s₀.used + x) (sym h.3)) (h.4 ∙ St.written) St.bytes (λ z. absurd (other z))
+      ends_as program H rows n l₀ count choices s₀ out₀ e l v out s end node r h.0 (h.1 ∙ sym St.tick) (St.used ∙ ap (λ (x : ℕ). s₀.used + x) (sym h.2)) (h.3 ∙ St.written) St.bytes (λ z. absurd (other z))
 
   -- all choices are used up
   pub used-up : {e : Ended} → length choices ≤ k → Says e 1 255 now k w → PartEnds program H rows n l₀ count choices s₀ out₀ e l v out
@@ -171,7 +173,7 @@ module _ {program : List ℕ} {H : ℕ} {rows : List ℕ} {n count : ℕ} {l₀ 
         -- the end after the tick
         ends_then : {e : Ended} {end node : ℕ} → Says e end node (now + 1) (k + 1) w → choose1 g s b ≡ over (ticked s) end node → PartEnds program H rows n l₀ count choices s₀ out₀ e l v out
         ends_then {e} {end} {node} h o =
-            ends_as program H rows n l₀ count choices s₀ out₀ e l v out (ticked s) end node (ends_over g choices s₀ k s St.reaches more o) h.0 h.1 (h.2 ∙ sym then) (omega (arith, St.used, h.3)) (h.4 ∙ St.written) St.bytes
+            ends_as program H rows n l₀ count choices s₀ out₀ e l v out (ticked s) end node (ends_over g choices s₀ k s St.reaches more o) h.0 (h.1 ∙ sym then) (omega (arith, St.used, h.2)) (h.3 ∙ St.written) St.bytes
             (λ z. record { running = runs_then; same = St.same; early = omega (arith, St.used, St.early, St.tick); few = omega (arith, St.used, St.few, St.written) })
 
         -- a node is late
@@ -226,18 +228,20 @@ module _ {program : List ℕ} {H : ℕ} {rows : List ℕ} {n count : ℕ} {l₀ 
         let long : length out ≡ length out₀ = over_length (written_in s) out₀ out St.bytes (omega (arith, same, roomy_at g choices s₀ k s St.reaches (length out₀) R)) in
         omega (arith, St.written)
 
-    module _ {m : Moved} {l' : List ℕ} {v' : List ℤ} {out' : List ℕ} (C : Chosen program rows n H count now b l v out w m l' v' out') where
+    module _ {m : Option ℕ} {l' : List ℕ} {v' : List ℤ} {out' : List ℕ} (C : Chosen program rows n H count now b l v out w m l' v' out') where
       -- it may not go on
-      pub node_forbidden : {e : Ended} → m.allowed ≡ false → Says e 3 255 now k w → PartEnds program H rows n l₀ count choices s₀ out₀ e l' v' out'
-      node_forbidden {e} not h =
+      pub node_forbidden : {e : Ended} → m ≡ None → Says e 3 255 now k w → PartEnds program H rows n l₀ count choices s₀ out₀ e l' v' out'
+      node_forbidden {e} none h =
+          let not : is_some m ≡ false = ap is_some none in
           ends_as program H rows n l₀ count choices s₀ out₀ e l' v' out' s 3 255
           (ends_forbidden g choices s₀ k s St.reaches more (subst (λ (q : Setting). choose1 q s b ≡ forbidden) St.same (C.refuses not s St.running St.tick)))
-          h.0 h.1 (h.2 ∙ sym St.tick) (St.used ∙ ap (λ (x : ℕ). s₀.used + x) (sym h.3)) (h.4 ∙ St.written) (subst (Over (written_in s) out₀) (sym (C.keeps not).2) St.bytes) (λ z. absurd (omega arith))
+          h.0 (h.1 ∙ sym St.tick) (St.used ∙ ap (λ (x : ℕ). s₀.used + x) (sym h.2)) (h.3 ∙ St.written) (subst (Over (written_in s) out₀) (sym (C.keeps not).2) St.bytes) (λ z. absurd (omega arith))
 
       -- it goes on
-      pub node_stage : m.allowed ≡ true → Roomy g choices s₀ (length out₀) → Stage program H rows n count l₀ choices out₀ s₀ l' v' out' now (k + 1) m.written
-      node_stage may R =
-          let A = C.allows may s St.running St.tick in
+      pub node_stage : {w' : ℕ} → m ≡ Some w' → Roomy g choices s₀ (length out₀) → Stage program H rows n count l₀ choices out₀ s₀ l' v' out' now (k + 1) w'
+      node_stage {w'} some R =
+          let A = C.allows (ap is_some some) s St.running St.tick in
+          let counted : w' ≡ w + length A.seen = (let both = sym some ∙ A.counted in cc) in
           let goes : choose1 g s b ≡ on A.next = subst (λ (q : Setting). choose1 q s b ≡ on A.next) St.same A.goes in
           let at = reaches_next g choices s₀ k s St.reaches more goes in
           let whole : written_in A.next ≡ written_in s ++ with_ticks A.seen A.ticks =
@@ -256,8 +260,8 @@ module _ {program : List ℕ} {H : ℕ} {rows : List ℕ} {n count : ℕ} {l₀ 
             tick = A.tick ∙ St.tick;
             used = omega (arith, A.used, St.used);
             early = omega (arith, St.early);
-            written = omega (arith, A.counted, St.written);
-            few = omega (arith, A.counted, St.written, St.few);
+            written = omega (arith, counted, St.written);
+            few = omega (arith, counted, St.written, St.few);
             bytes =
                 A.bytes
                 ∙ ap (λ (x : ℕ). sets out (x * observation_width) (each written_bytes (with_ticks A.seen A.ticks))) (St.written ∙ sym count)

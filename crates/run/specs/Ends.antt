@@ -8,6 +8,8 @@ use Rattle.model.specs.Schedule.{Passage, light}
 use Rattle.model.specs.Checks.{accepted_schedule_at}
 use Rattle.model.specs.Machine.{start_node, part_bytes}
 use Rattle.model.specs.Run.{Counts, Setting, Run, offset_in, no_work, start_run, run_from, run, observation_width, Written, written_bytes, written_in}
+use Rattle.model.specs.declared.End.TheVariants.{Horizon}
+use Rattle.model.specs.Calls.{end_of}
 use Rattle.model.specs.Apart.{Permitted}
 use Rattle.rows.specs.Rows.{rows_of}
 use Rattle.registers.specs.Words.{word_in, Eight, SameNode, part_start, part_length, clock_count, variable_count, row_in, due_in, last_in, wake_tick_in, finish_tick_in}
@@ -48,20 +50,18 @@ pub record GoesOn (program : List ℕ) (H : ℕ) (rows : List ℕ) (n : ℕ) (l 
   pub early : s.tick ≤ s.used
   pub few : length s.observations ≤ s.used
 
--- the numbers of the end of a part that began in state s, and the bytes of the observations over the front of what was lent at first
+-- the end of a part that began in state s, its numbers, and the bytes of the observations over the front of what was lent at first
 pub record PartEnds (program : List ℕ) (H : ℕ) (rows : List ℕ) (n : ℕ) (l : List ℕ) (count : ℕ) (choices : List ℕ) (s : Run) (out₀ : List ℕ) (e : Ended) (l' : List ℕ) (v' : List ℤ) (out' : List ℕ) : Type 0 where
-  pub end : e.end ≡ (run_from (setting_in program H rows n l count) choices s).end
-  pub node : e.node ≡ (run_from (setting_in program H rows n l count) choices s).node
+  pub end : e.end ≡ end_of (run_from (setting_in program H rows n l count) choices s).end (run_from (setting_in program H rows n l count) choices s).node
   pub tick : e.tick ≡ (run_from (setting_in program H rows n l count) choices s).state.tick
   pub used : (run_from (setting_in program H rows n l count) choices s).state.used ≡ s.used + e.used
   pub written : e.written ≡ length (run_from (setting_in program H rows n l count) choices s).state.observations
   pub bytes : Over (written_in (run_from (setting_in program H rows n l count) choices s).state) out₀ out'
-  pub further : e.end ≡ 0 → GoesOn program H rows n l count l' v' (run_from (setting_in program H rows n l count) choices s).state
+  pub further : e.end ≡ Horizon → GoesOn program H rows n l count l' v' (run_from (setting_in program H rows n l count) choices s).state
 
--- the numbers of the end, and the bytes of the observations over the front of what was lent
+-- the end, its numbers, and the bytes of the observations over the front of what was lent
 pub record EndsAs (g : Setting) (choices out : List ℕ) (e : Ended) (out' : List ℕ) : Type 0 where
-  pub end : e.end ≡ (run g choices).end
-  pub node : e.node ≡ (run g choices).node
+  pub end : e.end ≡ end_of (run g choices).end (run g choices).node
   pub tick : e.tick ≡ (run g choices).state.tick
   pub used : e.used ≡ (run g choices).state.used
   pub written : e.written ≡ length (run g choices).state.observations

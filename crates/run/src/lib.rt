@@ -2,6 +2,7 @@
 #![tactic(auto)]
 
 ghost use Rattle.std.specs.Prelude.{◌≡◌, List, ℕ, ◌+◌, ◌*◌, ◌≤◌, ◌<◌, eqb, length, get_or};
+ghost use Rattle.std.specs.Option.{ForSome, unwrap_or};
 ghost use Rattle.model.specs.Lists.{any, below, accepted};
 ghost use Rattle.model.specs.Reader.{byte};
 ghost use Rattle.model.specs.Places.{Valid, read_of};
@@ -14,14 +15,15 @@ ghost use Rattle.registers.specs.Words.{Eight, due_in};
 ghost use Rattle.machine.specs.Running.{RowsStand};
 ghost use Rattle.run.specs.Ends.{Begun, PartEnds, EndsAs, FirstLate, Calm, Ticks, WordsPut, NodeStarted, Started, PlannedApart};
 
+use model::End;
+
 // The tick that stands in a node's first observation.
 const NO_WORK: u64 = 4294967295;
 
-// How a run ended: document 01's number of the end, the node, the tick, the choices used, the observations written.
+// How a run ended: the end, the tick, the choices used, the observations written.
 #[derive(Clone, Copy)]
 pub struct Ended {
-    pub end: u8,
-    pub node: u8,
+    pub end: End,
     pub tick: u64,
     pub used: usize,
     pub written: usize,
@@ -32,35 +34,26 @@ pub fn some_due(words: &[u64], count: usize, tick: u64) -> bool
     requires { (256 ≤ length words.now) × (count ≤ 8) }
     ensures { result ≡ any (λ c. eqb (due_in words.now c) tick) (below count) }
 {
-    let mut c: usize = 0;
-    while c < count {
+    for c in 0..count {
         if registers::word(words, c, registers::DUE) == tick {
             return true;
         }
-        c += 1;
     }
     false
 }
 
-// The lowest node that is late at that tick, the number of nodes where none is.
-pub fn first_late(words: &[u64], count: usize, tick: u64) -> usize
+// The lowest node that is late at that tick.
+pub fn first_late(words: &[u64], count: usize, tick: u64) -> Option<usize>
     requires { (256 ≤ length words.now) × (count ≤ 8) }
-    ensures { FirstLate words.now count tick result }
+    ensures first { FirstLate words.now count tick (unwrap_or result count) }
+    ensures node { ForSome result (λ c. c < count) }
 {
-    let mut c: usize = 0;
-    while c < count {
+    for c in 0..count {
         if registers::word(words, c, registers::LAST) < tick {
-            return c;
+            return Some(c);
         }
-        c += 1;
     }
-    count
-}
-
-pub fn lesser(first: u64, second: u64) -> u64
-    ensures { (result ≤ first) × (result ≤ second) × ((m : ℕ) → m ≤ first → m ≤ second → m ≤ result) }
-{
-    if first < second { first } else { second }
+    None
 }
 
 // A tick before the horizon up to which no node is due and none is late.
@@ -72,12 +65,10 @@ pub fn calm_until(words: &[u64], count: usize, horizon: u64) -> u64
         return 0;
     }
     let mut calm = horizon - 1;
-    let mut c: usize = 0;
-    while c < count {
+    for c in 0..count {
         let due = registers::word(words, c, registers::DUE);
         let last = registers::word(words, c, registers::LAST);
-        calm = lesser(calm, lesser(due, last));
-        c += 1;
+        calm = calm.min(due.min(last));
     }
     calm
 }
@@ -101,6 +92,7 @@ fn ticks_by_eight(choices: &[u8], from: usize, end: usize) -> usize
     }
     let last = end - 8;
     let mut at = from;
+    // A while: it goes on by eight, and where it stops is the answer.
     while at <= last {
         if sum_of_four(choices, at) + sum_of_four(choices, at + 4) != 2040 {
             return at;
@@ -115,14 +107,12 @@ fn ticks_by_one(choices: &[u8], from: usize, end: usize) -> usize
     requires { (from ≤ end) × (end ≤ length choices.now) }
     ensures { (from ≤ result) × (result ≤ end) × Ticks choices.now from result }
 {
-    let mut at = from;
-    while at < end {
+    for at in from..end {
         if choices[at] != 255 {
             return at;
         }
-        at += 1;
     }
-    at
+    end
 }
 
 // How many of the choices from a place on are ticks, so many at most; the first one is.
@@ -130,17 +120,16 @@ fn ticks_in_a_row(choices: &[u8], from: usize, most: u64) -> usize
     requires { (from < length choices.now) × (1 ≤ most) × (get_or choices.now from 0 ≡ 255) }
     ensures { (1 ≤ result) × (result ≤ most) × (from + result ≤ length choices.now) × Ticks choices.now from (from + result) }
 {
-    let end = from + lesser(most, (choices.len() - from) as u64) as usize;
+    let end = from + most.min((choices.len() - from) as u64) as usize;
     let at = ticks_by_eight(choices, from + 1, end);
     ticks_by_one(choices, at, end) - from
 }
 
-pub fn end_of(end: u8, node: u8, tick: u64, used: usize, written: usize) -> Ended
-    ensures { (result.end ≡ end) × (result.node ≡ node) × (result.tick ≡ tick) × (result.used ≡ used) × (result.written ≡ written) }
+pub fn end_of(end: End, tick: u64, used: usize, written: usize) -> Ended
+    ensures { (result.end ≡ end) × (result.tick ≡ tick) × (result.used ≡ used) × (result.written ≡ written) }
 {
     Ended {
         end,
-        node,
         tick,
         used,
         written,
@@ -168,6 +157,7 @@ pub fn carry_out(
     let mut tick = since;
     let mut used: usize = 0;
     let mut written = seen;
+    // A while: how many choices are carried out at once is read from them.
     while used < choices.len() {
         let choice = choices[used];
         if choice == 255 {
@@ -178,30 +168,28 @@ pub fn carry_out(
                 used += k;
             } else {
                 if some_due(words, count, tick) {
-                    return end_of(3, 255, tick, used, written);
+                    return end_of(End::NotAllowed, tick, used, written);
                 }
                 tick += 1;
                 used += 1;
-                let c = first_late(words, count, tick);
-                if c < count {
-                    return end_of(2, c as u8, tick, used, written);
+                if let Some(c) = first_late(words, count, tick) {
+                    return end_of(End::Late(c as u8), tick, used, written);
                 }
                 if tick == horizon {
-                    return end_of(0, 255, tick, used, written);
+                    return end_of(End::Horizon, tick, used, written);
                 }
             }
         } else {
-            let moved = machine::choose_node(
+            let Some(now) = machine::choose_node(
                 program, rows, passages, count, words, values, tick, choice, out, written,
-            );
-            if !moved.allowed {
-                return end_of(3, 255, tick, used, written);
-            }
-            written = moved.written;
+            ) else {
+                return end_of(End::NotAllowed, tick, used, written);
+            };
+            written = now;
             used += 1;
         }
     }
-    end_of(1, 255, tick, used, written)
+    end_of(End::UsedUp, tick, used, written)
 }
 
 // Words 21 to 25, 28 and 29 of node c: its part, its counts, its row, the tick at which it wakes, and that no work of it has finished.
@@ -281,9 +269,8 @@ pub fn start(
     requires { Valid table.now × (starts ≡ starts_of table.now (byte table.now 3)) × Eight words.old values.old × RowsStand rows.now passages × ((c : ℕ) → c < byte table.now 3 → offset_in offsets.now c ≤ 1000) }
     ensures { Started table.now program.now rows.now passages offsets.now words.new values.new }
 {
-    let count = table[3] as usize;
-    let mut c: usize = 0;
-    while c < count {
+    let count = usize::from(table[3]);
+    for c in 0..count {
         start_node(
             table,
             starts[c] as usize,
@@ -295,7 +282,6 @@ pub fn start(
             c,
             offset_of(offsets, c),
         );
-        c += 1;
     }
 }
 

@@ -1,5 +1,6 @@
 // A run in words, and its observations as a table.
-#![tactic(auto)]
+// A slice with a place beside it, and no string: there is no heap.
+#![tactic(auto, using(text::proofs::Appended::next))]
 
 mod offsets;
 
@@ -10,23 +11,23 @@ ghost use Rattle.run_text.specs.RunText.{long, word, place_columns, tick_columns
 
 use model::{End, layout};
 pub use offsets::put_offsets;
-use text::{put, put_column, put_field, put_signed_column, wide};
+use text::{put, put_column, put_field, put_signed_column};
 
 // The tick that stands in a node's first observation.
-const NO_WORK: u32 = 4294967295;
+const NO_WORK: u32 = u32::MAX;
 
 fn word_at(bytes: &[u8], at: usize) -> u32
     requires { at + 1 < length bytes.now }
     ensures { (result ≡ word bytes.now at) × (result < 65536) }
 {
-    wide(bytes[at]) * 256 + wide(bytes[at + 1])
+    u32::from(bytes[at]) * 256 + u32::from(bytes[at + 1])
 }
 
 fn long_at(bytes: &[u8], at: usize) -> u32
     requires { at + 3 < length bytes.now }
     ensures { result ≡ long bytes.now at }
 {
-    (word_at(bytes, at) * 256 + wide(bytes[at + 2])) * 256 + wide(bytes[at + 3])
+    (word_at(bytes, at) * 256 + u32::from(bytes[at + 2])) * 256 + u32::from(bytes[at + 3])
 }
 
 // The place: component, edge and location of the observation at the front.
@@ -34,9 +35,9 @@ fn put_place_columns(out: &mut [u8], at: usize, o: &[u8]) -> usize
     requires { (at + 48 ≤ length out.old) × (32 ≤ length o.now) }
     ensures { Added out.old at (place_columns o.now) out.new result × (result ≤ at + 48) }
 {
-    let edge = put_column(out, at, wide(o[0]), 4);
-    let location = put_column(out, edge, wide(o[1]), 5);
-    put_column(out, location, wide(o[2]), 9)
+    let edge = put_column(out, at, u32::from(o[0]), 4);
+    let location = put_column(out, edge, u32::from(o[1]), 5);
+    put_column(out, location, u32::from(o[2]), 9)
 }
 
 // Its tick and first two clocks.
@@ -111,11 +112,10 @@ fn put_not_allowed(out: &mut [u8], at: usize, choices: &[u8], used: u32) -> usiz
     ensures { Added out.old at (not_allowed choices.now used) out.new result × (result ≤ at + 60) }
 {
     let last = put_field(out, at, b"choice not allowed: number ", used);
-    let i = used as usize;
-    if i < choices.len() {
-        return put_field(out, last, b", byte ", wide(choices[i]));
+    match choices.get(used as usize) {
+        Some(choice) => put_field(out, last, b", byte ", u32::from(*choice)),
+        None => last,
     }
-    last
 }
 
 // How the run ended.
@@ -126,7 +126,7 @@ pub fn put_end(out: &mut [u8], at: usize, end: End, choices: &[u8], used: u32) -
     match end {
         End::Horizon => put(out, at, b"horizon reached"),
         End::UsedUp => put(out, at, b"choices used up"),
-        End::Late(node) => put_field(out, at, b"late: node ", wide(node)),
+        End::Late(node) => put_field(out, at, b"late: node ", u32::from(node)),
         End::NotAllowed => put_not_allowed(out, at, choices, used),
     }
 }

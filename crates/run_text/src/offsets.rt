@@ -12,21 +12,14 @@ use text::{put, put_field};
 fn offset_of(offsets: &[u32], c: usize) -> u32
     ensures { result ≡ offset_in offsets.now c }
 {
-    if c < offsets.len() { offsets[c] } else { 0 }
+    offsets.get(c).copied().unwrap_or(0)
 }
 
 // Whether no offset of so many nodes is above 0.
 fn is_together(offsets: &[u32], nodes: usize) -> bool
     ensures { result ≡ offsets_fine 0 nodes offsets.now }
 {
-    let mut c: usize = 0;
-    while c < nodes {
-        if 0 < offset_of(offsets, c) {
-            return false;
-        }
-        c += 1;
-    }
-    true
+    (0..nodes).all(|c| offset_of(offsets, c) == 0)
 }
 
 // The offsets of so many nodes, with commas between.

@@ -26,8 +26,9 @@ use Rattle.model.specs.Schedule.{Passage, start_entry, passage_of, ranged, picke
 use Rattle.model.proofs.Basics.Walk.{all_at}
 use Rattle.model.proofs.Schedule.Own.{all_then}
 use Rattle.model.proofs.Window.Choice.{choice_taken}
-use Rattle.window.specs.declared.Opening.{Opening}
-use Rattle.window.specs.declared.Opening.TheVariants.{Opens, Fails}
+use Rattle.std.specs.Prelude.{Result, Ok, Err}
+use Rattle.window.specs.declared.TakenEdge.{TakenEdge}
+use Rattle.window.specs.declared.Unopened.{Unopened}
 use Rattle.window.specs.Views.{opening_of}
 use Rattle.schedule.specs.Going.{cut}
 
@@ -156,9 +157,9 @@ module _ (channels : TableHeader) (C : Component) (i : ComponentIn channels C) w
   start_cut e a b c d = rw (a, b, c, d, replicate_cut {A = ℕ} C.clocks 4 0 i.most_clocks, replicate_cut {A = ℤ} C.variables 4 (pos 0) i.variables)
 
 -- what the code answers, from an entry cut
-pub opens_cut : (c : ℕ) (C : Component) (at e : Entry) (r : Opening) → e.tick ≡ at.tick → opening_of c C e r ≡ recast e (opening_of c C at r)
-opens_cut c C at e (Opens t) q = rw q
-opens_cut c C at e (Fails n) q = refl
+pub opens_cut : (c : ℕ) (C : Component) (at e : Entry) (r : Result TakenEdge Unopened) → e.tick ≡ at.tick → opening_of c C e r ≡ recast e (opening_of c C at r)
+opens_cut c C at e (Ok t) q = rw q
+opens_cut c C at e (Err why) q = refl
 
 -- ## Where an edge leads
 

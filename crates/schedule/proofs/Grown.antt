@@ -1,6 +1,5 @@
 -- A passage opens: its row, and what the code keeps of it. Assumes nothing.
 use mathlib.Core.Path.{◌≡◌, refl, sym, ap, ◌∙◌}
-use mathlib.Core.Bool.{Bool, true, false}
 use mathlib.Core.Logic.{by_cases}
 use mathlib.Core.List.{List, [], ◌∷◌, map}
 use Prim.Native.Nat.{ℕ, zero, suc, ◌+◌, ◌*◌, ◌≤◌, ◌<◌}
@@ -21,10 +20,10 @@ use Rattle.model.specs.Checks.{passage_at}
 use Rattle.model.proofs.Schedule.Own.{at_set, at_snoc}
 use Rattle.model.proofs.Window.Opening.{opened}
 use Rattle.window.specs.declared.Entry.{Entry}
-use Rattle.window.specs.declared.Opening.{Opening}
-use Rattle.window.specs.declared.Opening.TheVariants.{Opens, Fails}
+use Rattle.std.specs.Prelude.{Result, Ok, Err}
+use Rattle.window.specs.declared.Unopened.{Unopened}
 use Rattle.window.specs.declared.TakenEdge.{TakenEdge}
-use Rattle.window.specs.Views.{entry_of, opening_of, Placed}
+use Rattle.window.specs.Views.{entry_of, opening_of, number_of, Placed}
 use Rattle.rows.specs.Rows.{num, row_passage, rows_from, rows_of, RowsPlaced}
 use Rattle.rows.proofs.Stored.{row_others, row_written}
 use Rattle.rows.proofs.Grown.{rows_added, passage_added, placed_added}
@@ -40,17 +39,17 @@ made bs c at t =
     passage_of c (cut (component_in bs c) (entry_of at)) (record { edge = t.edge; ready = t.ready; end = t.end }) (channel_of (arc_of (component_in bs c) t.edge))
 
 module _ (bs : List ℕ) (c : ℕ) {channels : TableHeader} (i : ComponentIn channels (component_in bs c)) (at : Entry) (there : at.location < length (component_in bs c).locations)
-    (r : Opening) (e : opening_of c (component_in bs c) (entry_of at) r ≡ opening c (component_in bs c) (entry_of at)) where
+    (r : Result TakenEdge Unopened) (e : opening_of c (component_in bs c) (entry_of at) r ≡ opening c (component_in bs c) (entry_of at)) where
   opens : opening c (component_in bs c) (cut (component_in bs c) (entry_of at)) ≡ opening_of c (component_in bs c) (cut (component_in bs c) (entry_of at)) r
   opens =
       let C = component_in bs c in
       opening_cut channels C i c (entry_of at) there ∙ ap (recast (cut C (entry_of at))) (sym e) ∙ sym (opens_cut c C (entry_of at) (cut C (entry_of at)) r refl)
 
-  pub opens_made : {t : TakenEdge} → r ≡ Opens t → opening c (component_in bs c) (cut (component_in bs c) (entry_of at)) ≡ accepted (made bs c at t)
+  pub opens_made : {t : TakenEdge} → r ≡ Ok t → opening c (component_in bs c) (cut (component_in bs c) (entry_of at)) ≡ accepted (made bs c at t)
   opens_made q = opens ∙ ap (opening_of c (component_in bs c) (cut (component_in bs c) (entry_of at))) q
 
-  pub opens_not : {k : ℕ} → r ≡ Fails k → opening c (component_in bs c) (cut (component_in bs c) (entry_of at)) ≡ refused k c
-  opens_not q = opens ∙ ap (opening_of c (component_in bs c) (cut (component_in bs c) (entry_of at))) q
+  pub opens_not : {k : ℕ} {why : Unopened} → k ≡ number_of why → r ≡ Err why → opening c (component_in bs c) (cut (component_in bs c) (entry_of at)) ≡ refused k c
+  opens_not n q = opens ∙ ap (opening_of c (component_in bs c) (cut (component_in bs c) (entry_of at))) q ∙ ap (λ m. refused m c) (sym n)
 
 -- ## Rows
 
@@ -168,7 +167,7 @@ module _ (bs l : List ℕ) (n back c : ℕ) (at : Entry) (t : TakenEdge) (fits :
       pub wide : at.tick + t.ready < at.tick + t.end
       wide = (opened c (component_in bs c) (cut (component_in bs c) (entry_of at)) o).wide
 
-      pub placed_now : c < size (read_of bs).table → Placed bs (start_of bs c) c (Opens t) → at.tick ≤ 60000 → n < 1024 → RowsPlaced bs l n
+      pub placed_now : c < size (read_of bs).table → Placed bs (start_of bs c) c (Ok t) → at.tick ≤ 60000 → n < 1024 → RowsPlaced bs l n
           → ((j : ℕ) → j < n → num l j 3 ≤ at.tick) → back ≤ n → ((j : ℕ) → back ≤ j → j < n → num l j 5 ≤ at.tick + t.end) → RowsPlaced bs l' (n + 1)
       placed_now present p small few r order among skips =
           rw is (placed_added l n c t.edge at.location at.tick (at.tick + t.ready) (at.tick + t.end) t.place back fits bs r
@@ -196,7 +195,7 @@ until ends c at t = set ends c (at.tick + t.end)
 module _ (bs l : List ℕ) (n back c : ℕ) (at : Entry) (t : TakenEdge) (fits : n * 9 + 9 ≤ length l) (l' : List ℕ)
     (is : l' ≡ sets l (n * 9) (c ∷ t.edge ∷ at.location ∷ at.tick ∷ (at.tick + t.ready) ∷ (at.tick + t.end) ∷ 255 ∷ t.place ∷ back ∷ []))
     (o : opening c (component_in bs c) (cut (component_in bs c) (entry_of at)) ≡ accepted (made bs c at t)) (present : c < size (read_of bs).table)
-    (p : Placed bs (start_of bs c) c (Opens t)) (small : at.tick ≤ 60000) (few : n < 1024) (young : All (λ x. x ≤ at.tick) at.clocks)
+    (p : Placed bs (start_of bs c) c (Ok t)) (small : at.tick ≤ 60000) (few : n < 1024) (young : All (λ x. x ≤ at.tick) at.clocks)
     (nodes : List Node) (ends : List ℕ) (in-nodes : c < length nodes) (in-ends : c < length ends) where
   -- the new one is kept
   here : Open bs l' (n + 1) c (get_or (keeps nodes n c at t) c blank) (get_or (until ends c at t) c 0) (made bs c at t)

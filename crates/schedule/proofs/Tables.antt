@@ -15,8 +15,8 @@ use Rattle.model.specs.Places.{arc_place, start_of, ComponentAt, Valid, read_of,
 use Rattle.model.proofs.Reader.Located.{valid_read, valid_located, valid_in}
 use Rattle.model.proofs.Reader.RoundTrip.{written_read}
 use Rattle.table.specs.Directory.{starts_of}
-use Rattle.window.specs.declared.Opening.{Opening}
-use Rattle.window.specs.declared.Opening.TheVariants.{Opens}
+use Rattle.std.specs.Prelude.{Result, Ok}
+use Rattle.window.specs.declared.Unopened.{Unopened}
 use Rattle.window.specs.declared.TakenEdge.{TakenEdge}
 use Rattle.window.specs.Views.{Placed}
 use Rattle.rows.proofs.Placed.{known_bytes, place_small}
@@ -82,9 +82,9 @@ module _ (bs : List ℕ) (b : (j : ℕ) → Fits w8 (get_or bs j 0)) (v : Valid 
   initial_read c start h e q = q ∙ ap (λ n. byte bs (n + 3)) e ∙ (stands_at c h).initial
 
   -- an opened passage's edge has small numbers
-  pub edge_small : (c start : ℕ) {r : Opening} {t : TakenEdge} → r ≡ Opens t → c < size (read_of bs).table → start ≡ start_of bs c → Placed bs start c r
+  pub edge_small : (c start : ℕ) {r : Result TakenEdge Unopened} {t : TakenEdge} → r ≡ Ok t → c < size (read_of bs).table → start ≡ start_of bs c → Placed bs start c r
       → (t.place < 65536) × (t.ready ≤ 65535) × (t.end ≤ 65535)
   edge_small c start {r} {t} q h e p =
-      let k : Placed bs start c (Opens t) = subst (Placed bs start c) q p in
+      let k : Placed bs start c (Ok t) = subst (Placed bs start c) q p in
       let m : t.place ≡ arc_place bs (start_of bs c) t.edge = k.1 ∙ ap (λ n. arc_place bs n t.edge) e in
       (omega (arith, m, place_small bs c t.edge (known_bytes bs b) v h k.0), k.2, k.3)

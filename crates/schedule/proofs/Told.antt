@@ -1,13 +1,13 @@
 -- A passage that closes gets its message: what that leaves as it was, and that the message stays the one found. Assumes nothing.
 use mathlib.Core.Path.{◌≡◌, sym, ap, ap₂, ◌∙◌}
-use mathlib.Core.List.{List, map}
+use mathlib.Core.List.{List}
 use Prim.Native.Nat.{ℕ, ◌+◌, ◌*◌, ◌≤◌, ◌<◌}
 use native.Mathlib.Omega.{arith}
-use lib.ListN.{length, get_or, set, length-set}
+use lib.ListN.{length, set, length-set}
 use lib.Seq.{get_or-set_same, get_or-set_other}
 use Rattle.model.specs.Lists.{empty, more, snoc}
 use Rattle.model.specs.Places.{read_of}
-use Rattle.model.specs.Schedule.{Passage, message_in, OpenedSoFar, bare}
+use Rattle.model.specs.Schedule.{Passage, message_in, OpenedSoFar}
 use Rattle.model.proofs.Schedule.Messages.{same_message}
 use Rattle.rows.specs.Rows.{num, message_of, row_passage, rows_of, Told}
 use Rattle.rows.proofs.Relabelled.{row_bare, rows_bare, same_rows}

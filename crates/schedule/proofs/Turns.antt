@@ -10,7 +10,7 @@ use mir.Val.{Fits}
 use mir.Syntax.{w8}
 use lib.IntN.{pos}
 use borrow.Author.Count.{below_more}
-use lib.ListN.{length, get_or, set, drop, replicate, length-map}
+use lib.ListN.{length, get_or, drop, replicate, length-map}
 use lib.Seq.{sets, length-sets, get_or-set_same, get_or-set_other}
 use Rattle.model.specs.declared.Verdict.TheVariants.{Accepted, Refused}
 use Rattle.model.specs.Lists.{All, empty, more, snoc, Answer, accepted, refused, ◌after◌}
@@ -22,10 +22,10 @@ use Rattle.model.specs.Schedule.{opened as put}
 use Rattle.model.specs.Checks.{passage_at}
 use Rattle.model.specs.Calls.{verdict_of}
 use Rattle.window.specs.declared.Entry.{Entry}
-use Rattle.window.specs.declared.Opening.{Opening}
-use Rattle.window.specs.declared.Opening.TheVariants.{Opens, Fails}
+use Rattle.std.specs.Prelude.{Result, Ok, Err}
+use Rattle.window.specs.declared.Unopened.{Unopened}
 use Rattle.window.specs.declared.TakenEdge.{TakenEdge}
-use Rattle.window.specs.Views.{entry_of, opening_of, Placed}
+use Rattle.window.specs.Views.{entry_of, opening_of, number_of, Placed}
 use Rattle.rows.specs.Rows.{num, row_passage, rows_from, rows_of, RowsPlaced, Told}
 use Rattle.schedule.specs.declared.Node.{Node}
 use Rattle.schedule.specs.declared.Turn.{Turn}
@@ -109,19 +109,19 @@ module _ (bs l : List ℕ) (b : (j : ℕ) → Fits w8 (get_or bs j 0)) (c : ℕ)
     few : 0 < 1024 - c
     few = omega (arith, few_components bs b valid)
 
-    module _ (r : Opening) (e : opening_of c (component_in bs c) (entry_of at) r ≡ opening c (component_in bs c) (entry_of at)) where
+    module _ (r : Result TakenEdge Unopened) (e : opening_of c (component_in bs c) (entry_of at) r ≡ opening c (component_in bs c) (entry_of at)) where
       -- 8 or 9
-      pub begin_refused : {k : ℕ} → r ≡ Fails k → begun bs ≡ refused k c
-      begin_refused {k} q =
+      pub begin_refused : {k : ℕ} {why : Unopened} → k ≡ number_of why → r ≡ Err why → begun bs ≡ refused k c
+      begin_refused {k} n q =
           begin_fails (read_of bs).table.components (1024 - c) c g.first (begun bs) g.begins (component_in bs c) refl there few k
-          (ap (opening c (component_in bs c)) starts ∙ opens_not bs c (limits_of bs b valid c there) at begin_location r e q)
+          (ap (opening c (component_in bs c)) starts ∙ opens_not bs c (limits_of bs b valid c there) at begin_location r e n q)
 
-      pub begin_stops : {k : ℕ} → r ≡ Fails k → StopsAt bs (first_stop bs) k c c at
-      begin_stops {k} q =
+      pub begin_stops : {k : ℕ} {why : Unopened} → k ≡ number_of why → r ≡ Err why → StopsAt bs (first_stop bs) k c c at
+      begin_stops {k} n q =
           record {
             stop = sym g.stop
                 ∙ begin_stop_here (read_of bs).table.components (1024 - c) c g.first (component_in bs c) refl there few k
-                (ap (opening c (component_in bs c)) starts ∙ opens_not bs c (limits_of bs b valid c there) at begin_location r e q)
+                (ap (opening c (component_in bs c)) starts ∙ opens_not bs c (limits_of bs b valid c there) at begin_location r e n q)
                 ∙ ap₂ (λ m d. some (record { number = k; passage = m; component = c; automaton = component_in bs c; entry = d })) g.going.full starts;
             few = omega (arith, few);
             component = there;
@@ -129,12 +129,12 @@ module _ (bs l : List ℕ) (b : (j : ℕ) → Fits w8 (get_or bs j 0)) (c : ℕ)
           }
 
       -- it opens
-      pub begin_on : {t : TakenEdge} → r ≡ Opens t → Placed bs (start_of bs c) c r → c * 9 + 9 ≤ length l → (l' : List ℕ)
+      pub begin_on : {t : TakenEdge} → r ≡ Ok t → Placed bs (start_of bs c) c r → c * 9 + 9 ≤ length l → (l' : List ℕ)
           → l' ≡ sets l (c * 9) (c ∷ t.edge ∷ at.location ∷ at.tick ∷ (at.tick + t.ready) ∷ (at.tick + t.end) ∷ 255 ∷ t.place ∷ c ∷ [])
           → c < length nodes → c < length ends → Beginning bs l' (c + 1) (keeps nodes c c at t) (until ends c at t)
       begin_on {t} q p fits l' is h k =
           let o = opens_made bs c (limits_of bs b valid c there) at begin_location r e q in
-          let p' : Placed bs (start_of bs c) c (Opens t) = subst (Placed bs (start_of bs c) c) q p in
+          let p' : Placed bs (start_of bs c) c (Ok t) = subst (Placed bs (start_of bs c) c) q p in
           let young : All (λ x. x ≤ at.tick) at.clocks = subst (λ (xs : List ℕ). All (λ x. x ≤ at.tick) xs) (sym clocks) (zeros_young 4 at.tick) in
           let w = made bs c at t in
           let n : 1024 - c - 1 ≡ 1024 - (c + 1) = omega arith in
@@ -308,21 +308,21 @@ module _ (bs l : List ℕ) (b : (j : ℕ) → Fits w8 (get_or bs j 0)) (n : ℕ)
       pub loop_full_at : n ≤ 1024 → 1024 ≤ n → StopsAt bs (stop_in bs) 7 n c t.at
       loop_full_at m h = stops_at 7 m (full_stop T H g.so_far ends c s g.going.full ends_are below (1024 - n) (omega arith))
 
-      refuses : {k : ℕ} → t.opening ≡ Fails k → opening c C (closing T H g.so_far.listed v) ≡ refused k c
-      refuses q = ap (opening c C) leads ∙ opens_not bs c (limits_of bs b g.going.placed.valid c present) t.at u.there t.opening u.opens q
+      refuses : {k : ℕ} {why : Unopened} → k ≡ number_of why → t.opening ≡ Err why → opening c C (closing T H g.so_far.listed v) ≡ refused k c
+      refuses n q = ap (opening c C) leads ∙ opens_not bs c (limits_of bs b g.going.placed.valid c present) t.at u.there t.opening u.opens n q
 
       module _ (room : n < 1024) where
         -- 8 or 9
-        pub loop_fails : {k : ℕ} → t.opening ≡ Fails k → (r : Scheduled) → r.verdict ≡ Refused k c → r.count ≡ 0 → Listed bs (unfinished bs) r l
-        loop_fails {k} q r p z =
-            listed_refused r k c (sym g.same ∙ fails T H g.so_far ends c s g.going.full ends_are below (1024 - n) (omega arith) k (refuses q))
+        pub loop_fails : {k : ℕ} {why : Unopened} → k ≡ number_of why → t.opening ≡ Err why → (r : Scheduled) → r.verdict ≡ Refused k c → r.count ≡ 0 → Listed bs (unfinished bs) r l
+        loop_fails {k} e q r p z =
+            listed_refused r k c (sym g.same ∙ fails T H g.so_far ends c s g.going.full ends_are below (1024 - n) (omega arith) k (refuses e q))
             g.going.placed p z
 
-        pub loop_fails_at : {k : ℕ} → t.opening ≡ Fails k → StopsAt bs (stop_in bs) k n c t.at
-        loop_fails_at {k} q = stops_at k (omega arith) (stop_here T H g.so_far ends c s g.going.full ends_are below (1024 - n) (omega arith) k (refuses q))
+        pub loop_fails_at : {k : ℕ} {why : Unopened} → k ≡ number_of why → t.opening ≡ Err why → StopsAt bs (stop_in bs) k n c t.at
+        loop_fails_at {k} e q = stops_at k (omega arith) (stop_here T H g.so_far ends c s g.going.full ends_are below (1024 - n) (omega arith) k (refuses e q))
 
       -- it opens, and the passage that closed gets its message
-      module _ (room : n < 1024) {e : TakenEdge} (q : t.opening ≡ Opens e) (fits : n * 9 + 9 ≤ length l) (back : ℕ) (among : back ≤ n)
+      module _ (room : n < 1024) {e : TakenEdge} (q : t.opening ≡ Ok e) (fits : n * 9 + 9 ≤ length l) (back : ℕ) (among : back ≤ n)
           (skips : (i : ℕ) → back ≤ i → i < n → num l i 5 ≤ t.at.tick + e.end) (l' : List ℕ)
           (is : l' ≡ sets l (n * 9) (c ∷ e.edge ∷ t.at.location ∷ t.at.tick ∷ (t.at.tick + e.ready) ∷ (t.at.tick + e.end) ∷ 255 ∷ e.place ∷ back ∷ []))
           (in-nodes : c < length nodes) (in-ends : c < length ends) where
@@ -334,7 +334,7 @@ module _ (bs l : List ℕ) (b : (j : ℕ) → Fits w8 (get_or bs j 0)) (n : ℕ)
 
         opened_going : Going bs l' (n + 1) (size T) (keeps nodes n c t.at e) (until ends c t.at e) (put g.so_far w)
         opened_going =
-            let p : Placed bs (start_of bs c) c (Opens e) = subst (Placed bs (start_of bs c) c) q u.placed in
+            let p : Placed bs (start_of bs c) c (Ok e) = subst (Placed bs (start_of bs c) c) q u.placed in
             going_on bs l n back c t.at e fits l' is opens present p (omega (arith, horizon_small bs b g.going.placed.valid, tick_is)) room
             (rw tick_is u.young) nodes ends in-nodes in-ends g.going s tick_is among skips
 

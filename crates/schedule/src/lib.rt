@@ -15,7 +15,7 @@ ghost use Rattle.schedule.specs.Filled.{Filled, schedule_of, accepted_schedule_i
 ghost use Rattle.schedule.specs.Going.{kept_of, Soonest, Stands, Turned, Started, Begins, Listed, Stops, unfinished, EdgesIndexed};
 
 use model::{Verdict, layout};
-use window::{Entry, Opening, TakenEdge};
+use window::{Entry, TakenEdge, Unopened};
 
 // The open passage of a component.
 #[derive(Clone, Copy)]
@@ -30,7 +30,7 @@ pub struct Node {
 pub struct Turn {
     pub message: u8,
     pub at: Entry,
-    pub opening: Opening,
+    pub opening: Result<TakenEdge, Unopened>,
 }
 
 // The verdict on the openings at tick 0, and the open passages with the ticks at which they end; after a refusal the entry of the opening refused.
@@ -110,12 +110,10 @@ fn soonest(ends: &[u32], count: usize) -> usize
     ensures { Soonest ends.now count result }
 {
     let mut best: usize = 0;
-    let mut i: usize = 1;
-    while i < count {
+    for i in 1..count {
         if ends[i] < ends[best] {
             best = i;
         }
-        i += 1;
     }
     best
 }
@@ -200,8 +198,7 @@ fn index_edges(table: &[u8], starts: [u16; 8], index: &mut [u16], budgets: bool)
     ensures { EdgesIndexed table.now index.new }
 {
     let count = parts::wide(table[layout::TABLE_COMPONENTS]);
-    let mut component: usize = 0;
-    while component < count {
+    for component in 0..count {
         window::index::put_edges(
             table,
             parts::word_place(starts[component]),
@@ -209,7 +206,6 @@ fn index_edges(table: &[u8], starts: [u16; 8], index: &mut [u16], budgets: bool)
             index,
             budgets,
         );
-        component += 1;
     }
 }
 
@@ -222,27 +218,25 @@ fn begin(table: &[u8], starts: [u16; 8], rows: &mut [u32], index: &[u16], budget
     let none = no_node();
     let mut nodes = [none; 8];
     let mut ends = [0u32; 8];
-    let mut component: usize = 0;
-    while component < count {
+    for component in 0..count {
         let start = parts::word_place(starts[component]);
         let at = start_entry(table, start);
         let opening = window::open(table, start, component as u8, at, index, budgets);
         match opening {
-            Opening::Fails(number) => {
+            Err(why) => {
                 return Opened {
-                    verdict: Verdict::Refused(number, component as u8),
+                    verdict: Verdict::Refused(why.number(), component as u8),
                     nodes,
                     ends,
                     at,
                 };
             }
-            Opening::Opens(taken) => {
+            Ok(taken) => {
                 put_opened(rows, component, component as u8, at, taken, component);
                 nodes[component] = kept(at, taken, component);
                 ends[component] = at.tick + taken.end;
             }
         }
-        component += 1;
     }
     let at = none.entry;
     Opened {
@@ -272,6 +266,7 @@ fn go_on(
     let mut nodes = from;
     let mut ends = until;
     let mut filled = count;
+    // A loop: how many passages open is known only where the least end reaches the horizon.
     loop {
         let component = soonest(&ends, count);
         let end = ends[component];
@@ -302,10 +297,10 @@ fn go_on(
         }
         let opening = turn.opening;
         match opening {
-            Opening::Fails(number) => {
-                return refused_at(number, component, filled, at);
+            Err(why) => {
+                return refused_at(why.number(), component, filled, at);
             }
-            Opening::Opens(next) => {
+            Ok(next) => {
                 let back = rows::open_before(rows, filled, at.tick + next.end + 1);
                 put_opened(rows, filled, component as u8, at, next, back);
                 rows::put_message(rows, node.row, turn.message);
@@ -413,9 +408,7 @@ pub fn put_fields(rows: &[u32], count: usize, out: &mut [u32])
     requires { (count * 9 ≤ length rows.now) × (count * 7 ≤ length out.old) × (count ≤ 1024) }
     ensures { out.new ≡ each seven_of (rows_of rows.now count) ++ drop (count * 7) out.old }
 {
-    let mut i: usize = 0;
-    while i < count {
+    for i in 0..count {
         put_seven(rows, i, out, i);
-        i += 1;
     }
 }

@@ -8,10 +8,10 @@ fn main(rt: HostRuntime) {
     let n = streams::read_full(&mut rt.stdin(), &mut input);
     let mut out = [0u8; schedule_words::ROOM];
     let size = schedule_words::write(&input[..n], &mut out);
-    streams::write_or_say(
+    streams::write_or_say_line(
         &rt.stdout(),
         &rt.stderr(),
         &out[..size],
-        b"The schedule could not be written.\n",
+        "The schedule could not be written.",
     );
 }

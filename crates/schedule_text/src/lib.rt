@@ -1,5 +1,6 @@
 // A schedule as a text, from passages, written into a lent slice.
-#![tactic(auto)]
+// A slice with a place beside it, and no string: there is no heap.
+#![tactic(auto, using(text::proofs::Appended::next))]
 
 ghost use Rattle.std.specs.Prelude.{◌≡◌, List, ◌++◌, map, ℕ, ◌+◌, ◌*◌, ◌≤◌, length, take};
 ghost use Rattle.rows.specs.Rows.{message_of};
@@ -26,9 +27,9 @@ fn put_place(out: &mut [u8], at: usize, p: Passage) -> usize
     requires { at + 32 ≤ length out.old }
     ensures { Added out.old at (place_text (shown p)) out.new result × (result ≤ at + 32) }
 {
-    let edge = put_decimal(out, at, p.component as u32);
-    let location = put_field(out, edge, b" ", p.edge as u32);
-    put_field(out, location, b" ", p.location as u32)
+    let edge = put_decimal(out, at, u32::from(p.component));
+    let location = put_field(out, edge, b" ", u32::from(p.edge));
+    put_field(out, location, b" ", u32::from(p.location))
 }
 
 // Entry, ready and end.
@@ -42,27 +43,25 @@ fn put_ticks(out: &mut [u8], at: usize, p: Passage) -> usize
 }
 
 // The seven fields.
+#[tactic(auto, using(text::proofs::Appended::next), unfolding(crate::specs::ScheduleText::passage_line))]
 pub fn put_passage(out: &mut [u8], at: usize, p: Passage) -> usize
     requires { at + 77 ≤ length out.old }
     ensures { Added out.old at (passage_line (shown p)) out.new result × (result ≤ at + 77) }
 {
     let ticks = put_place(out, at, p);
     let message = put_ticks(out, ticks, p);
-    let last = put_message(out, message, p.message as u32);
+    let last = put_message(out, message, u32::from(p.message));
     put(out, last, b"\n")
 }
 
-// The first n of the passages, a line a passage, at the front of out.
-pub fn put_schedule(out: &mut [u8], items: [Passage; 1024], n: usize) -> usize
-    requires { (26 + n * 77 ≤ length out.old) × (n ≤ 1024) × (n ≤ length items) }
-    ensures { (take result out.new ≡ schedule_text (map shown (take n items))) × (result ≤ 26 + n * 77) }
+// The passages, a line a passage, at the front of out.
+pub fn put_schedule(out: &mut [u8], passages: &[Passage]) -> usize
+    requires { 26 + length passages.now * 77 ≤ length out.old }
+    ensures { (take result out.new ≡ schedule_text (map shown passages.now)) × (result ≤ 26 + length passages.now * 77) }
 {
     let mut at = put(out, 0, b"c e l entry ready end msg\n");
-    let mut i: usize = 0;
-    while i < n {
-        let passage = items[i];
-        at = put_passage(out, at, passage);
-        i += 1;
+    for passage in passages {
+        at = put_passage(out, at, *passage);
     }
     at
 }

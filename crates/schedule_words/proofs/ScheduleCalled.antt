@@ -2,10 +2,10 @@
 use mathlib.Core.Path.{◌≡◌, refl, sym, ap, ap₂, ◌∙◌}
 use mathlib.Core.List.{List, [], ◌∷◌, ◌++◌, map}
 use mathlib.Core.Option.{Option, none, some}
-use Prim.Native.Nat.{ℕ, ◌≤◌}
+use Prim.Native.Nat.{ℕ}
 use native.Mathlib.Omega.{arith}
 use borrow.Author.Tests.{ne_eqb}
-use lib.ListN.{length, take, drop, replicate, length-map, length-append, length-replicate}
+use lib.ListN.{length, take, drop, replicate, length-map, length-replicate}
 use lib.Seq.{take-append_seam}
 use Rattle.model.specs.declared.Verdict.TheVariants.{Accepted, Refused}
 use Rattle.model.specs.Lists.{Answer, accepted, refused, All, empty, more, or_else, each, Bytes}
@@ -66,9 +66,6 @@ module _ (table : List ℕ) (bytes : Bytes table) where
 
     written : items ≡ map passage_of found.0 ++ drop (length found.0) blanks
     written = is ∙ ap (λ (x : PassagesCall). x.lent) (laid found.1)
-
-    pub all_there : n ≤ length items
-    all_there = rw (written, length-append (map passage_of found.0) (drop (length found.0) blanks)) (omega (arith, count))
 
     front : take n items ≡ map passage_of found.0
     front =

@@ -7,6 +7,7 @@ ghost use Rattle.io.specs.Counts.{IsPrefixLen};
 ghost use Rattle.schedule_text.specs.ScheduleText.{printed_schedule};
 
 use model::Verdict;
+use passages::Passage;
 
 // The first line has 26 bytes, and each of 1,024 passages at most 77.
 pub const ROOM: usize = 78874;
@@ -17,12 +18,20 @@ fn put_printed(table: &[u8], out: &mut [u8]) -> usize
     ensures prefix_len { IsPrefixLen result out.new }
     ensures out_after { take result out.new ≡ printed_schedule table.now }
 {
-    let p = passages::schedule_of(table);
-    let items = p.items;
-    let n = p.count;
-    let v = p.verdict;
-    match v {
-        Verdict::Accepted => schedule_text::put_schedule(out, items, n),
+    // The list is lent, not answered: a list in an answer stands on the stack once more.
+    let blank = Passage {
+        component: 0,
+        edge: 0,
+        location: 0,
+        message: 0,
+        entry: 0,
+        ready: 0,
+        end: 0,
+    };
+    let mut list = [blank; 1024];
+    let called = passages::schedule_into(table, &mut list);
+    match called.verdict {
+        Verdict::Accepted => schedule_text::put_schedule(out, &list[..called.size]),
         Verdict::Refused(number, component) => text::put_refusal(out, 0, number, component),
     }
 }

@@ -4,9 +4,10 @@ use mathlib.Core.Bool.{Bool, true, false, cond, ◌&&◌}
 use mathlib.Core.List.{List, []}
 use Prim.Native.Nat.{ℕ, ◌≤◌, ◌<◌}
 use native.Mathlib.Omega.{arith}
-use borrow.Author.Tests.{ne_eqb, leb-true}
+use borrow.Author.Tests.{ne_eqb, eqb-true, leb-true}
 use lib.Dec.{leb, eqb}
 use lib.IntN.{ℤ}
+use Rattle.std.specs.Prelude.{Option, None, Some}
 use Rattle.model.specs.declared.Verdict.TheVariants.{Accepted}
 use Rattle.model.specs.Lists.{Bytes, Answer, accepted, refused}
 use Rattle.model.specs.Table.{Read}
@@ -15,13 +16,13 @@ use Rattle.model.specs.Places.{Valid, read_of}
 use Rattle.model.specs.Schedule.{Passage}
 use Rattle.model.specs.Checks.{accepted_schedule_of}
 use Rattle.model.specs.Program.{program_bytes}
-use Rattle.model.specs.Run.{Setting, setting_of, run}
+use Rattle.model.specs.Run.{Setting, setting_of, Result, run}
 use Rattle.model.proofs.Basics.Bools.{and_is}
 use Rattle.model.proofs.Reader.Located.{valid_read}
 use Rattle.machine.specs.Running.{setting_in}
 use Rattle.run.specs.Ends.{Started, Planned, PlannedApart}
 use Rattle.run.proofs.Handed.{setting_is}
-use Rattle.simulation.specs.Simulated.{Span, SimulateCall, not_simulated, simulated_all, tryable, simulate_planned, simulate_read, simulate_call}
+use Rattle.simulation.specs.Simulated.{Span, simulated, SimulateCall, not_simulated, simulated_all, tryable, simulate_planned, simulate_read, simulate_call}
 use Rattle.simulation.proofs.Counts.{late_placed}
 use Rattle.simulator.specs.Answers.{TriedAs}
 use Rattle.simulated_runs.specs.declared.Tally.{Tally}
@@ -36,15 +37,29 @@ together p = record { spread = 0; plan = p; permitted = λ c h. omega arith }
 
 -- the run of the slices is that of the table and its schedule
 pub tried_so : (table : List ℕ) → Bytes table → Valid table → {program rows : List ℕ} {n : ℕ} → program ≡ program_bytes (read_of table) → Planned 0 table rows n → {l : List ℕ} {v : List ℤ}
-    → Started table program rows n [] l v → {H : ℕ} → H ≡ word table 5 → (w : Span) (seed : ℕ) {node state : ℕ} → TriedAs (setting_in program H rows n l (byte table 3)) w seed node state
-    → (S : List Passage) → accepted_schedule_of (read_of table) ≡ accepted S → TriedAs (setting_of (read_of table) S) w seed node state
-tried_so table b valid e p s h w seed {node} {state} T S q =
-    subst (λ (g : Setting). TriedAs g w seed node state) (setting_is table b valid e (together p) s h 0 S q) T
+    → Started table program rows n [] l v → {H : ℕ} → H ≡ word table 5 → (w : Span) (seed : ℕ) {late : Option ℕ} {state : ℕ} → TriedAs (setting_in program H rows n l (byte table 3)) w seed late state
+    → (S : List Passage) → accepted_schedule_of (read_of table) ≡ accepted S → TriedAs (setting_of (read_of table) S) w seed late state
+tried_so table b valid e p s h w seed {late} {state} T S q =
+    subst (λ (g : Setting). TriedAs g w seed late state) (setting_is table b valid e (together p) s h 0 S q) T
 
 -- a late run of an accepted table has one of eight nodes
 pub placed : (table : List ℕ) → Valid table → (S : List Passage) → accepted_schedule_of (read_of table) ≡ accepted S
     → (cs : List ℕ) → (run (setting_of (read_of table) S) cs).end ≡ 2 → (run (setting_of (read_of table) S) cs).node < 8
 placed table valid S e = late_placed table (read_of table) S (valid_read table valid) e
+
+-- so the late node of a simulated run is
+pub late_among : (table : List ℕ) → Valid table → (S : List Passage) → accepted_schedule_of (read_of table) ≡ accepted S → (w : Span) (seed : ℕ) {late : Option ℕ} {state : ℕ}
+    → TriedAs (setting_of (read_of table) S) w seed late state → (c : ℕ) → late ≡ Some c → c < 8
+late_among table valid S e w seed {late} T c is = go (eqb ended.end 2) refl (sym T.0 ∙ is)
+  where
+    ended : Result
+    ended = run (setting_of (read_of table) S) (simulated (setting_of (read_of table) S) w seed).choices
+
+    go : (b : Bool) → eqb ended.end 2 ≡ b → cond b (Some ended.node) None ≡ Some c → c < 8
+    go true t q =
+        let same : ended.node ≡ c = cc in
+        omega (arith, placed table valid S e (simulated (setting_of (read_of table) S) w seed).choices (eqb-true ended.end 2 t))
+    go false t q = absurd (cc)
 
 -- ## Refused by the checks
 

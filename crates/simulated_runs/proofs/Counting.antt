@@ -6,21 +6,20 @@ use mathlib.Core.List.{List, [], ◌∷◌, map}
 use Prim.Native.Nat.{ℕ, zero, suc, ◌+◌, ◌-◌, ◌≤◌, ◌<◌}
 use native.Mathlib.Omega.{arith}
 use native.Mathlib.Decide.{ℕ_discrete}
-use borrow.Author.Tests.{eqb-true, eq-eqb, ne_eqb}
+use borrow.Author.Tests.{eq-eqb, ne_eqb}
 use lib.Dec.{eqb}
 use lib.ListN.{length, get_or, set, length-set}
 use lib.Seq.{get_or-set_same, get_or-set_other}
+use Rattle.std.specs.Prelude.{Option, None, Some}
 use Rattle.model.specs.Lists.{only, from, accepted}
 use Rattle.model.specs.Places.{Valid, read_of}
 use Rattle.model.specs.Schedule.{Passage}
 use Rattle.model.specs.Checks.{accepted_schedule_of}
 use Rattle.model.specs.Run.{Setting, setting_of, run}
-use Rattle.simulation.specs.Simulated.{Span, simulated, trials, draw_after, ends_late, ends_late_at, simulated_all}
+use Rattle.simulation.specs.Simulated.{Span, simulated, trials, draw_after, ends_late, ends_late_at}
 use Rattle.simulation.proofs.Counts.{one_more}
 use Rattle.simulator.specs.Answers.{TriedAs}
-use Rattle.simulated_runs.specs.declared.Tally.{Tally}
 use Rattle.simulated_runs.specs.Answers.{TalliedAs}
-use Rattle.simulated_runs.proofs.Calling.{placed}
 
 -- one more for a node
 one_up : (nodes : List ℕ) (node c : ℕ) → node < length nodes → c ≡ node → get_or (set nodes node (get_or nodes node 0 + 1)) c 0 ≡ get_or nodes c 0 + 1
@@ -39,8 +38,7 @@ module _ (g : Setting) (w : Span) where
   pub none_counted : (runs seed : ℕ) {zeros : List ℕ} → ((c : ℕ) → c < 8 → get_or zeros c 0 ≡ 0) → Counted g w runs seed runs 0 zeros seed
   none_counted runs seed z = record { all = omega arith; each = λ c h. omega (arith, z c h); draw = refl }
 
-  module _ {runs seed left late : ℕ} {nodes : List ℕ} {state : ℕ} (C : Counted g w runs seed (suc left) late nodes state) {node next : ℕ} (T : TriedAs g w state node next)
-      (within : (run g (simulated g w state).choices).end ≡ 2 → (run g (simulated g w state).choices).node < 8) where
+  module _ {runs seed left late : ℕ} {nodes : List ℕ} {state : ℕ} (C : Counted g w runs seed (suc left) late nodes state) {found : Option ℕ} {next : ℕ} (T : TriedAs g w state found next) where
     abbrev cs : List ℕ
     cs = (simulated g w state).choices
 
@@ -60,18 +58,18 @@ module _ (g : Setting) (w : Span) where
     drawn_on = ap (draw_after g w left) T.1 ∙ C.draw
 
     -- a late run has the late node
-    is-late : (b : Bool) → eqb (run g cs).end 2 ≡ b → cond {A = ℕ} b (run g cs).node 255 ≡ node → node < 8 → (eqb (run g cs).end 2 ≡ true) × ((run g cs).node ≡ node)
-    is-late true e q h = (e, q)
-    is-late false e q h = absurd (omega (arith, q, h))
+    is-late : (b : Bool) (node : ℕ) → eqb (run g cs).end 2 ≡ b → cond b (Some (run g cs).node) None ≡ Some node → (eqb (run g cs).end 2 ≡ true) × ((run g cs).node ≡ node)
+    is-late true node e q = (e, cc)
+    is-late false node e q = absurd (cc)
 
-    is_not : (b : Bool) → eqb (run g cs).end 2 ≡ b → cond {A = ℕ} b (run g cs).node 255 ≡ node → 8 ≤ node → eqb (run g cs).end 2 ≡ false
-    is_not true e q h = absurd (omega (arith, q, h, within (eqb-true (run g cs).end 2 e)))
-    is_not false e q h = e
+    is_not : (b : Bool) → eqb (run g cs).end 2 ≡ b → cond b (Some (run g cs).node) None ≡ None → eqb (run g cs).end 2 ≡ false
+    is_not true e q = absurd (cc)
+    is_not false e q = e
 
     -- it is late
-    pub late_counted : node < 8 → 8 ≤ length nodes → Counted g w runs seed left (late + 1) (set nodes node (get_or nodes node 0 + 1)) next
-    late_counted h long =
-        let q = is-late (eqb (run g cs).end 2) refl (sym T.0) h in
+    pub late_counted : {node : ℕ} → found ≡ Some node → node < 8 → 8 ≤ length nodes → Counted g w runs seed left (late + 1) (set nodes node (get_or nodes node 0 + 1)) next
+    late_counted {node} is h long =
+        let q = is-late (eqb (run g cs).end 2) node refl (sym T.0 ∙ is) in
         let marks : ◌≡◌ {A = ℕ} (cond (ends_late g w cs) 1 0) 1 = ap (λ (b : Bool). cond {A = ℕ} b 1 0) q.0 in
         record {
           all = omega (arith, counts (ends_late g w), C.all, marks);
@@ -86,9 +84,9 @@ module _ (g : Setting) (w : Span) where
         }
 
     -- it is not
-    pub none_late : 8 ≤ node → Counted g w runs seed left late nodes next
-    none_late h =
-        let q = is_not (eqb (run g cs).end 2) refl (sym T.0) h in
+    pub none_late : found ≡ None → Counted g w runs seed left late nodes next
+    none_late is =
+        let q = is_not (eqb (run g cs).end 2) refl (sym T.0 ∙ is) in
         let marks : ◌≡◌ {A = ℕ} (cond (ends_late g w cs) 1 0) 0 = ap (λ (b : Bool). cond {A = ℕ} b 1 0) q in
         record {
           all = omega (arith, counts (ends_late g w), C.all, marks);
@@ -153,15 +151,15 @@ module _ (table : List ℕ) (valid : Valid table) (w : Span) {runs seed : ℕ} w
     counts_as {late'} {nodes'} e f =
         subst (λ (k : ℕ). Tallying table w runs seed left k nodes' state) (sym e) (subst (λ (l : List ℕ). Tallying table w runs seed left late l state) (sym f) T)
 
-    module _ (some : 0 < left) {node next : ℕ} (R : (S : List Passage) → accepted_schedule_of (read_of table) ≡ accepted S → TriedAs (setting_of (read_of table) S) w state node next) where
+    module _ (some : 0 < left) {found : Option ℕ} {next : ℕ} (R : (S : List Passage) → accepted_schedule_of (read_of table) ≡ accepted S → TriedAs (setting_of (read_of table) S) w state found next) where
       ahead : (S : List Passage) → accepted_schedule_of (read_of table) ≡ accepted S → Counted (setting_of (read_of table) S) w runs seed (suc (left - 1)) late nodes state
       ahead S e =
           let a : left ≡ suc (left - 1) = omega (arith, some) in
           subst (λ (k : ℕ). Counted (setting_of (read_of table) S) w runs seed k late nodes state) a (T.counted S e)
 
       -- one more is done, late ..
-      pub tally_late : node < 8 → Tallying table w runs seed (left - 1) (late + 1) (set nodes node (get_or nodes node 0 + 1)) next
-      tally_late h =
+      pub tally_late : {node : ℕ} → found ≡ Some node → node < 8 → Tallying table w runs seed (left - 1) (late + 1) (set nodes node (get_or nodes node 0 + 1)) next
+      tally_late {node} is h =
           record {
             few = omega (arith, T.few, some);
             eight = length-set nodes node (get_or nodes node 0 + 1) ∙ T.eight;
@@ -170,17 +168,17 @@ module _ (table : List ℕ) (valid : Valid table) (w : Span) {runs seed : ℕ} w
                 by_cases (ℕ_discrete c node)
                 (λ e. omega (arith, T.each c k, some, one_up nodes node c (omega (arith, h, T.eight)) e))
                 (λ e. omega (arith, T.each c k, get_or-set_other nodes node c (get_or nodes node 0 + 1) 0 e));
-            counted = λ S e. late_counted (setting_of (read_of table) S) w (ahead S e) (R S e) (placed table valid S e _) h (omega (arith, T.eight));
+            counted = λ S e. late_counted (setting_of (read_of table) S) w (ahead S e) (R S e) is h (omega (arith, T.eight));
           }
 
       -- .. or not
-      pub tally_on : 8 ≤ node → Tallying table w runs seed (left - 1) late nodes next
-      tally_on h =
+      pub tally_on : found ≡ None → Tallying table w runs seed (left - 1) late nodes next
+      tally_on is =
           record {
             few = omega (arith, T.few);
             eight = T.eight;
             each = λ c k. omega (arith, T.each c k);
-            counted = λ S e. none_late (setting_of (read_of table) S) w (ahead S e) (R S e) (placed table valid S e _) h;
+            counted = λ S e. none_late (setting_of (read_of table) S) w (ahead S e) (R S e) is;
           }
 
     -- all are done

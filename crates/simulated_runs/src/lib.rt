@@ -3,7 +3,8 @@
 
 pub mod call;
 
-ghost use Rattle.std.specs.Prelude.{◌≡◌, List, ◌≤◌};
+ghost use Rattle.std.specs.Prelude.{◌≡◌, List, ◌≤◌, ◌<◌};
+ghost use Rattle.std.specs.Option.{ForSome};
 ghost use Rattle.model.specs.Lists.{accepted};
 ghost use Rattle.model.specs.Reader.{byte};
 ghost use Rattle.model.specs.Places.{Valid, read_of};
@@ -39,7 +40,8 @@ fn fresh_run(
     seed: u32,
 ) -> Tried
     requires { Valid table.now × (starts ≡ starts_of table.now (byte table.now 3)) × (program.now ≡ program_bytes (read_of table.now)) × Planned 0 table.now rows.now passages × (lo ≤ hi) × (hi ≤ 60000) }
-    ensures { (S : List Passage) → accepted_schedule_of (read_of table.now) ≡ accepted S → TriedAs (setting_of (read_of table.now) S) (record { lo = lo; hi = hi }) seed result.node result.state }
+    ensures run { (S : List Passage) → accepted_schedule_of (read_of table.now) ≡ accepted S → TriedAs (setting_of (read_of table.now) S) (record { lo = lo; hi = hi }) seed result.late result.state }
+    ensures node { ForSome result.late (λ c. c < 8) }
 {
     let together = [0u32; 1];
     let mut words = [0u64; 256];
@@ -90,16 +92,13 @@ pub fn many_runs(
     let mut late: u32 = 0;
     let mut nodes = [0u32; 8];
     let mut state = seed;
-    let mut left = runs;
-    while 0 < left {
+    for _ in 0..runs {
         let tried = fresh_run(table, starts, program, rows, passages, lo, hi, state);
-        if tried.node < 8 {
-            let c = tried.node as usize;
+        if let Some(c) = tried.late {
             late += 1;
-            nodes[c] += 1;
+            nodes[usize::from(c)] += 1;
         }
         state = tried.state;
-        left -= 1;
     }
     Tally { late, nodes, state }
 }

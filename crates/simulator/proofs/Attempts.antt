@@ -14,7 +14,8 @@ use Rattle.model.specs.Machine.{Node}
 use Rattle.model.specs.Run.{Setting, Run, stand_of, node_of}
 use Rattle.model.proofs.Basics.Bools.{clash}
 use Rattle.registers.specs.Words.{part_in, place_in}
-use Rattle.machine.specs.declared.Moved.{Moved}
+use Rattle.std.specs.Prelude.{Option}
+use Rattle.std.specs.Option.{is_some}
 use Rattle.machine.specs.Running.{setting_in, view_in, Standing, Running}
 use Rattle.machine.specs.Chosen.{op_of, Inside, Chosen}
 use Rattle.machine.proofs.Frames.{stands_wider}
@@ -58,9 +59,9 @@ module _ (program rows : List ℕ) (n H count tick c lo hi state : ℕ) (l : Lis
   pub still : StillAt program l until c tick → Attempted program rows n H count tick c lo hi state l v until false state l v until
   still e = not_moved (λ y h. still_stuck program rows n H count tick c lo hi state l v until h c there e)
 
-  module _ {out : List ℕ} {m : Moved} {l' : List ℕ} {v' : List ℤ} {out' : List ℕ} (C : Chosen program rows n H count tick c l v out 0 m l' v' out') where
+  module _ {out : List ℕ} {m : Option ℕ} {l' : List ℕ} {v' : List ℤ} {out' : List ℕ} (C : Chosen program rows n H count tick c l v out 0 m l' v' out') where
     -- it may not finish its statement
-    pub refused : m.allowed ≡ false → Attempted program rows n H count tick c lo hi state l v until false state l' v' until
+    pub refused : is_some m ≡ false → Attempted program rows n H count tick c lo hi state l v until false state l' v' until
     refused e =
         let k = C.keeps e in
         subst (λ (x : List ℕ). Attempted program rows n H count tick c lo hi state l v until false state x v' until) (sym k.0)
@@ -68,7 +69,7 @@ module _ (program rows : List ℕ) (n H count tick c lo hi state : ℕ) (l : Lis
         (not_moved (λ y h. inr (C.refuses e y.state h.running h.at))))
 
     -- it finishes it, and a number is drawn or not
-    finished : (draws : Bool) → (eqb (op_of program l v c) 0 && not (eqb (op_of program l' v' c) 5)) ≡ draws → waits_by (op_of program l v c) tick (get_or until c 0) ≡ false → m.allowed ≡ true → c < length until
+    finished : (draws : Bool) → (eqb (op_of program l v c) 0 && not (eqb (op_of program l' v' c) 5)) ≡ draws → waits_by (op_of program l v c) tick (get_or until c 0) ≡ false → is_some m ≡ true → c < length until
         → setting_in program H rows n l' count ≡ setting_in program H rows n l count
         → Attempted program rows n H count tick c lo hi state l v until true (cond draws (next_of state) state) l' v' (cond draws (set until c (tick + work_ticks w (next_of state))) until)
     finished draws d free may long same =
@@ -137,8 +138,8 @@ standing S =
 pub part_inside : {program rows : List ℕ} {n count : ℕ} {l : List ℕ} {v : List ℤ} {s : Run} → Running program rows n l v count s → (c : ℕ) → c < count → Inside program l c
 part_inside r c h = record { inside = (r.each c h).inside; short = (r.each c h).short }
 
-module _ (program rows : List ℕ) (n H count tick c lo hi state : ℕ) (l : List ℕ) (v : List ℤ) (until : List ℕ) (there : c < count) {out : List ℕ} {m : Moved} {l' : List ℕ} {v' : List ℤ} {out' : List ℕ}
-    (C : Chosen program rows n H count tick c l v out 0 m l' v' out') (S : Somewhere program rows n count tick l v) (may : m.allowed ≡ true)
+module _ (program rows : List ℕ) (n H count tick c lo hi state : ℕ) (l : List ℕ) (v : List ℤ) (until : List ℕ) (there : c < count) {out : List ℕ} {m : Option ℕ} {l' : List ℕ} {v' : List ℤ} {out' : List ℕ}
+    (C : Chosen program rows n H count tick c l v out 0 m l' v' out') (S : Somewhere program rows n count tick l v) (may : is_some m ≡ true)
     {op : ℕ} (is : op ≡ op_of program l v c) (free : waits_by op tick (get_or until c 0) ≡ false) (room : 8 ≤ length until) where
   -- it finishes its statement
   goes : (draws : Bool) → (eqb (op_of program l v c) 0 && not (eqb (op_of program l' v' c) 5)) ≡ draws

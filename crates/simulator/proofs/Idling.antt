@@ -93,11 +93,11 @@ module _ (program : List ℕ) (H : ℕ) (rows : List ℕ) (n : ℕ) (l : List �
 
         -- and then one turn more
         pub rested_turned : (turns : ℕ) → turns ≡ suc j * suc count → {r : Turn} → r.turns ≡ 1 → suc j ≤ turns → Turned program rows n H count lo hi l (rested g w y (suc j)) r l v until
-            → Turned program rows n H count lo hi l y (record { over = r.over; node = r.node; tick = r.tick; turn = r.turn; moved = r.moved; state = r.state; turns = turns + 1 }) l v until
+            → Turned program rows n H count lo hi l y (record { course = r.course; tick = r.tick; turn = r.turn; moved = r.moved; state = r.state; turns = turns + 1 }) l v until
         rested_turned turns e {r} o most T =
             record {
               on = λ x. (let z = T.on x in (z.0, (λ m. same_then g w (so_far m) (z.1 m)), z.2, z.3, omega (arith, z.4, o, most)));
-              ends = λ x m. (let q = T.ends x m in (ap late_node (so_far m).run ∙ q.0, (so_far m).draw ∙ q.1));
+              ends = λ late x m. (let q = T.ends late x m in (ap late_node (so_far m).run ∙ q.0, (so_far m).draw ∙ q.1));
               same = refl;
             }
           where

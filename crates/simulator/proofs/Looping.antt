@@ -1,6 +1,6 @@
 -- The turns of a simulated run one after the other. Assumes nothing.
 use mathlib.Core.Path.{◌≡◌, refl, sym, ap, subst, ◌∙◌}
-use mathlib.Core.Bool.{Bool, true, false}
+use mathlib.Core.Bool.{Bool, false}
 use mathlib.Core.List.{List}
 use Prim.Native.Nat.{ℕ, zero, suc, ◌+◌, ◌-◌, ◌<◌}
 use native.Mathlib.Omega.{arith}
@@ -11,6 +11,8 @@ use Rattle.machine.specs.Running.{counts_at, setting_in, Running}
 use Rattle.machine.proofs.Numbered.{length_below}
 use Rattle.simulation.specs.Simulated.{Span, start_trying, simulated}
 use Rattle.simulation.proofs.Turns.{result, drawn, Same, same_refl, same_then, turns_over}
+use Rattle.std.specs.Prelude.{Option, None}
+use Rattle.simulator.specs.declared.Course.TheVariants.{GoesOn, Over}
 use Rattle.simulator.specs.declared.Turn.{Turn}
 use Rattle.simulator.specs.Answers.{late_node}
 use Rattle.simulator.specs.Tries.{Somewhere, Turned, Few, Going}
@@ -67,7 +69,7 @@ module _ (program rows : List ℕ) (n H count lo hi seed : ℕ) (l₀ : List ℕ
     somewhere = record { state = G.trying.state; running = G.holds.running; at = G.holds.at; used = omega (arith, G.used) }
 
     -- no turn is left
-    pub going_stops : left ≡ 0 → (255 ≡ late_node (run g (simulated g w seed).choices)) × (state ≡ (simulated g w seed).draw)
+    pub going_stops : left ≡ 0 → (None ≡ late_node (run g (simulated g w seed).choices)) × (state ≡ (simulated g w seed).draw)
     going_stops e =
         let s : Same g w 1000000000000 (start_trying g w seed) 0 G.trying = subst (λ (k : ℕ). Same g w 1000000000000 (start_trying g w seed) k G.trying) e G.from in
         let q = turns_over g w G.trying in
@@ -83,13 +85,13 @@ module _ (program rows : List ℕ) (n H count lo hi seed : ℕ) (l₀ : List ℕ
           subst (λ (k : ℕ). Same g w 1000000000000 (start_trying g w seed) k G.trying) a G.from
 
       -- it is over
-      pub going_over : r.over ≡ true → (r.node ≡ late_node (run g (simulated g w seed).choices)) × (r.state ≡ (simulated g w seed).draw)
-      going_over e =
-          let q = subst (λ (x : Setting). (late_node (result x w (r.turns + rest) G.trying) ≡ r.node) × (drawn x w (r.turns + rest) G.trying ≡ r.state)) G.same (T.ends e rest) in
+      pub going_over : (late : Option ℕ) → r.course ≡ Over late → (late ≡ late_node (run g (simulated g w seed).choices)) × (r.state ≡ (simulated g w seed).draw)
+      going_over late e =
+          let q = subst (λ (x : Setting). (late_node (result x w (r.turns + rest) G.trying) ≡ late) × (drawn x w (r.turns + rest) G.trying ≡ r.state)) G.same (T.ends late e rest) in
           (sym (ap late_node (whole ∙ from-here.run) ∙ q.0), sym (whole_draw ∙ (from-here.draw ∙ q.1)))
 
       -- it goes on
-      pub going_on : r.over ≡ false → Going program rows n H count lo hi seed l₀ l' v' until' r.tick r.turn r.moved r.state (left - r.turns)
+      pub going_on : r.course ≡ GoesOn → Going program rows n H count lo hi seed l₀ l' v' until' r.tick r.turn r.moved r.state (left - r.turns)
       going_on e =
           let z = T.on e in
           record {

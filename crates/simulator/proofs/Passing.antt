@@ -72,11 +72,11 @@ module _ (program rows : List ℕ) (n H count tick turn lo hi state left first :
 
   -- and then another turn
   pub passed_turned : {r : Turn} {l' : List ℕ} {v' : List ℤ} {until' : List ℕ} → Turned program rows n H count lo hi l (at_turn g w y first) r l' v' until'
-      → Turned program rows n H count lo hi l y (record { over = r.over; node = r.node; tick = r.tick; turn = r.turn; moved = r.moved; state = r.state; turns = r.turns + (first - turn) }) l' v' until'
+      → Turned program rows n H count lo hi l y (record { course = r.course; tick = r.tick; turn = r.turn; moved = r.moved; state = r.state; turns = r.turns + (first - turn) }) l' v' until'
   passed_turned {r} T =
       record {
         on = λ x. (let z = T.on x in (z.0, (λ m. same_then g w (so_far m) (z.1 m)), z.2, z.3, omega (arith, z.4)));
-        ends = λ x m. (let q = T.ends x m in (ap late_node (so_far m).run ∙ q.0, (so_far m).draw ∙ q.1));
+        ends = λ late x m. (let q = T.ends late x m in (ap late_node (so_far m).run ∙ q.0, (so_far m).draw ∙ q.1));
         same = T.same;
       }
     where
@@ -87,5 +87,5 @@ module _ (program rows : List ℕ) (n H count tick turn lo hi state left first :
 
 -- how many turns they are
 pub few_passed : {l : List ℕ} {count tick turn left first : ℕ} → PassedTo l count tick turn left first → {r : Turn} → Few tick (left - (first - turn)) r
-    → Few tick left (record { over = r.over; node = r.node; tick = r.tick; turn = r.turn; moved = r.moved; state = r.state; turns = r.turns + (first - turn) })
+    → Few tick left (record { course = r.course; tick = r.tick; turn = r.turn; moved = r.moved; state = r.state; turns = r.turns + (first - turn) })
 few_passed P F = record { some = omega (arith, F.some); most = omega (arith, F.most, P.few, P.from); ticks = omega (arith, F.ticks) }

@@ -19,6 +19,7 @@ use Rattle.run.proofs.Choices.{tick_choice}
 use Rattle.run.proofs.Ticks.{due_said, late_none, late_some}
 use Rattle.simulation.specs.Simulated.{Span, Trying, anew}
 use Rattle.simulation.proofs.Turns.{result, drawn, Same, tick_refused, tick_passes, tick_ends}
+use Rattle.std.specs.Prelude.{None, Some}
 use Rattle.simulator.specs.Answers.{late_node}
 use Rattle.simulator.specs.Tries.{Holds}
 
@@ -46,7 +47,7 @@ module _ (program : List ℕ) (H : ℕ) (rows : List ℕ) (n : ℕ) (l : List �
       ∙ subst (λ (t : ℕ). any (λ (i : ℕ). eqb (word_in l i 26) t) (below count) ≡ d) (sym h.at) e)
 
   -- somebody is due: the list ends
-  pub due_ends : any (λ (i : ℕ). eqb (word_in l i 26) tick) (below count) ≡ true → (m : ℕ) → (late_node (result g w (suc m) y) ≡ 255) × (drawn g w (suc m) y ≡ state)
+  pub due_ends : any (λ (i : ℕ). eqb (word_in l i 26) tick) (below count) ≡ true → (m : ℕ) → (late_node (result g w (suc m) y) ≡ None) × (drawn g w (suc m) y ≡ state)
   due_ends e m = let q = tick_refused g w m y full none (by-words e) in (ap late_node q.0, q.1 ∙ h.draw)
 
   module _ (d : any (λ (i : ℕ). eqb (word_in l i 26) tick) (below count) ≡ false) {r : ℕ} (F : FirstLate l count (tick + 1) r) where
@@ -57,7 +58,7 @@ module _ (program : List ℕ) (H : ℕ) (rows : List ℕ) (n : ℕ) (l : List �
     F' = subst (λ (t : ℕ). FirstLate l count t r) (sym then) F
 
     -- a node is late
-    pub late-ends : r < count → (m : ℕ) → (late_node (result g w (suc m) y) ≡ r) × (drawn g w (suc m) y ≡ state)
+    pub late-ends : r < count → (m : ℕ) → (late_node (result g w (suc m) y) ≡ Some r) × (drawn g w (suc m) y ≡ state)
     late-ends k m =
         let f = late_some program H rows n l l v count s h.running refl (suc s.tick) (omega (arith, h.at, early)) F' k in
         let q = tick_ends g w m y full none (by-words d ∙ ap (after_tick g (ticked s)) f.1) in
@@ -67,7 +68,7 @@ module _ (program : List ℕ) (H : ℕ) (rows : List ℕ) (n : ℕ) (l : List �
     passes k = by-words d ∙ ap (after_tick g (ticked s)) (late_none program H rows n l l v count s h.running refl (suc s.tick) (omega (arith, h.at, early)) F' k)
 
     -- the horizon is reached
-    pub horizon_ends : count ≤ r → tick + 1 ≡ H → (m : ℕ) → (late_node (result g w (suc m) y) ≡ 255) × (drawn g w (suc m) y ≡ state)
+    pub horizon_ends : count ≤ r → tick + 1 ≡ H → (m : ℕ) → (late_node (result g w (suc m) y) ≡ None) × (drawn g w (suc m) y ≡ state)
     horizon_ends k e m =
         let q = tick_ends g w m y full none (passes k ∙ ap (λ (t : Bool). cond t (over (ticked s) 0 255) (on (ticked s))) (eq-eqb (suc s.tick) H (then ∙ e))) in
         (ap late_node q.0, q.1 ∙ h.draw)

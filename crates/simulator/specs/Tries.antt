@@ -9,6 +9,8 @@ use Rattle.machine.specs.Chosen.{Inside}
 use Rattle.run.specs.Ends.{Calm}
 use Rattle.simulation.specs.Simulated.{Trying, until_of, waits, went, Stuck, start_trying}
 use Rattle.simulation.proofs.Turns.{result, drawn, Same}
+use Rattle.std.specs.Prelude.{Option}
+use Rattle.simulator.specs.declared.Course.TheVariants.{GoesOn, Over}
 use Rattle.simulator.specs.declared.Turn.{Turn}
 use Rattle.simulator.specs.Answers.{late_node}
 
@@ -42,11 +44,11 @@ pub record Attempted (program rows : List ℕ) (n H count tick c lo hi state : �
 
 -- so many turns: the run goes on in z after them, or it is over, with that late node and that generator
 pub record Turned (program rows : List ℕ) (n H count lo hi : ℕ) (l : List ℕ) (y : Trying) (r : Turn) (l' : List ℕ) (v' : List ℤ) (until' : List ℕ) : Type 0 where
-  pub on : r.over ≡ false
+  pub on : r.course ≡ GoesOn
       → (z : Trying) × ((m : ℕ) → Same (setting_in program H rows n l count) (record { lo = lo; hi = hi }) (r.turns + m) y m z)
       × Holds program rows n count r.tick r.turn r.state l' v' until' z × (z.moved ≡ r.moved) × (z.state.used ≤ y.state.used + r.turns)
-  pub ends : r.over ≡ true → (m : ℕ)
-      → (late_node (result (setting_in program H rows n l count) (record { lo = lo; hi = hi }) (r.turns + m) y) ≡ r.node)
+  pub ends : (late : Option ℕ) → r.course ≡ Over late → (m : ℕ)
+      → (late_node (result (setting_in program H rows n l count) (record { lo = lo; hi = hi }) (r.turns + m) y) ≡ late)
       × (drawn (setting_in program H rows n l count) (record { lo = lo; hi = hi }) (r.turns + m) y ≡ r.state)
   pub same : setting_in program H rows n l' count ≡ setting_in program H rows n l count
 

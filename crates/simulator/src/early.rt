@@ -22,12 +22,10 @@ pub fn first_ready(words: &[u64], count: usize, tick: u64, turn: usize, left: u6
     if left <= 8 {
         return turn;
     }
-    let mut c = turn;
-    while c < count {
+    for c in turn..count {
         if !is_early(words, c, tick) {
             return c;
         }
-        c += 1;
     }
-    c
+    turn.max(count)
 }

@@ -42,10 +42,8 @@ fn idle_until(program: &[u8], words: &[u64], until: &[u64], count: usize, horizo
     ensures { Idle program.now words.now until.now count horizon result }
 {
     let mut idle = run::calm_until(words, count, horizon);
-    let mut c: usize = 0;
-    while c < count {
-        idle = run::lesser(idle, still_until(program, words, until, c));
-        c += 1;
+    for c in 0..count {
+        idle = idle.min(still_until(program, words, until, c));
     }
     idle
 }

@@ -6,6 +6,8 @@ pub mod idle;
 pub mod runs;
 
 ghost use Rattle.std.specs.Prelude.{◌≡◌, true, false, List, ℕ, ◌+◌, ◌≤◌, ◌<◌, ℤ, length, get_or, set};
+ghost use Rattle.std.specs.Option.{is_some, unwrap_or};
+ghost use Rattle.simulator.specs.declared.Course.TheVariants.{GoesOn, Over};
 ghost use Rattle.generator.specs.Xorshift.{next_of};
 ghost use Rattle.machine.specs.Chosen.{op_of, Inside};
 ghost use Rattle.simulation.specs.Simulated.{work_ticks, Trying};
@@ -14,19 +16,18 @@ ghost use Rattle.simulator.specs.Tries.{Holds, Somewhere, Attempted, Turned, Few
 use generator::Generator;
 use model::op;
 
-// Whether a node moved in its turn, and the generator afterwards.
+// Whether a simulated run goes on, or is over, and then which node is late, if one is.
 #[derive(Clone, Copy)]
-pub struct Outcome {
-    pub moved: bool,
-    pub state: u32,
+pub enum Course {
+    GoesOn,
+    Over(Option<u8>),
 }
 
-// A simulated run after a turn, or after many at once: whether it is over, and then the late node, 255 where none is; its tick, whose turn it is,
-// whether one has moved since turn 0, the generator; how many turns they were.
+// A simulated run after a turn, or after many at once: its course, its tick, whose turn it is, whether one has moved since turn 0, the generator;
+// how many turns they were.
 #[derive(Clone, Copy)]
 pub struct Turn {
-    pub over: bool,
-    pub node: u8,
+    pub course: Course,
     pub tick: u64,
     pub turn: usize,
     pub moved: bool,
@@ -77,6 +78,7 @@ fn draw_work(until: &mut [u64], c: usize, tick: u64, lo: u32, hi: u32, state: u3
 }
 
 // The turn of node c: it finishes its statement, if it may and does not wait for its work. A sleep before a send or an internal edge draws.
+// The generator afterwards, if it moved.
 pub fn attempt(
     program: &[u8],
     rows: &[u32],
@@ -90,35 +92,25 @@ pub fn attempt(
     lo: u32,
     hi: u32,
     state: u32,
-) -> Outcome
+) -> Option<u32>
     requires { Somewhere program.now rows.now passages count tick words.old values.old × (c < count) × (8 ≤ length until.old) × (lo ≤ hi) × (hi ≤ 60000) × (tick ≤ 1000000000000) }
-    ensures { (H : ℕ) → Attempted program.now rows.now passages H count tick c lo hi state words.old values.old until.old result.moved result.state words.new values.new until.new }
+    ensures { (H : ℕ) → Attempted program.now rows.now passages H count tick c lo hi state words.old values.old until.old (is_some result) (unwrap_or result state) words.new values.new until.new }
 {
     let op = op_of(program, words, c);
     if waits_at(op, tick, until[c]) {
-        return Outcome {
-            moved: false,
-            state,
-        };
+        return None;
     }
     let allowed = machine::move_node(program, rows, passages, count, words, values, tick, c, op);
     if !allowed {
-        return Outcome {
-            moved: false,
-            state,
-        };
+        return None;
     }
     if op != op::SLEEP {
-        return Outcome { moved: true, state };
+        return Some(state);
     }
     if op_of(program, words, c) == op::LISTEN {
-        return Outcome { moved: true, state };
+        return Some(state);
     }
-    let drawn = draw_work(until, c, tick, lo, hi, state);
-    Outcome {
-        moved: true,
-        state: drawn,
-    }
+    Some(draw_work(until, c, tick, lo, hi, state))
 }
 
 // A node's turn.
@@ -140,24 +132,21 @@ fn node_turn(
     requires { Somewhere program.now rows.now passages count tick words.old values.old × (c < count) × (8 ≤ length until.old) × (lo ≤ hi) × (hi ≤ 60000) × (tick ≤ 1000000000000) }
     ensures { ((H : ℕ) (y : Trying) → Holds program.now rows.now passages count tick c state words.old values.old until.old y → y.moved ≡ moved → Turned program.now rows.now passages H count lo hi words.old y result words.new values.new until.new) × (result.turns ≡ 1) × (result.tick ≤ tick + 1) }
 {
-    let tried = attempt(
-        program, rows, passages, count, words, values, until, c, tick, lo, hi, state,
-    );
     let next = c + 1;
-    if tried.moved {
+    if let Some(drawn) = attempt(
+        program, rows, passages, count, words, values, until, c, tick, lo, hi, state,
+    ) {
         return Turn {
-            over: false,
-            node: 255,
+            course: Course::GoesOn,
             tick,
             turn: c,
             moved: true,
-            state: tried.state,
+            state: drawn,
             turns: 1,
         };
     }
     Turn {
-        over: false,
-        node: 255,
+        course: Course::GoesOn,
         tick,
         turn: next,
         moved,
@@ -167,12 +156,11 @@ fn node_turn(
 }
 
 // The run is over.
-fn over_at(node: u8, tick: u64, turn: usize, state: u32) -> Turn
-    ensures { result ≡ record { over = true; node = node; tick = tick; turn = turn; moved = false; state = state; turns = 1 } }
+fn over_at(late: Option<u8>, tick: u64, turn: usize, state: u32) -> Turn
+    ensures { result ≡ record { course = Over late; tick = tick; turn = turn; moved = false; state = state; turns = 1 } }
 {
     Turn {
-        over: true,
-        node,
+        course: Course::Over(late),
         tick,
         turn,
         moved: false,
@@ -183,11 +171,10 @@ fn over_at(node: u8, tick: u64, turn: usize, state: u32) -> Turn
 
 // A round begins.
 fn anew_at(tick: u64, state: u32) -> Turn
-    ensures { result ≡ record { over = false; node = 255; tick = tick; turn = 0; moved = false; state = state; turns = 1 } }
+    ensures { result ≡ record { course = GoesOn; tick = tick; turn = 0; moved = false; state = state; turns = 1 } }
 {
     Turn {
-        over: false,
-        node: 255,
+        course: Course::GoesOn,
         tick,
         turn: 0,
         moved: false,
@@ -209,14 +196,13 @@ pub fn tick_turn(
     ensures { ((program rows : List ℕ) (n lo hi : ℕ) (values : List ℤ) (until : List ℕ) (y : Trying) → Holds program rows n count tick turn state words.now values until y → count ≤ turn → y.moved ≡ false → Turned program rows n horizon count lo hi words.now y result words.now values until) × (result.turns ≡ 1) × (result.tick ≤ tick + 1) }
 {
     if run::some_due(words, count, tick) {
-        return over_at(255, tick, turn, state);
+        return over_at(None, tick, turn, state);
     }
-    let c = run::first_late(words, count, tick + 1);
-    if c < count {
-        return over_at(c as u8, tick, turn, state);
+    if let Some(c) = run::first_late(words, count, tick + 1) {
+        return over_at(Some(c as u8), tick, turn, state);
     }
     if tick + 1 == horizon {
-        return over_at(255, tick, turn, state);
+        return over_at(None, tick, turn, state);
     }
     anew_at(tick + 1, state)
 }

@@ -3,17 +3,17 @@ use mathlib.Core.Path.{◌≡◌, refl, sym, ap, subst, ◌∙◌}
 use mathlib.Core.Bool.{Bool, true, false, cond, ◌&&◌, not}
 use mathlib.Core.List.{List, [], ◌∷◌}
 use mathlib.Core.Option.{Option, none, some}
-use Prim.Native.Nat.{ℕ, suc, ◌+◌, ◌≤◌, ◌<◌}
+use Prim.Native.Nat.{ℕ, ◌+◌, ◌≤◌, ◌<◌}
 use native.Mathlib.Omega.{arith}
 use borrow.Author.Tests.{ltb-true, ne_eqb}
 use lib.Dec.{leb, ltb, eqb}
-use lib.ListN.{get_or, set}
+use lib.ListN.{get_or}
 use lib.Seq.{get_or-set_other}
 use Rattle.model.specs.Lists.{all, is_none, Answer, accepted, refused, ◌after◌}
 use Rattle.site.specs.declared.Networks.{Networks}
 use Rattle.site.specs.Airtime.{Load, load_in, Site, place_at, placed, airtime_held, in_use, shares_horizon, putting, taking, Request, put, take, asked, site_or, granted, load_or}
-use Rattle.site.specs.Lent.{held_of, place_in, site_in, horizon_held, written, carried, answered, put_call, take_call, called_with}
-use Rattle.site.specs.Called.{named_place, asks_for, Others, Done, RefusedKeeps, SameLimit, Returned}
+use Rattle.site.specs.Lent.{held_of, place_in, site_in, horizon_held, written, carried, answered, put_call, called_with}
+use Rattle.site.specs.Called.{named_place, asks_for, RefusedKeeps, SameLimit}
 use Rattle.site.proofs.Keeping.{by_place, at_place, written_there, held_some}
 use Rattle.site.proofs.Loading.{load_real}
 use Rattle.site.proofs.Refusals.{Told, told_load}

@@ -1,10 +1,10 @@
 -- What one call does to any struct: `SiteCalls`. Assumes nothing.
 use mathlib.Core.Path.{◌≡◌, refl, sym, ap, subst, ◌∙◌}
 use mathlib.Core.Logic.{◌↔◌}
-use mathlib.Core.Bool.{Bool, true, false, cond, ◌&&◌, not}
-use mathlib.Core.List.{List, [], ◌∷◌}
+use mathlib.Core.Bool.{Bool, true, false, ◌&&◌}
+use mathlib.Core.List.{List}
 use mathlib.Core.Option.{Option, none, some}
-use Prim.Native.Nat.{ℕ, ◌+◌, ◌≤◌, ◌<◌}
+use Prim.Native.Nat.{ℕ, ◌≤◌, ◌<◌}
 use native.Mathlib.Omega.{arith}
 use borrow.Author.Tests.{ltb-true, lt-ltb, leb-true, leb-false, eqb-true, eq-eqb}
 use lib.Dec.{leb, ltb}
@@ -12,11 +12,11 @@ use Rattle.model.specs.Lists.{all, is_none, Answer, accepted, refused, ◌after�
 use Rattle.model.proofs.Basics.Bools.{and_is, clash}
 use Rattle.model.proofs.Reader.Parts.{some_same, some_clash}
 use Rattle.site.specs.declared.Networks.{Networks}
-use Rattle.site.specs.Airtime.{Load, load_in, Site, place_at, placed, in_use, shares_horizon, putting, taking, Request, put, take, asked}
-use Rattle.site.specs.Lent.{place_in, site_in, answered, put_call, take_call, called_with}
-use Rattle.site.specs.Called.{named_place, asks_for, Others, Done, RefusedKeeps, SameLimit, Returned, Called, Free, Filled, Share, sum_with, ChecksFirst, PlaceRefused, HorizonRefused, SumRefused, PutDone, NoneConcerned, PutRefused, TakeRefused, EveryCall}
+use Rattle.site.specs.Airtime.{Load, load_in, Site, place_at, placed, in_use, shares_horizon, putting, taking, Request, asked}
+use Rattle.site.specs.Lent.{place_in, site_in, answered, put_call, take_call}
+use Rattle.site.specs.Called.{named_place, asks_for, Others, Done, RefusedKeeps, SameLimit, Called, Free, Filled, Share, sum_with, ChecksFirst, PlaceRefused, HorizonRefused, SumRefused, PutDone, NoneConcerned, PutRefused, TakeRefused, EveryCall}
 use Rattle.site.proofs.Keeping.{by_place, at_place}
-use Rattle.site.proofs.Calls.{Shows, went, called_answered, others_stay, is_done, keeps, limit_stays}
+use Rattle.site.proofs.Calls.{went, called_answered, others_stay, is_done, keeps, limit_stays}
 use Rattle.site.proofs.Sequence.{called_is}
 
 every_call : (s : Networks) (r : Request) → Called s r

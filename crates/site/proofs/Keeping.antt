@@ -1,16 +1,16 @@
 -- A site as four horizons and four airtimes: what each call leaves there. Assumes nothing.
-use mathlib.Core.Path.{◌≡◌, refl, sym, ap, ap₂, subst, ◌∙◌}
+use mathlib.Core.Path.{◌≡◌, refl, sym, ap, ap₂, ◌∙◌}
 use mathlib.Core.Bool.{Bool, true, false, cond, ◌&&◌, ◌||◌}
 use mathlib.Core.List.{List, [], ◌∷◌}
 use mathlib.Core.Option.{Option, none, some}
 use Prim.Native.Nat.{ℕ, zero, suc, ◌+◌, ◌≤◌, ◌<◌}
 use native.Mathlib.Omega.{arith}
-use borrow.Author.Tests.{lt-ltb, le-ltb, le-leb, lt-leb, eqb-true, eqb-false, eq-eqb, ne_eqb}
-use lib.Dec.{leb, ltb, eqb}
+use borrow.Author.Tests.{lt-ltb, le-ltb, le-leb, lt-leb, eqb-true, eq-eqb, ne_eqb}
+use lib.Dec.{eqb}
 use lib.ListN.{length, get_or, set}
-use Rattle.model.specs.Lists.{all, is_none, Answer, accepted, refused}
+use Rattle.model.specs.Lists.{all, is_none}
 use Rattle.site.specs.declared.Networks.{Networks}
-use Rattle.site.specs.Airtime.{Load, Site, place_at, placed, airtime_held, in_use, shares_horizon, putting, taking}
+use Rattle.site.specs.Airtime.{Load, place_at, placed, airtime_held, in_use, shares_horizon, putting, taking}
 use Rattle.site.specs.Lent.{held_of, place_in, site_in, horizon_held, written, carried, refusing, answered}
 
 -- ## One place

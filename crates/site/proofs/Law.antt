@@ -11,9 +11,9 @@ use borrow.Author.Tests.{ltb-true, leb-true, eqb-true, eq-eqb, ne_eqb}
 use lib.Dec.{leb, ltb, eqb}
 use lib.ListN.{length, get_or, set, length-set}
 use lib.Seq.{get_or-set_same, get_or-set_other}
-use Rattle.model.specs.Lists.{◌∈◌, all, is_none, Answer, accepted, refused, ◌after◌}
-use Rattle.site.specs.Airtime.{Load, load_in, Site, empty_site, place_at, placed, airtime_held, in_use, shares_horizon, putting, taking, Request, put, take, asked, site_or, granted, site_after, noted, standing, load_or, load_held, Accounts, Accounted}
-use Rattle.model.proofs.Basics.Bools.{and_is, clash}
+use Rattle.model.specs.Lists.{all, is_none, Answer, accepted, refused, ◌after◌}
+use Rattle.site.specs.Airtime.{Load, load_in, Site, empty_site, place_at, placed, airtime_held, in_use, shares_horizon, putting, taking, Request, put, take, asked, site_or, granted, site_after, noted, standing, load_or, load_held, Accounted}
+use Rattle.model.proofs.Basics.Bools.{clash}
 use Rattle.model.proofs.Basics.Members.{in_at, all_is}
 use Rattle.model.proofs.Reader.Parts.{some_clash}
 

@@ -6,7 +6,7 @@ use native.Mathlib.Omega.{arith}
 use lib.ListN.{length}
 use Rattle.model.specs.declared.Verdict.TheVariants.{Accepted, Refused}
 use Rattle.model.specs.Lists.{Answer, accepted, refused, ◌after◌}
-use Rattle.model.specs.Table.{Table, Read}
+use Rattle.model.specs.Table.{Read}
 use Rattle.model.specs.Reader.{read_table}
 use Rattle.model.specs.Places.{Valid, read_of}
 use Rattle.model.specs.Schedule.{Passage}
@@ -21,7 +21,7 @@ use Rattle.schedule.specs.declared.Scheduled.{Scheduled}
 use Rattle.schedule.specs.Filled as filled
 use Rattle.site.specs.declared.Loaded.{Loaded}
 use Rattle.site.specs.declared.Networks.{Networks}
-use Rattle.site.specs.Airtime.{airtime, Load, load_in, putting, Request, put, asked}
+use Rattle.site.specs.Airtime.{airtime, Load, load_in, putting}
 use Rattle.site.specs.Lent.{LoadOf, AsChecked, horizon_of, airtime_of, site_in, answered, refusing, put_call}
 use Rattle.site.proofs.Rowing.{light_airtime}
 

@@ -13,7 +13,7 @@ use Rattle.model.specs.Reader.{header_at, budget_fine, read_budget, read_arc_par
 use Rattle.model.specs.Schedule.{Passage, schedule}
 use Rattle.model.specs.Checks.{limit, checked, accepted_schedule, accepted_schedule_of}
 use Rattle.refusal_place.proofs.Numbered.{Numbered, Opening, schedule_numbered, checked_numbered}
-use Rattle.site.specs.Airtime.{airtime, Load, load_in}
+use Rattle.site.specs.Airtime.{airtime, load_in}
 
 -- a refusal has the number of a question
 abbrev pub Told : {A : Type 0} → Answer A → Type 0

@@ -1,14 +1,14 @@
 -- The airtime of the rows, from the last one to the first. Assumes nothing.
-use mathlib.Core.Path.{◌≡◌, refl, sym, ap, ap₂, ◌∙◌}
+use mathlib.Core.Path.{◌≡◌, refl, sym, ap, ◌∙◌}
 use mathlib.Core.Bool.{Bool, true, false, cond}
 use mathlib.Core.List.{List, [], ◌∷◌}
-use Prim.Native.Nat.{ℕ, zero, suc, ◌+◌, ◌-◌, ◌*◌, ◌≤◌, ◌<◌}
+use Prim.Native.Nat.{ℕ, suc, ◌+◌, ◌-◌, ◌≤◌, ◌<◌}
 use native.Mathlib.Omega.{arith}
 use Rattle.model.specs.Table.{Table}
 use Rattle.model.specs.Schedule.{Passage, light}
 use Rattle.model.specs.Checks.{is_send}
 use Rattle.model.specs.Places.{read_of}
-use Rattle.rows.specs.Rows.{num, row_passage, rows_from, rows_of, RowKnown}
+use Rattle.rows.specs.Rows.{num, row_passage, rows_from, RowKnown}
 use Rattle.site.specs.Airtime.{airtime}
 use Rattle.site.specs.Lent.{row_airtime}
 

@@ -3,12 +3,12 @@ use mathlib.Core.Path.{◌≡◌, refl, sym, ap, subst, ◌∙◌}
 use mathlib.Core.Bool.{Bool}
 use mathlib.Core.List.{List, [], ◌∷◌}
 use mathlib.Core.Option.{Option, none, some}
-use Prim.Native.Nat.{ℕ, ◌+◌, ◌≤◌, ◌<◌}
+use Prim.Native.Nat.{ℕ, ◌+◌, ◌<◌}
 use native.Mathlib.Omega.{arith}
 use lib.Dec.{eqb}
 use Rattle.site.specs.declared.Networks.{Networks}
 use Rattle.site.specs.Airtime.{Load, Site, empty_site, place_at, airtime_held, Request, asked, site_or, granted, site_after, noted, standing, load_held}
-use Rattle.site.specs.Lent.{place_in, site_in, answered, called_with, empty_networks, networks_after, networks_left, seen, Summed, InUse}
+use Rattle.site.specs.Lent.{place_in, site_in, called_with, empty_networks, networks_after, networks_left, seen, InUse}
 use Rattle.site.specs.Called.{named_place, asks_for}
 use Rattle.site.proofs.Law.{accounted}
 use Rattle.site.proofs.Keeping.{at_place}

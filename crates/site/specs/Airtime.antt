@@ -1,8 +1,8 @@
 -- Document 02, wish 13, "Four cellars, one airtime limit": a network's airtime, and a site of four places under one limit.
-use Rattle.std.specs.Prelude.{◌≡◌, Bool, true, false, cond, ◌&&◌, not, List, [], ◌∷◌, ℕ, suc, ◌+◌, ◌-◌, ◌≤◌, ◌<◌, leb, ltb, eqb, get_or, set, replicate}
+use Rattle.std.specs.Prelude.{◌≡◌, Bool, true, false, cond, ◌&&◌, not, List, [], ◌∷◌, ℕ, suc, ◌+◌, ◌-◌, ◌≤◌, ◌<◌, leb, ltb, eqb, get_or, set}
 use Rattle.std.proofs.Math.Option.{Option, none, some}
 use Rattle.model.specs.Lists.{all, is_none, Answer, accepted, refused, ◌after◌}
-use Rattle.model.specs.Table.{Table, Read}
+use Rattle.model.specs.Table.{Table}
 use Rattle.model.specs.Reader.{read_table}
 use Rattle.model.specs.Schedule.{Passage}
 use Rattle.model.specs.Checks.{is_send, accepted_schedule, accepted_schedule_of}

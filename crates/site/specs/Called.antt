@@ -1,7 +1,7 @@
 -- What one call does, whatever bytes the struct has that it is handed.
-use Rattle.std.specs.Prelude.{◌≡◌, ◌↔◌, true, false, List, ℕ, ◌+◌, ◌≤◌, ◌<◌, get_or}
+use Rattle.std.specs.Prelude.{◌≡◌, ◌↔◌, List, ℕ, ◌+◌, ◌≤◌, ◌<◌, get_or}
 use Rattle.std.proofs.Math.Option.{Option, none, some}
-use Rattle.model.specs.Lists.{is_none, accepted, refused}
+use Rattle.model.specs.Lists.{accepted, refused}
 use Rattle.site.specs.declared.Networks.{Networks}
 use Rattle.site.specs.Airtime.{Load, load_in, in_use, Request, put, take, load_or}
 use Rattle.site.specs.Lent.{place_in, site_in, put_call, take_call, called_with}

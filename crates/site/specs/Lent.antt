@@ -1,7 +1,6 @@
 -- A site as the caller keeps it, in the words of the definitions; and what each call leaves there.
-use Rattle.std.specs.Prelude.{◌≡◌, Bool, cond, List, [], ◌∷◌, ℕ, suc, ◌+◌, ◌-◌, ◌*◌, ◌≤◌, ◌<◌, eqb, get_or, set}
+use Rattle.std.specs.Prelude.{◌≡◌, cond, List, [], ◌∷◌, ℕ, suc, ◌+◌, ◌-◌, ◌≤◌, ◌<◌, eqb, get_or, set}
 use Rattle.std.proofs.Math.Option.{Option, none, some}
-use Rattle.model.specs.declared.Verdict.{Verdict}
 use Rattle.model.specs.Lists.{Answer, accepted, refused}
 use Rattle.model.specs.Calls.{verdict_of, check_call}
 use Rattle.model.specs.Places.{read_of}

@@ -1,10 +1,9 @@
 -- Document 02, wish 13, computed: airtimes, sequences of calls with 26 to 28 on both sides of their boundaries, and of each sentence a wrong struct that it
 -- rules out.
-use Rattle.std.specs.Prelude.{◌≡◌, refl, List, [], ◌∷◌, ℕ, zero, suc, ◌+◌, ◌≤◌, ◌<◌}
+use Rattle.std.specs.Prelude.{◌≡◌, refl, List, [], ◌∷◌, ℕ, zero, suc, ◌<◌}
 use Rattle.std.proofs.Common.{sym, ap, arith}
 use Rattle.std.proofs.Math.Option.{Option, none, some}
 use Rattle.model.specs.Lists.{Answer, accepted, refused, All, empty, more}
-use Rattle.model.specs.Table.{Component, Read}
 use Rattle.model.specs.Build.{network}
 use Rattle.model.specs.Bytes.{table_bytes}
 use Rattle.model.specs.Cases.{worked, probe, hub, add_one, changed, sender}

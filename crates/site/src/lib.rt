@@ -14,7 +14,7 @@ ghost use Rattle.site.specs.Lent.{row_airtime, LoadOf, held_of, site_in, place_i
 use model::{Verdict, layout};
 
 // A site: its limit, the horizon and the airtime of the network in each place (horizon 0: the place is empty); then what the last call said: the
-// airtime in use, and 0 or the number of its refusal with the component concerned.
+// airtime in use, and 0 or the number of its refusal with the component concerned. C has it as it stands.
 #[repr(C)]
 #[derive(Clone, Copy)]
 pub struct Networks {
@@ -51,9 +51,7 @@ fn rows_airtime(table: &[u8], rows: &[u32], count: usize, horizon: u32) -> u32
     ensures { result ≡ airtime (read_of table.now).table horizon (rows_of rows.now count) }
 {
     let mut sum: u32 = 0;
-    let mut i = count;
-    while 0 < i {
-        i -= 1;
+    for i in (0..count).rev() {
         sum += row_airtime(table, rows, i, horizon);
     }
     sum
@@ -112,17 +110,19 @@ fn held_in(site: Networks, k: usize) -> u32
     requires { k < 4 }
     ensures { result ≡ airtime_held (place_in site k) }
 {
-    let horizons = site.horizons;
-    let airtimes = site.airtimes;
-    if horizons[k] == 0 { 0 } else { airtimes[k] }
+    if site.horizons[k] == 0 {
+        0
+    } else {
+        site.airtimes[k]
+    }
 }
 
 // The airtime in use.
 fn in_use(site: Networks) -> u64
     ensures { (result ≡ in_use (site_in site).places) × (result ≤ 17179869180) }
 {
-    let first = held_in(site, 0) as u64 + held_in(site, 1) as u64;
-    let second = held_in(site, 2) as u64 + held_in(site, 3) as u64;
+    let first = u64::from(held_in(site, 0)) + u64::from(held_in(site, 1));
+    let second = u64::from(held_in(site, 2)) + u64::from(held_in(site, 3));
     first + second
 }
 
@@ -131,8 +131,7 @@ fn shares_horizon(site: Networks, k: usize, horizon: u16) -> bool
     requires { k < 4 }
     ensures { result ≡ shares_horizon horizon (place_in site k) }
 {
-    let horizons = site.horizons;
-    parts::either(horizons[k] == 0, horizons[k] == horizon)
+    parts::either(site.horizons[k] == 0, site.horizons[k] == horizon)
 }
 
 // Whether all networks present have that horizon.
@@ -154,15 +153,11 @@ fn one_horizon(site: Networks, horizon: u16) -> bool
 fn refuse(site: Networks, number: u8, component: u8) -> Networks
     ensures { result ≡ refusing site number component }
 {
-    let horizons = site.horizons;
-    let airtimes = site.airtimes;
     Networks {
-        limit: site.limit,
-        horizons,
-        airtimes,
         in_use: in_use(site),
         number,
         component,
+        ..site
     }
 }
 
@@ -171,25 +166,14 @@ fn set_place(site: Networks, k: usize, horizon: u16, airtime: u32) -> Networks
     requires { (k < 4) × (horizon ≡ 0 → airtime ≡ 0) }
     ensures { result ≡ carried site k (placed (site_in site) k (held_of horizon airtime)) }
 {
-    let mut horizons = site.horizons;
-    let mut airtimes = site.airtimes;
-    horizons[k] = horizon;
-    airtimes[k] = airtime;
-    let after = Networks {
-        limit: site.limit,
-        horizons,
-        airtimes,
-        in_use: 0,
-        number: 0,
-        component: 255,
-    };
+    let mut after = site;
+    after.horizons[k] = horizon;
+    after.airtimes[k] = airtime;
     Networks {
-        limit: site.limit,
-        horizons,
-        airtimes,
         in_use: in_use(after),
         number: 0,
         component: 255,
+        ..after
     }
 }
 
@@ -197,12 +181,10 @@ fn set_place(site: Networks, k: usize, horizon: u16, airtime: u32) -> Networks
 pub fn empty(limit: u32) -> Networks
     ensures { result ≡ empty_networks limit }
 {
-    let horizons = [0u16; 4];
-    let airtimes = [0u32; 4];
     Networks {
         limit,
-        horizons,
-        airtimes,
+        horizons: [0; 4],
+        airtimes: [0; 4],
         in_use: 0,
         number: 0,
         component: 255,
@@ -214,18 +196,17 @@ fn put_load(site: Networks, place: u8, horizon: u16, airtime: u32) -> Networks
     requires { 1 ≤ horizon }
     ensures { result ≡ answered site place (putting (site_in site) place (record { horizon = horizon; airtime = airtime })) }
 {
-    let k = place as usize;
+    let k = usize::from(place);
     if 4 <= k {
         return refuse(site, 26, 255);
     }
-    let horizons = site.horizons;
-    if horizons[k] != 0 {
+    if site.horizons[k] != 0 {
         return refuse(site, 26, 255);
     }
     if !one_horizon(site, horizon) {
         return refuse(site, 27, 255);
     }
-    if (site.limit as u64) < in_use(site) + airtime as u64 {
+    if u64::from(site.limit) < in_use(site) + u64::from(airtime) {
         return refuse(site, 28, 255);
     }
     set_place(site, k, horizon, airtime)
@@ -247,12 +228,11 @@ pub fn put(table: &[u8], place: u8, site: Networks) -> Networks
 pub fn take(place: u8, site: Networks) -> Networks
     ensures { result ≡ take_call site place }
 {
-    let k = place as usize;
+    let k = usize::from(place);
     if 4 <= k {
         return refuse(site, 26, 255);
     }
-    let horizons = site.horizons;
-    if horizons[k] == 0 {
+    if site.horizons[k] == 0 {
         return refuse(site, 26, 255);
     }
     set_place(site, k, 0, 0)

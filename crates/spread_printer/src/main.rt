@@ -9,10 +9,10 @@ fn main(rt: HostRuntime) {
     let n = streams::read_full(&mut rt.stdin(), &mut input);
     let mut out = [0u8; spread_words::ROOM];
     let size = spread_words::write(&input[..n], &mut out);
-    streams::write_or_say(
+    streams::write_or_say_line(
         &rt.stdout(),
         &rt.stderr(),
         &out[..size],
-        b"The spread could not be written.\n",
+        "The spread could not be written.",
     );
 }

@@ -1,5 +1,5 @@
 -- What the code asks of a node: whether its statement may be finished now, the tick at which it is due, and the last tick before it is late.
-use Rattle.std.specs.Prelude.{Bool, true, false, not, List, ℕ, ◌+◌, eqb, ◌+ℤ◌, take, drop}
+use Rattle.std.specs.Prelude.{Bool, true, false, not, List, ℕ, eqb, ◌+ℤ◌, take, drop}
 use Rattle.model.specs.Lists.{is_none}
 use Rattle.model.specs.Reader.{byte, word, complement}
 use Rattle.model.specs.Window.{value_at, in_range}

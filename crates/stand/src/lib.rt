@@ -21,7 +21,8 @@ use node::{Counts, Kept, Node, Trial};
 // A tick that no run reaches, nor one that lies later by an offset.
 pub const NEVER: u64 = 9223372036854775807;
 
-// Whether one of so many pairs from a place on has that channel.
+// Whether one of so many pairs from a place on has that channel. A `while`, here and below, and a number where there is none: a node's own
+// processor gets this code by the rules of node/proved/retarget.awk, and these know no function of the library, and no pair by value.
 fn lists_channel(part: &[u8], from: usize, count: u8, channel: u8) -> bool
     requires { from ≤ 65535 }
     ensures { result ≡ any (λ q. eqb q.channel channel) (list_at pair_at 4 count (drop from part.now)) }

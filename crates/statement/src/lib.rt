@@ -12,44 +12,9 @@ ghost use Rattle.statement.specs.Done.{Carried, Finished};
 use model::op;
 use node::Kept;
 
-// A statement of a trial (0A to 0F, and 12).
-fn try_statement(statement: &[u8], words: &mut [u64], values: &[i16], c: usize)
-    requires { (4 ≤ length statement.now) × (10 ≤ byte statement.now 0) × (15 < byte statement.now 0 → byte statement.now 0 ≡ 18) × Eight words.old values.now × (c < 8) × Held (held_in words.old c) }
-    ensures { Carried statement.now words.old values.now c words.new values.now }
-{
-    let op = statement[0];
-    if op == op::KEEP {
-        let trial = registers::load_trial(words, c);
-        let kept = registers::load_kept(words, c);
-        let next = node::candidate::keeps(trial, statement[3], kept);
-        registers::put_kept(words, c, next);
-        return;
-    }
-    if op == op::TRIAL {
-        let none = node::candidate::no_trial();
-        registers::put_trial(words, c, none);
-        return;
-    }
-    let trial = registers::load_trial(words, c);
-    if op < op::DATA_LOW {
-        let clock = registers::clock(words, c, statement[1]);
-        let next = node::by_clock(statement, trial, clock);
-        registers::put_trial(words, c, next);
-        return;
-    }
-    if op == op::BUDGET {
-        let budget = parts::word_at(statement, 2);
-        let next = node::candidate::met(trial, node::candidate::spans(trial, budget));
-        registers::put_trial(words, c, next);
-        return;
-    }
-    let value = registers::value(words, values, c, statement[1]);
-    let next = node::by_value(statement, trial, value);
-    registers::put_trial(words, c, next);
-}
-
-// The same, for a caller of its own: a function with one caller is inlined, and most choices of a run are statements of a trial.
-fn try_on(statement: &[u8], words: &mut [u64], values: &[i16], c: usize)
+// A statement of a trial (0A to 0F, and 12), by a copy for each caller, of which one carries out such statements alone: a function with one caller
+// is inlined, and most choices of a run are statements of a trial.
+fn try_statement<const ALONE: bool>(statement: &[u8], words: &mut [u64], values: &[i16], c: usize)
     requires { (4 ≤ length statement.now) × (10 ≤ byte statement.now 0) × (15 < byte statement.now 0 → byte statement.now 0 ≡ 18) × Eight words.old values.now × (c < 8) × Held (held_in words.old c) }
     ensures { Carried statement.now words.old values.now c words.new values.now }
 {
@@ -233,7 +198,7 @@ pub fn finish(part: &[u8], words: &mut [u64], values: &mut [i16], c: usize, op: 
     }
     let to = at + 4;
     registers::put_place(words, c, to);
-    try_statement(statement, words, values, c);
+    try_statement::<false>(statement, words, values, c);
     to
 }
 
@@ -259,6 +224,6 @@ pub fn finish_trial(part: &[u8], words: &mut [u64], values: &[i16], c: usize, op
     let statement = &part[at..];
     let to = at + 4;
     registers::put_place(words, c, to);
-    try_on(statement, words, values, c);
+    try_statement::<true>(statement, words, values, c);
     to
 }

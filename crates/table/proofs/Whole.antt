@@ -8,19 +8,24 @@ use native.Mathlib.Numerals.{add-one}
 use borrow.Author.Tests.{le-leb, lt-leb, leb-true}
 use Rattle.model.proofs.Basics.Bools.{and_is, tests}
 use Rattle.model.proofs.Reader.Bands.{zeros_small}
-use lib.ListN.{length, take, drop, get_or, set, replicate, length-drop, drop_of_length-le}
+use lib.ListN.{length, take, drop, set, replicate, length-drop, drop_of_length-le}
 use lib.Seq.{drop-drop, drop-cons, get_or-drop}
 use Rattle.model.specs.declared.Verdict.{Verdict}
 use Rattle.model.specs.declared.Verdict.TheVariants.{Accepted, Refused}
 use lib.Dec.{leb}
+use Rattle.std.specs.List.{list_all}
 use Rattle.model.specs.Lists.{all, Answer, accepted, refused, ◌after◌}
 use Rattle.model.specs.declared.TableHeader.{TableHeader}
 use Rattle.model.specs.Table.{Component, Read}
 use Rattle.model.specs.Reader.{header_at, byte, word, Parsed, ok, fault, read_component, about, at_end, length_fits, read_components, version_fine, length_fine, count_fine, body_start, bands_at, bands_fine, read_with, read_table}
 use Rattle.model.specs.Places.{start_of}
 use Rattle.model.specs.Calls.{verdict_of}
-use Rattle.table.specs.declared.Tried.TheVariants.{Fine, Fails}
-use Rattle.table.specs.Directory.{tried_of, starts_of, header_of, reading_from, reading_of, refusal}
+use mathlib.Core.Option.{none, some}
+use Rattle.table.specs.declared.HeaderFault.{HeaderFault}
+use Rattle.table.specs.declared.HeaderFault.TheVariants.{Version, Length, Counts}
+use Rattle.std.specs.Prelude.{Result, Ok, Err}
+use Rattle.std.specs.Result.{is_err, IfErr}
+use Rattle.table.specs.Directory.{question_number, header_number, fault_in, starts_of, header_of, reading_from, reading_of, refusal}
 use Rattle.parts.proofs.Skim.{first_of}
 
 -- ## The reader's answer from a verdict
@@ -45,20 +50,17 @@ reading_keeps bs n (refused k c) f = refl
 
 -- ## A component
 
-was_fine : {A : Type 0} (m : Parsed A) → tried_of m ≡ Fine → (a : A) × ((c : ℕ) → about c m ≡ accepted a)
+was_fine : {A : Type 0} (m : Parsed A) → fault_in m ≡ none → (a : A) × ((c : ℕ) → about c m ≡ accepted a)
 was_fine (ok a r) e = (a, λ c. refl)
 was_fine (fault n) e = let z : ◌≡◌ {A = ℕ} 0 1 = cc in absurd (omega arith)
 
-fails_with : {A : Type 0} (m : Parsed A) {n : ℕ} (c : ℕ) → tried_of m ≡ Fails n → about c m ≡ refused n c
+fails_with : {A : Type 0} (m : Parsed A) {n : ℕ} (c : ℕ) → fault_in m ≡ some n → about c m ≡ refused n c
 fails_with (ok a r) c e = let z : ◌≡◌ {A = ℕ} 0 1 = cc in absurd (omega arith)
 fails_with (fault k) {n} c e = let q : k ≡ n = cc in ap (λ (j : ℕ). refused j c) q
 
-module _ (heading : TableHeader) (c : ℕ) (s : List ℕ) (at n : ℕ) (x : Verdict) (k : ℕ) (h : 0 < k) (inv : verdict_of (read_components heading k c (drop at s)) ≡ x) where
-  more : k ≡ suc (k - 1)
-  more = omega arith
-
-  here : verdict_of (read_components heading (suc (k - 1)) c (drop at s)) ≡ x
-  here = subst (λ (i : ℕ). verdict_of (read_components heading i c (drop at s)) ≡ x) more inv
+module _ (heading : TableHeader) (c : ℕ) (s : List ℕ) (at n : ℕ) (x : Verdict) (k m : ℕ) (h : k ≡ suc m) (inv : verdict_of (read_components heading k c (drop at s)) ≡ x) where
+  here : verdict_of (read_components heading (suc m) c (drop at s)) ≡ x
+  here = subst (λ (i : ℕ). verdict_of (read_components heading i c (drop at s)) ≡ x) h inv
 
   -- its length bytes do not fit
   pub no_length : length s - at < 2 → x ≡ Refused 4 c
@@ -81,23 +83,23 @@ module _ (heading : TableHeader) (c : ℕ) (s : List ℕ) (at n : ℕ) (x : Verd
       rw (le-leb 2 (length (drop at s)) (simp length-drop (omega arith)), stated e, le-leb n (length (drop at s)) (simp length-drop (omega arith)))
 
   -- it fits and fails
-  pub fails_there : at + 2 ≤ length s → n ≡ word s at → at + n ≤ length s → {j : ℕ} → tried_of (read_component heading (take n (drop at s))) ≡ Fails j → x ≡ Refused j c
+  pub fails_there : at + 2 ≤ length s → n ≡ word s at → at + n ≤ length s → {j : ℕ} → fault_in (read_component heading (take n (drop at s))) ≡ some j → x ≡ Refused j c
   unfolding read_components
   fails_there f e g q =
       sym here ∙ rw (fits f e g, stated e, fails_with (read_component heading (take n (drop at s))) c q)
 
   -- it is fine: the next one
-  pub fine_there : at + 2 ≤ length s → n ≡ word s at → at + n ≤ length s → tried_of (read_component heading (take n (drop at s))) ≡ Fine
-      → verdict_of (read_components heading (k - 1) (c + 1) (drop (at + n) s)) ≡ x
+  pub fine_there : at + 2 ≤ length s → n ≡ word s at → at + n ≤ length s → fault_in (read_component heading (take n (drop at s))) ≡ none
+      → verdict_of (read_components heading m (c + 1) (drop (at + n) s)) ≡ x
   unfolding read_components
   fine_there f e g q = go (was_fine (read_component heading (take n (drop at s))) q)
     where
       rest : Answer (List Component)
-      rest = read_components heading (k - 1) (suc c) (drop n (drop at s))
+      rest = read_components heading m (suc c) (drop n (drop at s))
 
-      go : ((C : Component) × ((d : ℕ) → about d (read_component heading (take n (drop at s))) ≡ accepted C)) → verdict_of (read_components heading (k - 1) (c + 1) (drop (at + n) s)) ≡ x
+      go : ((C : Component) × ((d : ℕ) → about d (read_component heading (take n (drop at s))) ≡ accepted C)) → verdict_of (read_components heading m (c + 1) (drop (at + n) s)) ≡ x
       go (C, a) =
-          let p : verdict_of (read_components heading (suc (k - 1)) c (drop at s)) ≡ verdict_of rest = rw (fits f e g, stated e, a c) (verdict_keeps rest (λ l. C ∷ l)) in
+          let p : verdict_of (read_components heading (suc m) c (drop at s)) ≡ verdict_of rest = rw (fits f e g, stated e, a c) (verdict_keeps rest (λ l. C ∷ l)) in
           rw (add-one c, ← drop-drop n at s) (sym p ∙ here)
 
 -- ## The end of the components
@@ -172,6 +174,28 @@ module _ (bs : List ℕ) where
   pub header_bands : version_fine bs ≡ true → length_fine bs ≡ true → count_fine bs ≡ true → (b : Bool) → bands_fine bs ≡ b → ◌≡◌ {A = ℕ} (cond b 0 3) (header_of bs)
   header_bands e f g b h = rw (e, f, g, h)
 
+-- no question has the number 0
+pub asks : (question : HeaderFault) → question_number question ≡ 0 → ⊥
+asks Version e = omega (arith, e)
+asks Length e = omega (arith, e)
+asks Counts e = omega (arith, e)
+
+-- an answer of the header that is an error, and one that is none
+pub questioned : (r : Result (Unit {0}) HeaderFault) → is_err r ≡ true → header_number r ≡ 0 → ⊥
+questioned (Ok u) e z = absurd (not_false e)
+  where
+    not_false : false ≡ true → ⊥
+    not_false q = let y : ◌≡◌ {A = ℕ} 0 1 = cc in omega arith
+questioned (Err question) e z = asks question z
+
+pub if_questioned : (r : Result (Unit {0}) HeaderFault) (P : ℕ → Type 0) → ((header_number r ≡ 0 → ⊥) → P (header_number r)) → IfErr r (λ question. P (question_number question))
+if_questioned (Ok u) P told = tt
+if_questioned (Err question) P told = told (asks question)
+
+pub unquestioned : (r : Result (Unit {0}) HeaderFault) → is_err r ≡ false → header_number r ≡ 0
+unquestioned (Ok u) e = refl
+unquestioned (Err question) e = let y : ◌≡◌ {A = ℕ} 0 1 = cc in absurd (omega arith)
+
 -- ## What the tests of the header say
 
 pub no_version : (bs : List ℕ) → length bs < 1 → version_fine bs ≡ false
@@ -198,18 +222,9 @@ bands_are bs h = rw (le-leb (body_start bs) (length bs) h) (go (leb 2 (byte bs 0
 pub bands_short : (bs : List ℕ) → length bs < body_start bs → false ≡ bands_fine bs
 bands_short bs h = rw (lt-leb (body_start bs) (length bs) h)
 
--- one band more is asked
-module _ (bs : List ℕ) (i from : ℕ) (h : i < from) (f : from ≤ length bs) (x : Bool) (inv : all (λ b. leb b 3) (take (from - i) (drop i bs)) ≡ x) where
-  more_asked : all (λ b. leb b 3) (get_or bs i 0 ∷ take (from - (i + 1)) (drop (i + 1) bs)) ≡ x
-  more_asked =
-      let z : from - i ≡ suc (from - suc i) = omega arith in
-      rw (add-one i) (rw (z, drop-cons bs i 0 (omega arith)) at inv)
-
-  pub band_large : 3 < get_or bs i 0 → false ≡ x
-  band_large g = rw (lt-leb (get_or bs i 0) 3 g) at more_asked
-
-  pub band_small : get_or bs i 0 ≤ 3 → all (λ b. leb b 3) (take (from - (i + 1)) (drop (i + 1) bs)) ≡ x
-  band_small g = rw (le-leb (get_or bs i 0) 3 g) at more_asked
+pub all_same : (test : ℕ → Bool) (bs : List ℕ) → list_all test bs ≡ all test bs
+all_same test [] = refl
+all_same test (b ∷ bs) = ap (λ (rest : Bool). test b && rest) (all_same test bs)
 
 pub bands-fit : (bs : List ℕ) → bands_fine bs ≡ true → body_start bs ≤ length bs
 bands-fit bs e = leb-true (body_start bs) (length bs) ((and_is (leb (body_start bs) (length bs)) (all (λ b. leb b 3) (bands_at bs))).0 e).0

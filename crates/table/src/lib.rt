@@ -3,16 +3,31 @@
 
 ghost use Rattle.std.specs.Prelude.{◌≡◌, ℕ, ◌+◌, ◌≤◌, ◌<◌, length, drop, get_or};
 ghost use Rattle.model.specs.Reader.{head_fine, header_at, read_body, read_component, read_components, length_fine, count_fine, body_start, bands_fine};
-ghost use Rattle.table.specs.Directory.{tried_of, refusal, header_of, reading_from, reading_of, reading_at};
+ghost use Rattle.parts.specs.Place.{fault_number};
+ghost use Rattle.table.specs.Directory.{part_fault, fault_in, question_number, header_number, refusal, header_of, reading_from, reading_of, reading_at};
 
 use model::{Sizes, TableHeader, Verdict, layout};
-use parts::{Kind, Next};
+use parts::{Kind, PartFault};
 
-// Whether a component is fine, or the number of the question that it fails.
-#[derive(Clone, Copy)]
-pub enum Tried {
-    Fine,
-    Fails(u8),
+// The question that a header fails (docs/REFUSALS.md): is the version known, is the stated length that of the table, are the counts and bands in range?
+#[derive(Clone, Copy, Debug, PartialEq, Eq)]
+pub enum HeaderFault {
+    Version,
+    Length,
+    Counts,
+}
+
+// The number of the question.
+impl From<HeaderFault> for u8 {
+    ghost from_gives = { λ fault number. number ≡ question_number fault };
+
+    fn from(fault: HeaderFault) -> u8 {
+        match fault {
+            HeaderFault::Version => 1,
+            HeaderFault::Length => 2,
+            HeaderFault::Counts => 3,
+        }
+    }
 }
 
 // The reader's answer: the verdict, and where each component starts (0 for an absent one, and after a refusal).
@@ -45,46 +60,36 @@ fn head_fine(component: &[u8]) -> bool
 }
 
 // The locations and edges of a component, after its first 7 bytes.
-fn body(component: &[u8], heading: TableHeader) -> Tried
+fn body(component: &[u8], heading: TableHeader) -> Result<(), PartFault>
     requires { (7 ≤ length component.now) × (get_or component.now 4 0 ≤ 4) }
-    ensures { result ≡ tried_of (read_body heading component.now (drop 7 component.now)) }
+    ensures { part_fault result ≡ fault_in (read_body heading component.now (drop 7 component.now)) }
 {
-    let n = component[layout::COMPONENT_LOCATIONS];
-    let z = Sizes {
+    let count = component[layout::COMPONENT_LOCATIONS];
+    let sizes = Sizes {
         channels: heading.channels,
-        locations: n,
+        locations: count,
         clocks: component[layout::COMPONENT_CLOCKS],
         variables: component[layout::COMPONENT_VARIABLES],
         budgets: heading.budgets,
     };
-    let l = parts::parts(component, layout::COMPONENT_HEADER, n, Kind::Locations, z);
-    match l {
-        Next::Fault(k) => Tried::Fails(k),
-        Next::At(a) => {
-            let e = parts::arcs(component, a, component[layout::COMPONENT_EDGES], z);
-            match e {
-                Next::Fault(k) => Tried::Fails(k),
-                Next::At(b) => {
-                    if b < component.len() {
-                        Tried::Fails(4)
-                    } else {
-                        Tried::Fine
-                    }
-                }
-            }
-        }
+    let start = layout::COMPONENT_HEADER;
+    let edges = parts::parts(component, start, count, Kind::Locations, sizes)?;
+    let end = parts::arcs(component, edges, component[layout::COMPONENT_EDGES], sizes)?;
+    if end < component.len() {
+        return Err(PartFault::NoFit);
     }
+    Ok(())
 }
 
 // A component, from its own bytes.
-fn component(bytes: &[u8], heading: TableHeader) -> Tried
-    ensures { result ≡ tried_of (read_component heading bytes.now) }
+fn component(bytes: &[u8], heading: TableHeader) -> Result<(), PartFault>
+    ensures { part_fault result ≡ fault_in (read_component heading bytes.now) }
 {
     if bytes.len() < layout::COMPONENT_HEADER {
-        return Tried::Fails(4);
+        return Err(PartFault::NoFit);
     }
     if !head_fine(bytes) {
-        return Tried::Fails(5);
+        return Err(PartFault::OutOfRange);
     }
     body(bytes, heading)
 }
@@ -105,25 +110,19 @@ fn components(table: &[u8], count: u8, heading: TableHeader, from: usize) -> Rea
 {
     let mut starts = [0u16; 8];
     let mut at = from;
-    let mut c: u8 = 0;
-    while c < count {
+    for c in 0..count {
         if table.len() - at < 2 {
             return refused(4, c);
         }
-        let n = parts::word_at(table, at) as usize;
+        let n = usize::from(parts::word_at(table, at));
         if table.len() - at < n {
             return refused(4, c);
         }
-        let t = component(&table[at..at + n], heading);
-        match t {
-            Tried::Fails(k) => {
-                return refused(k, c);
-            }
-            Tried::Fine => {}
+        if let Err(fault) = component(&table[at..at + n], heading) {
+            return refused(u8::from(fault), c);
         }
-        starts[c as usize] = at as u16;
+        starts[usize::from(c)] = at as u16;
         at += n;
-        c += 1;
     }
     if at < table.len() {
         return refused(4, count - 1);
@@ -143,7 +142,7 @@ fn length_fine(table: &[u8]) -> bool
     }
     parts::both(
         parts::both(layout::TABLE_HEADER <= n, n <= 8192),
-        parts::word_at(table, layout::TABLE_LENGTH) as usize == n,
+        usize::from(parts::word_at(table, layout::TABLE_LENGTH)) == n,
     )
 }
 
@@ -169,7 +168,7 @@ pub fn body_start(table: &[u8]) -> usize
     ensures { (result ≡ body_start table.now) × (7 ≤ result) × (result ≤ 262) }
 {
     if 2 <= table[layout::TABLE_VERSION] {
-        layout::TABLE_HEADER + parts::wide(table[layout::TABLE_CHANNELS])
+        layout::TABLE_HEADER + usize::from(table[layout::TABLE_CHANNELS])
     } else {
         layout::TABLE_HEADER
     }
@@ -184,41 +183,36 @@ fn bands_fine(table: &[u8]) -> bool
     if table.len() < from {
         return false;
     }
-    let mut i: usize = layout::TABLE_HEADER;
-    while i < from {
-        if 3 < table[i] {
-            return false;
-        }
-        i += 1;
-    }
-    true
+    table[layout::TABLE_HEADER..from]
+        .iter()
+        .all(|band| *band <= 3)
 }
 
-// The number of the first of checks 1 to 3 that a table fails, 0 if it passes them.
-pub fn header(table: &[u8]) -> u8
-    ensures { result ≡ header_of table.now }
+// The first of checks 1 to 3 that a table fails.
+pub fn header(table: &[u8]) -> Result<(), HeaderFault>
+    ensures { header_number result ≡ header_of table.now }
 {
     if table.len() < 1 {
-        return 1;
+        return Err(HeaderFault::Version);
     }
     let version = table[layout::TABLE_VERSION];
     if !parts::both(1 <= version, version <= 3) {
-        return 1;
+        return Err(HeaderFault::Version);
     }
     if !length_fine(table) {
-        return 2;
+        return Err(HeaderFault::Length);
     }
     if !count_fine(table) {
-        return 3;
+        return Err(HeaderFault::Counts);
     }
     if !bands_fine(table) {
-        return 3;
+        return Err(HeaderFault::Counts);
     }
-    0
+    Ok(())
 }
 
 // What the header tells of the components.
-fn heading(table: &[u8]) -> TableHeader
+pub fn heading(table: &[u8]) -> TableHeader
     requires { 7 ≤ length table.now }
     ensures { result ≡ header_at table.now }
 {
@@ -232,9 +226,8 @@ fn heading(table: &[u8]) -> TableHeader
 pub fn read(table: &[u8]) -> Reading
     ensures { result ≡ reading_of table.now }
 {
-    let number = header(table);
-    if number != 0 {
-        return refused(number, 255);
+    if let Err(fault) = header(table) {
+        return refused(u8::from(fault), 255);
     }
     components(
         table,

@@ -23,7 +23,7 @@ pub same_words : {before words after : List ℕ} {at end : ℕ} (others : List �
 same_words {before} {at = at} others a e = record { text = a.text ∙ ap (λ (w : List ℕ). take at before ++ w) e }
 
 -- one byte more
-pub take_set : (out : List ℕ) (at b : ℕ) → at < length out → take (suc at) (set out at b) ≡ take at out ++ (b ∷ [])
+take_set : (out : List ℕ) (at b : ℕ) → at < length out → take (suc at) (set out at b) ≡ take at out ++ (b ∷ [])
 take_set [] at b h = absurd (not-suc-le-zero h)
 take_set (x ∷ out) zero b h = refl
 take_set (x ∷ out) (suc at) b h = ap (λ (l : List ℕ). x ∷ l) (take_set out at b (le_of_suc-le-suc h))

@@ -1,26 +1,11 @@
 -- Blanks, and columns that they fill. Assumes nothing.
-use mathlib.Core.Path.{◌≡◌, refl, sym, ap, ◌∙◌}
-use mathlib.Core.List.{List, [], ◌∷◌, ◌++◌, append_assoc}
-use Prim.Native.Nat.{ℕ, zero, suc, ◌+◌, ◌-◌, ◌<◌}
-use native.Mathlib.Nat.{add-suc}
-use native.Mathlib.Numerals.{add-one}
-use lib.ListN.{length, take, set, replicate}
+use mathlib.Core.Path.{◌≡◌, sym, ap}
+use mathlib.Core.List.{List, ◌++◌}
+use Prim.Native.Nat.{ℕ, ◌-◌}
+use lib.ListN.{length, replicate}
 use Rattle.text.specs.Words.{decimal, Added}
 use Rattle.text.specs.Columns.{column, signed_text}
-use Rattle.text.proofs.Appended.{take_set}
 use Rattle.text.proofs.Appended.{same_words}
-
--- one blank more
-one_more : (i b : ℕ) → replicate i b ++ (b ∷ []) ≡ replicate (suc i) b
-one_more zero b = refl
-one_more (suc i) b = ap (λ (l : List ℕ). b ∷ l) (one_more i b)
-
-pub blank_turn : (before out : List ℕ) (at i : ℕ) → at + i < length out → take (at + i) out ≡ take at before ++ replicate i 32
-    → take (at + (i + 1)) (set out (at + i) 32) ≡ take at before ++ replicate (i + 1) 32
-blank_turn before out at i h e =
-    rw (add-one, add-suc)
-    (take_set out (at + i) 32 h ∙ ap (λ (l : List ℕ). l ++ (32 ∷ [])) e ∙ append_assoc (take at before) (replicate i 32) (32 ∷ [])
-    ∙ ap (λ (l : List ℕ). take at before ++ l) (one_more i 32))
 
 -- blanks for so many bytes, then a text of so many, are a column
 pub in_column : (width used : ℕ) (words : List ℕ) → length words ≡ used → replicate (width - used) 32 ++ words ≡ column width words

@@ -1,5 +1,5 @@
 -- The fewest decimal digits of a number are its numeral. Assumes nothing.
-use mathlib.Core.Path.{◌≡◌, refl, ap₂, subst, subst⁻¹}
+use mathlib.Core.Path.{◌≡◌, refl, ap, ap₂, subst, subst⁻¹, ◌∙◌}
 use mathlib.Core.Bool.{Bool, true, false}
 use mathlib.Core.List.{[], ◌∷◌, ◌++◌}
 use Prim.Native.Nat.{ℕ, zero, suc, ◌+◌, ◌*◌, ◌-◌, ◌/◌, ◌%◌, ◌^◌, ◌≤◌, ◌<◌}
@@ -58,3 +58,9 @@ numeral_is (suc room) (suc (suc k)) n h (one, below, least) =
 pub decimal_is : (n k : ℕ) → n < 10000000000 → IsDigitCount 10 1 n k → last_digits 10 k n ≡ decimal n
 unfolding decimal
 decimal_is n k h f = let few : k ≤ 10 = at_most_ten n k h f in numeral_is 20 k n (omega (arith, few)) f
+
+-- what `io::decimal` answers of a number that is so much
+pub written : (n : ℕ) {m k : ℕ} → m ≡ n → n < 10000000000 → IsDigitCount 10 1 m k → (k ≤ 10) × (last_digits 10 k m ≡ decimal n)
+written n {m} {k} e h f =
+    let count = subst (λ (x : ℕ). IsDigitCount 10 1 x k) e f in
+    (at_most_ten n k h count, ap (last_digits 10 k) e ∙ decimal_is n k h count)

@@ -1,27 +1,8 @@
--- Texts as bytes: ASCII, and numbers in decimal.
-use Rattle.std.specs.Prelude.{◌≡◌, cond, List, [], ◌∷◌, ◌++◌, ℕ, zero, suc, ◌+◌, ◌/◌, ◌%◌, ltb, take, drop}
-use Prim.Native.Char.{code}
+-- Texts as bytes: ASCII, and numbers in decimal (`words/specs/Words`); fields, lines, and words added to others.
+use Rattle.std.specs.Prelude.{◌≡◌, List, [], ◌∷◌, ◌++◌, ℕ, zero, suc, take, drop}
 use Prim.Native.String.{String}
-use Prim.Native.String as string
-
--- the bytes of a text
-abbrev pub ascii : String → List ℕ
-ascii string.[] = []
-ascii (string.◌∷◌ letter rest) = code letter ∷ ascii rest
-
--- a digit below 10
-abbrev pub digit : ℕ → List ℕ
-digit d = (48 + d) ∷ []
-
--- The digits of a number, no zero in front: a digit alone, or those of its tenth and then its last one. Twenty are enough for any
--- number of 64 bits.
-unfoldable pub numeral : ℕ → ℕ → List ℕ
-numeral zero n = []
-numeral (suc room) n = cond (ltb n 10) (digit n) (numeral room (n / 10) ++ digit (n % 10))
-
-unfoldable pub decimal : ℕ → List ℕ
-unfolding numeral
-decimal n = numeral 20 n
+pub use Rattle.words.specs.Words.{ascii, digit}
+unfoldable pub use Rattle.words.specs.Words.{numeral, decimal}
 
 -- a text and a number
 abbrev pub field : String → ℕ → List ℕ

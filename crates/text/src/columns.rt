@@ -5,29 +5,26 @@ ghost use Rattle.text.specs.Columns.{column, signed_text};
 
 use crate::put;
 
-// So many blanks.
-fn put_blanks(out: &mut [u8], at: usize, n: usize) -> usize
-    requires { at + n ≤ length out.old }
-    ensures { Added out.old at (replicate n 32) out.new result × (result ≡ at + n) }
-{
-    let mut i: usize = 0;
-    while i < n {
-        out[at + i] = 32;
-        i += 1;
-    }
-    at + i
-}
-
 // Blanks up to a column's width, where so many bytes of it are used.
 fn put_padding(out: &mut [u8], at: usize, used: usize, width: usize) -> usize
     requires { at + width ≤ length out.old }
     ensures { Added out.old at (replicate (width - used) 32) out.new result × (result ≤ at + width) }
 {
-    if used < width {
-        put_blanks(out, at, width - used)
-    } else {
-        put_blanks(out, at, 0)
-    }
+    let end = at + width.saturating_sub(used);
+    out[at..end].fill(b' ');
+    end
+}
+
+// A sign, or none, and a number at the right of a column.
+fn put_with_sign(out: &mut [u8], at: usize, sign: &[u8], n: u32, width: usize) -> usize
+    requires { at + width + length sign.now + 10 ≤ length out.old }
+    ensures { Added out.old at (column width (sign.now ++ decimal n)) out.new result × (result ≤ at + width + length sign.now + 10) }
+{
+    let mut digits = [0u8; 20];
+    let k = io::decimal(u64::from(n), &mut digits);
+    let first = put_padding(out, at, sign.len() + k, width);
+    let number = put(out, first, sign);
+    put(out, number, &digits[..k])
 }
 
 // A number at the right of a column.
@@ -35,22 +32,7 @@ pub fn put_column(out: &mut [u8], at: usize, n: u32, width: usize) -> usize
     requires { at + width + 10 ≤ length out.old }
     ensures { Added out.old at (column width (decimal n)) out.new result × (result ≤ at + width + 10) }
 {
-    let mut digits = [0u8; 20];
-    let k = io::decimal(n as u64, &mut digits);
-    let number = put_padding(out, at, k, width);
-    put(out, number, &digits[..k])
-}
-
-// A number below 0 at the right of a column, by its distance from 0.
-fn put_minus_column(out: &mut [u8], at: usize, n: u32, width: usize) -> usize
-    requires { at + width + 11 ≤ length out.old }
-    ensures { Added out.old at (column width (ascii "-" ++ decimal n)) out.new result × (result ≤ at + width + 11) }
-{
-    let mut digits = [0u8; 20];
-    let k = io::decimal(n as u64, &mut digits);
-    let minus = put_padding(out, at, k + 1, width);
-    let number = put(out, minus, b"-");
-    put(out, number, &digits[..k])
+    put_with_sign(out, at, b"", n, width)
 }
 
 // A signed number of sixteen bits at the right of a column.
@@ -61,6 +43,6 @@ pub fn put_signed_column(out: &mut [u8], at: usize, bits: u32, width: usize) -> 
     if bits < 32768 {
         put_column(out, at, bits, width)
     } else {
-        put_minus_column(out, at, 65536 - bits, width)
+        put_with_sign(out, at, b"-", 65536 - bits, width)
     }
 }

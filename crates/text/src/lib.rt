@@ -1,5 +1,6 @@
 // Words, numbers and columns, written into a lent slice: each function adds its words after those that stand there, and answers
 // where they end. And numbers, read from their digits.
+// A slice with a place beside it, and no string: there is no heap.
 #![tactic(auto)]
 
 mod columns;
@@ -9,26 +10,17 @@ ghost use Rattle.std.specs.Prelude.{◌≡◌, List, ◌++◌, ℕ, ◌+◌, ◌
 ghost use Rattle.text.specs.Words.{decimal, refusal_line, Added};
 
 pub use columns::{put_column, put_signed_column};
-pub use numbers::{Number, number_of};
+pub use numbers::number_of;
 
-// A byte as a wider number, and that it is below 256.
-pub fn wide(byte: u8) -> u32
-    ensures { (result ≡ byte) × (result < 256) }
-{
-    byte as u32
-}
-
-// These words.
+// These words. By a loop: `copy_from_slice` would need `memmove` of whoever links the archive of the words.
 pub fn put(out: &mut [u8], at: usize, words: &[u8]) -> usize
     requires { at + length words.now ≤ length out.old }
     ensures { Added out.old at words.now out.new result × (result ≡ at + length words.now) }
 {
-    let mut i: usize = 0;
-    while i < words.len() {
+    for i in 0..words.len() {
         out[at + i] = words[i];
-        i += 1;
     }
-    at + i
+    at + words.len()
 }
 
 // A number of at most ten digits in decimal.
@@ -46,10 +38,11 @@ pub fn put_decimal(out: &mut [u8], at: usize, n: u32) -> usize
     requires { at + 10 ≤ length out.old }
     ensures { Added out.old at (decimal n) out.new result × (result ≤ at + 10) }
 {
-    put_number(out, at, n as u64)
+    put_number(out, at, u64::from(n))
 }
 
 // A text and a number.
+#[tactic(auto, using(crate::proofs::Appended::next))]
 pub fn put_field(out: &mut [u8], at: usize, words: &[u8], n: u32) -> usize
     requires { at + length words.now + 10 ≤ length out.old }
     ensures { Added out.old at (words.now ++ decimal n) out.new result × (result ≤ at + length words.now + 10) }
@@ -59,11 +52,12 @@ pub fn put_field(out: &mut [u8], at: usize, words: &[u8], n: u32) -> usize
 }
 
 // A refusal's number and component.
+#[tactic(auto, using(crate::proofs::Appended::next), unfolding(crate::specs::Words::refusal_line))]
 pub fn put_refusal(out: &mut [u8], at: usize, number: u8, component: u8) -> usize
     requires { at + 30 ≤ length out.old }
     ensures { Added out.old at (refusal_line number component) out.new result × (result ≤ at + 30) }
 {
-    let second = put_field(out, at, b"refused ", number as u32);
-    let last = put_field(out, second, b" ", component as u32);
+    let second = put_field(out, at, b"refused ", u32::from(number));
+    let last = put_field(out, second, b" ", u32::from(component));
     put(out, last, b"\n")
 }

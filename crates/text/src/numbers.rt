@@ -1,45 +1,27 @@
 // Numbers read from their decimal digits.
-ghost use Rattle.std.specs.Prelude.{◌≡◌, List, ◌∷◌, ℕ, ◌≤◌};
+ghost use Rattle.std.specs.Prelude.{◌≡◌, List, ◌∷◌, ℕ, None, MatchOption};
 ghost use Rattle.text.specs.Numbers.{read_on, number_of};
 
-// What a word is: a number of 32 bits, or none.
-#[derive(Clone, Copy)]
-pub enum Number {
-    Read(u32),
-    Unreadable,
-}
-
-// The number that the digits so far are, with one more. 4,294,967,296 stands for all that are larger, and for none at all.
-fn with_digit(value: u64, byte: u8) -> u64
-    requires { value ≤ 4294967296 }
-    ensures { (result ≤ 4294967296) × ((rest : List ℕ) → read_on value (byte ∷ rest) ≡ read_on result rest) }
+// The number that the digits so far are, with one more; none where the byte is no digit, or the number has more than 32 bits.
+fn with_digit(value: u32, byte: u8) -> Option<u32>
+    ensures { (rest : List ℕ) → MatchOption result (read_on value (byte ∷ rest) ≡ None) (λ n. read_on value (byte ∷ rest) ≡ read_on n rest) }
 {
-    if byte < 48 {
-        return 4294967296;
+    if !byte.is_ascii_digit() {
+        return None;
     }
-    if 57 < byte {
-        return 4294967296;
-    }
-    let next = value * 10 + (byte - 48) as u64;
-    if next < 4294967296 { next } else { 4294967296 }
+    value.checked_mul(10)?.checked_add(u32::from(byte - b'0'))
 }
 
-// The number that a word is.
-pub fn number_of(word: &[u8]) -> Number
+// The number of 32 bits that a word is.
+pub fn number_of(word: &[u8]) -> Option<u32>
     ensures { result ≡ number_of word.now }
 {
-    if word.len() == 0 {
-        return Number::Unreadable;
+    if word.is_empty() {
+        return None;
     }
-    let mut value: u64 = 0;
-    let mut i: usize = 0;
-    while i < word.len() {
-        value = with_digit(value, word[i]);
-        i += 1;
+    let mut value = 0;
+    for byte in word {
+        value = with_digit(value, *byte)?;
     }
-    if value < 4294967296 {
-        Number::Read(value as u32)
-    } else {
-        Number::Unreadable
-    }
+    Some(value)
 }

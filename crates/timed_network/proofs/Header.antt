@@ -6,19 +6,18 @@ use mathlib.Core.List.{List, []}
 use Prim.Native.Nat.{ℕ, ◌≤◌}
 use native.Mathlib.Omega.{arith}
 use borrow.Author.Tests.{le-leb, le-ltb}
-use lib.Dec.{leb, ltb}
+use lib.Dec.{ltb}
 use lib.ListN.{length}
 use Rattle.model.specs.declared.Verdict.TheVariants.{Accepted, Refused}
 use Rattle.model.specs.Lists.{Answer, accepted, refused, ◌after◌, each}
 use Rattle.model.specs.Table.{Read}
 use Rattle.model.specs.Reader.{read_table, version_fine, length_fine, count_fine, bands_fine}
-use Rattle.model.specs.Schedule.{Passage}
 use Rattle.model.specs.Checks.{accepted_schedule_of}
 use Rattle.model.specs.Program.{program_bytes}
-use Rattle.model.specs.Calls.{Call, RunCall, verdict_of, refusing, spread_fine, read_at, accepted_schedule_in, check_call, schedule_with, schedule_call, bytes_with, translate_call, not_run, run_call, run_call_at}
+use Rattle.model.specs.Calls.{verdict_of, refusing, spread_fine, read_at, accepted_schedule_in, check_call, schedule_with, schedule_call, bytes_with, translate_call, not_run, run_call, run_call_at}
 use Rattle.model.specs.Chart.{chart, chart_call}
-use Rattle.model.specs.Meetings.{MeetingsCall, about, meetings_call_at, meetings_call}
-use Rattle.model.specs.Reasons.{ReasonsCall, asked, asked_in, told, reasons_call}
+use Rattle.model.specs.Meetings.{MeetingsCall, meetings_call_at, meetings_call}
+use Rattle.model.specs.Reasons.{asked, asked_in, told, reasons_call}
 use Rattle.model.proofs.Run.CallsApart.{run_together, meetings_together}
 use Rattle.table.specs.Directory.{header_of, refusal}
 use Rattle.table.proofs.Whole.{header_refused}

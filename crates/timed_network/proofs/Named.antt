@@ -1,5 +1,5 @@
 -- No two locations of a process that a table is written as have one name. Assumes nothing.
-use mathlib.Core.Path.{◌≡◌, sym, subst}
+use mathlib.Core.Path.{sym, subst}
 use mathlib.Core.List.{List, [], ◌∷◌, map}
 use Prim.Native.Nat.{ℕ}
 use Rattle.model.specs.Lists.{All, empty, more, ◌∈◌, here, there}

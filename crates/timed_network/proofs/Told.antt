@@ -1,15 +1,13 @@
 -- Tables of versions 1 and 2 keep the earlier rule, windows are as long as their budgets, and 11, 15, 16 and 17 tell the faults of listeners at every
 -- spread. Assumes nothing.
 use mathlib.Core.Path.{◌≡◌, refl, subst}
-use mathlib.Core.Bool.{false}
 use mathlib.Core.List.{List}
 use mathlib.Core.Logic.{◌↔◌}
-use mathlib.Core.Option.{Option, some}
+use mathlib.Core.Option.{Option}
 use Prim.Native.Nat.{ℕ, ◌≤◌}
 use native.Mathlib.Omega.{arith}
 use Rattle.model.specs.declared.Hearing.{Hearing}
 use Rattle.model.specs.declared.Hearing.TheVariants.{Nobody, Several, LateStart, EarlyEnd}
-use Rattle.model.specs.declared.Verdict.{Verdict}
 use Rattle.model.specs.declared.Verdict.TheVariants.{Refused}
 use Rattle.model.specs.Window.{Spans}
 use Rattle.model.specs.Checks.{limit, hearing_number}

@@ -4,7 +4,7 @@ ghost use Rattle.timed_network.specs.Numbers.{PositionNumbersOf};
 
 use crate::verdict_numbers;
 
-// The answer of the call for positions: the verdict as two numbers, and how many passages were read, 0 after a refusal.
+// The answer of the call for positions: the verdict as two numbers, and how many passages were read, 0 after a refusal. C has it as it stands.
 #[repr(C)]
 #[derive(Clone, Copy)]
 pub struct PositionNumbers {

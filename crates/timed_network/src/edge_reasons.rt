@@ -5,6 +5,7 @@ ghost use Rattle.timed_network.specs.Numbers.{ReasonNumbersOf};
 use crate::verdict_numbers;
 
 // The answer of the call for reasons: the verdict as two numbers, the number of the passage, and how many edges are told; both are 0 after a refusal.
+// C has it as it stands.
 #[repr(C)]
 #[derive(Clone, Copy)]
 pub struct ReasonNumbers {
@@ -25,10 +26,9 @@ pub extern "C" fn timed_network_reasons(
 ) -> ReasonNumbers
     ensures { ReasonNumbersOf (reasons_call table.now component tick told.old) result told.new × ReasonsTrue table.now component tick }
 {
-    let header = table::header(table);
-    if header != 0 {
+    if let Err(fault) = table::header(table) {
         return ReasonNumbers {
-            number: header,
+            number: u8::from(fault),
             component: 255,
             passage: 0,
             size: 0,

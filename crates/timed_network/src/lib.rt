@@ -40,7 +40,7 @@ use passages::Passage;
 use slot_plan::Slots;
 use window::Entry;
 
-// A verdict as two numbers: 0 for accepted, else the number of the refusal; and the component concerned, 255 for none.
+// A verdict as two numbers: 0 for accepted, else the number of the refusal; and the component concerned, 255 for none. C has it as it stands.
 #[repr(C)]
 #[derive(Clone, Copy)]
 pub struct VerdictNumbers {
@@ -48,7 +48,7 @@ pub struct VerdictNumbers {
     pub component: u8,
 }
 
-// The same with the size of the result, 0 after a refusal.
+// The same with the size of the result, 0 after a refusal. C has it as it stands.
 #[repr(C)]
 #[derive(Clone, Copy)]
 pub struct CallNumbers {
@@ -57,7 +57,7 @@ pub struct CallNumbers {
     pub size: u32,
 }
 
-// The part of one node as a range of the program's bytes; 0 and 0 where there is none.
+// The part of one node as a range of the program's bytes; 0 and 0 where there is none. C has it as it stands.
 #[repr(C)]
 #[derive(Clone, Copy)]
 pub struct PartNumbers {
@@ -65,7 +65,7 @@ pub struct PartNumbers {
     pub length: usize,
 }
 
-// The answer of a run as numbers.
+// The answer of a run as numbers. C has it as it stands.
 #[repr(C)]
 #[derive(Clone, Copy)]
 pub struct RunNumbers {
@@ -106,7 +106,7 @@ fn end_numbers(end: End) -> EndNumbers
 }
 
 // The answer of the call for meetings: its own as two numbers, the verdict of checks 1 to 12 on the table likewise, and how many passages
-// are listed.
+// are listed. C has it as it stands.
 #[repr(C)]
 #[derive(Clone, Copy)]
 pub struct MeetingsNumbers {
@@ -117,7 +117,7 @@ pub struct MeetingsNumbers {
     pub size: u32,
 }
 
-// A component as it enters a location, as numbers.
+// A component as it enters a location, as numbers. C has it as it stands.
 #[repr(C)]
 #[derive(Clone, Copy)]
 pub struct EntryNumbers {
@@ -128,6 +128,7 @@ pub struct EntryNumbers {
 }
 
 // The answer of the edge choice as numbers: the edge taken, if any, its window counted from the entry, and how many edges were looked at.
+// C has it as it stands.
 #[repr(C)]
 #[derive(Clone, Copy)]
 pub struct EdgeChoiceNumbers {
@@ -203,10 +204,9 @@ fn numbers_of(called: Called) -> CallNumbers
 pub extern "C" fn timed_network_check(table: &[u8]) -> VerdictNumbers
     ensures { (result.number ≡ number_of (check_call table.now)) × (result.component ≡ concerned_of (check_call table.now)) × ((check_call table.now ≡ Accepted) ↔ Accepts table.now) × EarlierRule table.now × FaultsTold 0 table.now (check_call table.now) }
 {
-    let header = calls::check_header(table);
-    if header != 0 {
+    if let Err(fault) = calls::check_header(table) {
         return VerdictNumbers {
-            number: header,
+            number: u8::from(fault),
             component: 255,
         };
     }
@@ -225,9 +225,8 @@ pub extern "C" fn timed_network_check(table: &[u8]) -> VerdictNumbers
 pub extern "C" fn timed_network_schedule(table: &[u8], list: &mut [u32]) -> CallNumbers
     ensures { (result.number ≡ number_of (schedule_call table.now list.old).verdict) × (result.component ≡ concerned_of (schedule_call table.now list.old).verdict) × (result.size ≡ (schedule_call table.now list.old).size) × (list.new ≡ (schedule_call table.now list.old).lent) × BudgetsKept table.now }
 {
-    let header = table::header(table);
-    if header != 0 {
-        return early::header_numbers(header);
+    if let Err(fault) = table::header(table) {
+        return early::header_numbers(u8::from(fault));
     }
     let c = calls::schedule(&table[0..], list);
     numbers_of(c)
@@ -238,9 +237,8 @@ pub extern "C" fn timed_network_schedule(table: &[u8], list: &mut [u32]) -> Call
 pub extern "C" fn timed_network_timing_chart(table: &[u8], chart: &mut [u8]) -> CallNumbers
     ensures { (result.number ≡ number_of (chart_call table.now chart.old).verdict) × (result.component ≡ concerned_of (chart_call table.now chart.old).verdict) × (result.size ≡ (chart_call table.now chart.old).size) × (chart.new ≡ (chart_call table.now chart.old).lent) }
 {
-    let header = table::header(table);
-    if header != 0 {
-        return early::header_numbers(header);
+    if let Err(fault) = table::header(table) {
+        return early::header_numbers(u8::from(fault));
     }
     let c = timing_chart::timing_chart(&table[0..], chart);
     numbers_of(c)
@@ -301,9 +299,8 @@ pub extern "C" fn timed_network_edge_choice(table: &[u8], asked: EntryNumbers) -
 pub extern "C" fn timed_network_translate(table: &[u8], program: &mut [u8]) -> CallNumbers
     ensures { (result.number ≡ number_of (translate_call table.now program.old).verdict) × (result.component ≡ concerned_of (translate_call table.now program.old).verdict) × (result.size ≡ (translate_call table.now program.old).size) × (program.new ≡ (translate_call table.now program.old).lent) × EarlierRule table.now }
 {
-    let header = table::header(table);
-    if header != 0 {
-        return early::header_numbers(header);
+    if let Err(fault) = table::header(table) {
+        return early::header_numbers(u8::from(fault));
     }
     let c = calls::translate(&table[0..], program);
     numbers_of(c)
@@ -350,9 +347,8 @@ pub extern "C" fn timed_network_run(
 ) -> RunNumbers
     ensures { NumbersOf (run_call table.now choices.now observations.old) result observations.new × Demand3Of table.now choices.now × ObservationsRead table.now choices.now observations.old × FinishesOf table.now choices.now }
 {
-    let header = table::header(table);
-    if header != 0 {
-        return early::header_run(header);
+    if let Err(fault) = table::header(table) {
+        return early::header_run(u8::from(fault));
     }
     let r = calls::run(&table[0..], choices, observations);
     run_numbers(r)
@@ -372,9 +368,8 @@ pub extern "C" fn timed_network_passages(table: &[u8], list: &mut [Passage]) -> 
 pub extern "C" fn timed_network_meetings(table: &[u8], list: &mut [u32]) -> MeetingsNumbers
     ensures { (result.number ≡ number_of (meetings_call table.now list.old).verdict) × (result.component ≡ concerned_of (meetings_call table.now list.old).verdict) × (result.refusal ≡ number_of (meetings_call table.now list.old).table) × (result.concerned ≡ concerned_of (meetings_call table.now list.old).table) × (result.size ≡ (meetings_call table.now list.old).size) × (list.new ≡ (meetings_call table.now list.old).lent) }
 {
-    let header = table::header(table);
-    if header != 0 {
-        return early::header_meetings(header);
+    if let Err(fault) = table::header(table) {
+        return early::header_meetings(u8::from(fault));
     }
     let m = meetings::meetings(&table[0..], list);
     meetings_numbers(m)

@@ -9,7 +9,7 @@ ghost use Rattle.timed_network.specs.Numbers.{RunToNumbersOf};
 use crate::{end_numbers, verdict_numbers};
 use long_run::LongRan;
 
-// The answer of a run to a horizon as numbers.
+// The answer of a run to a horizon as numbers. C has it as it stands.
 #[repr(C)]
 #[derive(Clone, Copy)]
 pub struct RunToNumbers {

@@ -7,7 +7,7 @@ ghost use Rattle.timed_network.specs.Numbers.{PlaceNumbersOf, OpeningNumbersOf};
 
 use crate::EntryNumbers;
 
-// The place of a refusal as numbers, each as in `refusal_place::Place`; the number 0 where none of 4 to 6 refuses the table.
+// The place of a refusal as numbers, each as in `refusal_place::Place`; the number 0 where none of 4 to 6 refuses the table. C has it as it stands.
 #[repr(C)]
 #[derive(Clone, Copy)]
 pub struct PlaceNumbers {
@@ -49,7 +49,7 @@ pub extern "C" fn timed_network_refusal_place(table: &[u8]) -> PlaceNumbers
 }
 
 // The opening that is refused as numbers, each as in `opening_place::RefusedOpening`, with the entry in the form that the edge choice takes; the number 0
-// where none of 7 to 9 refuses the table.
+// where none of 7 to 9 refuses the table. C has it as it stands.
 #[repr(C)]
 #[derive(Clone, Copy)]
 pub struct OpeningNumbers {
@@ -97,8 +97,7 @@ fn no_opening() -> OpeningNumbers
 pub extern "C" fn timed_network_refused_opening(table: &[u8]) -> OpeningNumbers
     ensures { OpeningNumbersOf (opening_of table.now) result × OpeningTold table.now }
 {
-    let header = table::header(table);
-    if header != 0 {
+    if table::header(table).is_err() {
         return no_opening();
     }
     let opening = refused_opening::locate(&table[0..]);

@@ -3,8 +3,10 @@ ghost use Rattle.recurrence.specs.Recurrence.{recurrence_call, PairTrue};
 ghost use Rattle.timed_network.specs.Numbers.{PeriodNumbersOf};
 
 use crate::verdict_numbers;
+use recurrence::Pair;
 
 // The answer of the call for the pair: the verdict as two numbers, whether there is a pair, and its two ticks, 0 and 0 where there is none.
+// C has it as it stands.
 #[repr(C)]
 #[derive(Clone, Copy)]
 pub struct PeriodNumbers {
@@ -23,11 +25,13 @@ pub extern "C" fn timed_network_period(table: &[u8]) -> PeriodNumbers
     let answer = period::pair(table);
     let verdict = answer.verdict;
     let numbers = verdict_numbers(verdict);
+    let found = answer.pair.is_some();
+    let pair = answer.pair.unwrap_or(Pair { from: 0, to: 0 });
     PeriodNumbers {
         number: numbers.number,
         component: numbers.component,
-        found: answer.found,
-        from: answer.from,
-        to: answer.to,
+        found,
+        from: pair.from,
+        to: pair.to,
     }
 }

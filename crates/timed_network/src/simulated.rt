@@ -8,7 +8,7 @@ use crate::verdict_numbers;
 use simulated_runs::call::Simulation;
 
 // The answer of the calls for simulated runs: the verdict as two numbers, the runs that ended late, those of each node, and the generator afterwards; all
-// but the verdict are 0 after a refusal.
+// but the verdict are 0 after a refusal. C has it as it stands.
 #[repr(C)]
 #[derive(Clone, Copy)]
 pub struct SimulationNumbers {

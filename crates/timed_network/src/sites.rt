@@ -8,7 +8,7 @@ ghost use Rattle.timed_network.specs.SiteNumbers.{AirtimeNumbersOf};
 use crate::verdict_numbers;
 use site::Networks;
 
-// A table's verdict as two numbers, its horizon and its airtime; 0 and 0 after a refusal.
+// A table's verdict as two numbers, its horizon and its airtime; 0 and 0 after a refusal. C has it as it stands.
 #[repr(C)]
 #[derive(Clone, Copy)]
 pub struct AirtimeNumbers {

@@ -14,7 +14,7 @@ use crate::{
     verdict_numbers,
 };
 
-// The answer of the call for the largest spread: the verdict without a spread as two numbers, and the spread, 0 after a refusal.
+// The answer of the call for the largest spread: the verdict without a spread as two numbers, and the spread, 0 after a refusal. C has it as it stands.
 #[repr(C)]
 #[derive(Clone, Copy)]
 pub struct SpreadNumbers {
@@ -29,10 +29,9 @@ pub struct SpreadNumbers {
 pub extern "C" fn timed_network_check_spread(table: &[u8], spread: u32) -> VerdictNumbers
     ensures { (result.number ≡ number_of (check_call_at spread table.now)) × (result.component ≡ concerned_of (check_call_at spread table.now)) × ((check_call_at spread table.now ≡ Accepted) ↔ (spread ≤ 1000) × AcceptsAt spread table.now) × FaultsTold spread table.now (check_call_at spread table.now) }
 {
-    let header = calls::spread::check_header_spread(table, spread);
-    if header != 0 {
+    if let Err(fault) = calls::spread::check_header_spread(table, spread) {
         return VerdictNumbers {
-            number: header,
+            number: u8::from(fault),
             component: 255,
         };
     }
@@ -45,10 +44,9 @@ pub extern "C" fn timed_network_check_spread(table: &[u8], spread: u32) -> Verdi
 pub extern "C" fn timed_network_largest_spread(table: &[u8]) -> SpreadNumbers
     ensures { (result.number ≡ number_of (check_call table.now)) × (result.component ≡ concerned_of (check_call table.now)) × (check_call table.now ≡ Accepted → LargestSpread table.now result.spread) × ((check_call table.now ≡ Accepted → ⊥) → result.spread ≡ 0) }
 {
-    let header = table::header(table);
-    if header != 0 {
+    if let Err(fault) = table::header(table) {
         return SpreadNumbers {
-            number: header,
+            number: u8::from(fault),
             component: 255,
             spread: 0,
         };
@@ -72,9 +70,8 @@ pub extern "C" fn timed_network_meetings_spread(
 ) -> MeetingsNumbers
     ensures { (result.number ≡ number_of (meetings_call_at spread table.now list.old).verdict) × (result.component ≡ concerned_of (meetings_call_at spread table.now list.old).verdict) × (result.refusal ≡ number_of (meetings_call_at spread table.now list.old).table) × (result.concerned ≡ concerned_of (meetings_call_at spread table.now list.old).table) × (result.size ≡ (meetings_call_at spread table.now list.old).size) × (list.new ≡ (meetings_call_at spread table.now list.old).lent) }
 {
-    let header = table::header(table);
-    if header != 0 {
-        return early::header_meetings(header);
+    if let Err(fault) = table::header(table) {
+        return early::header_meetings(u8::from(fault));
     }
     let listed = meetings::meetings_spread(&table[0..], spread, list);
     meetings_numbers(listed)
@@ -92,9 +89,8 @@ pub extern "C" fn timed_network_run_apart(
 ) -> RunNumbers
     ensures { NumbersOf (run_call_at spread table.now offsets.now choices.now observations.old) result observations.new × Demand3ApartOf spread table.now offsets.now choices.now × ObservationsReadAt spread table.now offsets.now choices.now observations.old × FinishesApartOf spread table.now offsets.now choices.now }
 {
-    let header = table::header(table);
-    if header != 0 {
-        return early::header_run(header);
+    if let Err(fault) = table::header(table) {
+        return early::header_run(u8::from(fault));
     }
     let ran = calls::apart::run_apart(&table[0..], choices, spread, offsets, observations);
     run_numbers(ran)

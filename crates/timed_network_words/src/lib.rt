@@ -14,7 +14,7 @@ ghost use Rattle.chart_words.specs.ChartText.{printed_chart};
 ghost use Rattle.listing_text.specs.ListingText.{listing_text};
 ghost use Rattle.timed_network_words.specs.Laid.{WordsOf, SpreadWordsOf};
 
-// 0, or 13 where the bytes lent do not hold the text; and how many bytes it has, in both cases.
+// 0, or 13 where the bytes lent do not hold the text; and how many bytes it has, in both cases. C has it as it stands.
 #[repr(C)]
 #[derive(Clone, Copy)]
 pub struct WordsNumbers {

@@ -9,8 +9,8 @@ use mathlib.Core.Bool.{Bool, true, false}
 use mir.Syntax.{w8}
 use mir.Val.{Fits}
 use lib.Dec.{eqb}
-use lib.ListN.{length, take, drop, get_or, set, length-drop, length-set}
-use lib.Seq.{drop-drop, drop-cons, get_or-drop, ext_get_or, get_or-set_same, get_or-set_other, drop-length}
+use lib.ListN.{length, take, drop, get_or, set, length-take, length-drop, length-set}
+use lib.Seq.{drop-drop, drop-cons, get_or-take, get_or-drop, ext_get_or, get_or-set_same, get_or-set_other, drop-length}
 use Rattle.model.specs.Lists.{Bytes}
 use Rattle.model.specs.Table.{Component, no_location, no_arc, size, header_of, arc_of}
 use Rattle.model.specs.Reader.{byte, location_at}
@@ -147,6 +147,14 @@ module _ (bs : List ℕ) (b : Bytes bs) (v : Valid bs) where
   -- the starts that the reader found
   pub found : (starts : List ℕ) → starts ≡ starts_of bs (byte bs 3) → (c : ℕ) → c < byte bs 3 → get_or starts c 0 ≡ start_of bs c
   found starts e c h = ap (λ (l : List ℕ). get_or l c 0) e ∙ start-at bs (byte bs 3) c h few_nodes
+
+  -- as many of them as there are components
+  module _ (starts : List ℕ) (e : starts ≡ starts_of bs (byte bs 3)) (n : ℕ) (all : n ≡ byte bs 3) where
+    pub taken_long : length (take n starts) ≡ byte bs 3
+    taken_long = rw (all, e) (simp length-take (omega (arith, starts_long bs (byte bs 3), few_nodes)))
+
+    pub taken_found : (c : ℕ) → c < length (take n starts) → get_or (take n starts) c 0 ≡ start_of bs c
+    taken_found c h = let k : c < n = omega (arith, taken_long) in get_or-take n starts c 0 k ∙ found starts e c (omega (arith, taken_long))
 
   -- the header stands
   pub valid_long : 7 ≤ length bs

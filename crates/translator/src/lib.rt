@@ -21,9 +21,7 @@ fn put_word(out: &mut [u8], at: usize, number: u16) -> usize
     requires { at + 2 ≤ length out.old }
     ensures { Put out.old at (be16 number) result out.new }
 {
-    out[at] = (number / 256) as u8;
-    out[at + 1] = (number % 256) as u8;
-    at + 2
+    blocks::put_bytes(out, at, [(number / 256) as u8, (number % 256) as u8])
 }
 
 // How many statements stand from the first block to a place.
@@ -49,8 +47,7 @@ fn put_location_blocks(
     let edges = layout::COMPONENT_HEADER + parts::wide(n) * layout::LOCATION_WIDTH;
     let mut place = starts;
     let mut at = first;
-    let mut here: u8 = 0;
-    while here < n {
+    for here in 0..n {
         let l = decoder::location_at(
             &component[layout::COMPONENT_HEADER + parts::wide(here) * layout::LOCATION_WIDTH..],
         );
@@ -64,7 +61,6 @@ fn put_location_blocks(
             at,
             budgets,
         );
-        here += 1;
     }
     at
 }
@@ -86,12 +82,10 @@ fn put_edge_blocks(
     let mut edge: usize = 0;
     let mut place = starts;
     let mut at = from;
-    let mut k = count;
-    while 0 < k {
+    for _ in 0..count {
         place = put_word(out, place, statements_between(first, at));
         at = blocks::put_edge_block(&bytes[edge..], clocks, out, at, budgets);
         edge += decoder::arc_length(&bytes[edge..], budgets);
-        k -= 1;
     }
     at
 }
@@ -107,13 +101,8 @@ fn put_node_head(
     requires { at + 6 ≤ length out.old }
     ensures { Put out.old at (node_head long locations edges initial) result out.new }
 {
-    out[at] = (long / 256) as u8;
-    out[at + 1] = (long % 256) as u8;
-    out[at + layout::PART_LOCATIONS] = locations;
-    out[at + layout::PART_EDGES] = edges;
-    out[at + layout::PART_INITIAL] = initial;
-    out[at + 5] = 0;
-    at + layout::PART_HEADER
+    let long = [(long / 256) as u8, (long % 256) as u8];
+    blocks::put_bytes(out, at, [long[0], long[1], locations, edges, initial, 0])
 }
 
 // The part of one node, from the component at the front.
@@ -156,11 +145,9 @@ fn put_nodes(table: &[u8], starts: [u16; 8], out: &mut [u8], from: usize) -> usi
     let budgets = decoder::budgeted(table);
     let count = table[layout::TABLE_COMPONENTS];
     let mut at = from;
-    let mut c: u8 = 0;
-    while c < count {
-        let start = starts[c as usize] as usize;
-        at = put_node(&table[start..], out, at, budgets);
-        c += 1;
+    for start in &starts[..usize::from(count)] {
+        let place = usize::from(*start);
+        at = put_node(&table[place..], out, at, budgets);
     }
     at
 }
@@ -169,13 +156,9 @@ fn put_program_head(out: &mut [u8], version: u8, long: u16, count: u8, horizon: 
     requires { 6 ≤ length out.old }
     ensures { Put out.old 0 (program_head version long count horizon) result out.new }
 {
-    out[layout::PROGRAM_VERSION] = version;
-    out[layout::PROGRAM_LENGTH] = (long / 256) as u8;
-    out[2] = (long % 256) as u8;
-    out[layout::PROGRAM_COMPONENTS] = count;
-    out[layout::PROGRAM_HORIZON] = (horizon / 256) as u8;
-    out[5] = (horizon % 256) as u8;
-    layout::PROGRAM_HEADER
+    let long = [(long / 256) as u8, (long % 256) as u8];
+    let last = [(horizon / 256) as u8, (horizon % 256) as u8];
+    blocks::put_bytes(out, 0, [version, long[0], long[1], count, last[0], last[1]])
 }
 
 // Writes the program; the bytes past it stay.
@@ -211,11 +194,9 @@ fn clocks_length(bytes: &[u8], count: u8) -> usize
 {
     let mut long: usize = 0;
     let mut place: usize = 0;
-    let mut k = count;
-    while 0 < k {
+    for _ in 0..count {
         long += clock_length(&bytes[place..]);
         place += layout::GUARD_WIDTH;
-        k -= 1;
     }
     long
 }
@@ -261,13 +242,12 @@ fn node_length(component: &[u8], budgets: bool) -> usize
 {
     let n = parts::wide(component[layout::COMPONENT_LOCATIONS]);
     let clocks = component[layout::COMPONENT_CLOCKS];
+    let arcs = component[layout::COMPONENT_EDGES];
     let mut long = 6 + n * 6;
     let mut edge = layout::COMPONENT_HEADER + n * layout::LOCATION_WIDTH;
-    let mut k = component[layout::COMPONENT_EDGES];
-    while 0 < k {
+    for _ in 0..arcs {
         long += arc_share(&component[edge..], clocks, budgets);
         edge += decoder::arc_length(&component[edge..], budgets);
-        k -= 1;
     }
     long
 }
@@ -280,11 +260,9 @@ pub fn program_length(table: &[u8], starts: [u16; 8]) -> usize
     let budgets = decoder::budgeted(table);
     let count = table[layout::TABLE_COMPONENTS];
     let mut long: usize = layout::PROGRAM_HEADER;
-    let mut c: u8 = 0;
-    while c < count {
-        let start = starts[c as usize] as usize;
-        long += node_length(&table[start..], budgets);
-        c += 1;
+    for start in &starts[..usize::from(count)] {
+        let place = usize::from(*start);
+        long += node_length(&table[place..], budgets);
     }
     long
 }

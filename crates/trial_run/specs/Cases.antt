@@ -1,18 +1,17 @@
 -- Words read as offsets, computed.
-use Rattle.std.specs.Prelude.{◌≡◌, refl, List, [], ◌∷◌, ◌++◌, map, ℕ, replicate}
-use Rattle.std.proofs.Math.Option.{none, some}
+use Rattle.std.specs.Prelude.{◌≡◌, refl, List, [], ◌∷◌, ◌++◌, map, ℕ, replicate, None, Some}
 use Rattle.model.specs.Lists.{each, below}
 use Rattle.text.specs.Words.{ascii}
 use Rattle.trial_run.specs.OffsetList.{offsets_in}
 
 pub words_read : map offsets_in (ascii "0,3,1" ∷ ascii "4294967295" ∷ ascii "-" ∷ [])
-    ≡ (some (0 ∷ 3 ∷ 1 ∷ []) ∷ some (4294967295 ∷ []) ∷ some [] ∷ [])
+    ≡ (Some (0 ∷ 3 ∷ 1 ∷ []) ∷ Some (4294967295 ∷ []) ∷ Some [] ∷ [])
 unfolding offsets_in
 words_read = refl
 
 -- an empty part is no number, and a dash among numbers is none
 pub words_not_read : map offsets_in (ascii "" ∷ ascii "," ∷ ascii "1," ∷ ascii "1,,2" ∷ ascii "1, 2" ∷ ascii "1,-" ∷ ascii "4294967296" ∷ [])
-    ≡ (none ∷ none ∷ none ∷ none ∷ none ∷ none ∷ none ∷ [])
+    ≡ (None ∷ None ∷ None ∷ None ∷ None ∷ None ∷ None ∷ [])
 unfolding offsets_in
 words_not_read = refl
 
@@ -20,10 +19,10 @@ words_not_read = refl
 abbrev pub sevens : ℕ → List ℕ
 sevens n = each (λ (i : ℕ). ascii "7,") (below n) ++ ascii "7"
 
-pub sixty_four : offsets_in (sevens 63) ≡ some (replicate 64 7)
+pub sixty_four : offsets_in (sevens 63) ≡ Some (replicate 64 7)
 unfolding offsets_in each
 sixty_four = refl
 
-pub sixty_five : offsets_in (sevens 64) ≡ none
+pub sixty_five : offsets_in (sevens 64) ≡ None
 unfolding offsets_in each
 sixty_five = refl

@@ -1,12 +1,7 @@
 -- The offsets as a word: at most 64 numbers joined by commas, or - for none.
-use Rattle.std.specs.Prelude.{◌≡◌, Bool, false, cond, List, [], ◌∷◌, ℕ, suc, leb, ltb, eqb, length, take, drop}
-use Rattle.std.proofs.Math.Option.{Option, none, some}
+use Rattle.std.specs.Prelude.{◌≡◌, Bool, false, cond, List, [], ◌∷◌, ℕ, suc, leb, ltb, eqb, length, take, drop, Option, None, Some}
 use Rattle.io.specs.Counts.{IsPrefixLen}
-use Rattle.text.specs.declared.numbers.Number.{Number}
-use Rattle.text.specs.declared.numbers.Number.TheVariants.{Read, Unreadable}
 use Rattle.text.specs.Numbers.{number_of}
-use Rattle.trial_run.specs.declared.offset_list.Listed.{Listed}
-use Rattle.trial_run.specs.declared.offset_list.Listed.TheVariants.{Count, IllFormed}
 
 -- ## The parts of a word
 
@@ -25,20 +20,20 @@ split_at i word = take i word ∷ cond (ltb i (length word)) (parts_of (drop (su
 
 -- ## The numbers that they are
 
-abbrev pub before : Number → Option (List ℕ) → Option (List ℕ)
-before Unreadable rest = none
-before (Read n) none = none
-before (Read n) (some ns) = some (n ∷ ns)
+abbrev pub before : Option ℕ → Option (List ℕ) → Option (List ℕ)
+before None rest = None
+before (Some n) None = None
+before (Some n) (Some ns) = Some (n ∷ ns)
 
 -- each part a number
 unfoldable pub numbers_of : List (List ℕ) → Option (List ℕ)
 unfolding number_of
-numbers_of [] = some []
+numbers_of [] = Some []
 numbers_of (part ∷ parts) = before (number_of part) (numbers_of parts)
 
 abbrev pub few : Option (List ℕ) → Option (List ℕ)
-few none = none
-few (some ns) = cond (leb (length ns) 64) (some ns) none
+few None = None
+few (Some ns) = cond (leb (length ns) 64) (Some ns) None
 
 unfoldable pub numbers_in : List ℕ → Option (List ℕ)
 unfolding parts_of numbers_of
@@ -51,15 +46,15 @@ is_dash (byte ∷ next ∷ bytes) = false
 
 unfoldable pub offsets_in : List ℕ → Option (List ℕ)
 unfolding numbers_in
-offsets_in word = cond (is_dash word) (some []) (numbers_in word)
+offsets_in word = cond (is_dash word) (Some []) (numbers_in word)
 
 -- ## The answer
 
-abbrev pub told_by : Listed → List ℕ → Option (List ℕ)
-told_by (Count n) list = some (take n list)
-told_by IllFormed list = none
+abbrev pub told_by : Option ℕ → List ℕ → Option (List ℕ)
+told_by (Some n) list = Some (take n list)
+told_by None list = None
 
 -- the numbers stand at the front of the list that was lent
-pub record Holds (numbers : Option (List ℕ)) (r : Listed) (list : List ℕ) : Type 0 where
+pub record Holds (numbers : Option (List ℕ)) (r : Option ℕ) (list : List ℕ) : Type 0 where
   pub read : numbers ≡ told_by r list
-  pub counts : (n : ℕ) → r ≡ Count n → IsPrefixLen n list
+  pub counts : (n : ℕ) → r ≡ Some n → IsPrefixLen n list

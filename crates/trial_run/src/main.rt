@@ -10,18 +10,16 @@ mod offset_list;
 
 ghost use Rattle.std.specs.Prelude.{◌≤◌, length};
 
-use offset_list::Listed;
 use std::env::{Env, FillError};
 use std::fs::File;
 use std::io::Read;
 use std::rt::Files;
-use text::Number;
 
 // Why an argument is not there, on standard error.
 fn say_argument(errors: &impl Print, error: FillError) {
     match error {
-        FillError::NotPresent => streams::say(errors, b"argument: Invalid argument\n"),
-        FillError::TooLong => streams::say(errors, b"argument: File name too long\n"),
+        FillError::NotPresent => streams::say_line(errors, "argument: Invalid argument"),
+        FillError::TooLong => streams::say_line(errors, "argument: File name too long"),
     }
 }
 
@@ -49,7 +47,7 @@ fn open_named<R: Files>(rt: &R, errors: &impl Print, name: &[u8]) -> Option<R::F
         },
         Err(_) => {
             streams::say(errors, name);
-            streams::say(errors, b": the name of a file is UTF-8\n");
+            streams::say_line(errors, ": the name of a file is UTF-8");
             None
         }
     }
@@ -72,11 +70,11 @@ fn run_files<F: Read>(
     let mut out = [0u8; run_words::ROOM];
     // The words are made, then written: what is put in out is all that is written.
     let size = run_words::write(&table[..n], &choices[..m], spread, offsets, &mut out);
-    streams::write_or_say(
+    streams::write_or_say_line(
         output,
         errors,
         &out[..size],
-        b"The run could not be written.\n",
+        "The run could not be written.",
     );
 }
 
@@ -139,12 +137,11 @@ fn run_with_offsets<R: Env + Files + Print>(
             return;
         }
     };
-    let listed = offset_list::read_offsets(&word[..n], list);
-    match listed {
-        Listed::Count(count) => run_named(rt, errors, spread, &list[..count]),
-        Listed::IllFormed => streams::say(
+    match offset_list::read_offsets(&word[..n], list) {
+        Some(count) => run_named(rt, errors, spread, &list[..count]),
+        None => streams::say_line(
             errors,
-            b"The offsets are at most 64 numbers from 0 to 4,294,967,295, joined by commas, or - for none.\n",
+            "The offsets are at most 64 numbers from 0 to 4,294,967,295, joined by commas, or - for none.",
         ),
     }
 }
@@ -161,33 +158,20 @@ fn run_with_offsets_in_array<R: Env + Files + Print>(
 
 // The same with the spread that the third argument is.
 fn run_with_spread<R: Env + Files + Print>(rt: &R, errors: &impl Print) {
-    let read = arguments::argument(rt, 3);
-    match read {
-        Number::Read(spread) => {
+    match arguments::argument(rt, 3) {
+        Some(spread) => {
             let mut list = [0u32; 64];
             run_with_offsets_in_array(rt, errors, spread, &mut list);
         }
-        Number::Unreadable => streams::say(
-            errors,
-            b"The spread is a number from 0 to 4,294,967,295.\n",
-        ),
+        None => streams::say_line(errors, "The spread is a number from 0 to 4,294,967,295."),
     }
 }
 
 fn main(rt: HostRuntime) {
     let errors = rt.stderr();
-    let count = arguments::count(&rt);
-    if count == 3 {
-        let none = [0u32; 1];
-        run_named(&rt, &errors, 0, &none[0..0]);
-        return;
+    match arguments::count(&rt) {
+        3 => run_named(&rt, &errors, 0, &[]),
+        5 => run_with_spread(&rt, &errors),
+        _ => streams::say_line(&errors, "usage: trial_run TABLE CHOICES [SPREAD OFFSETS]"),
     }
-    if count == 5 {
-        run_with_spread(&rt, &errors);
-        return;
-    }
-    streams::say(
-        &errors,
-        b"usage: trial_run TABLE CHOICES [SPREAD OFFSETS]\n",
-    );
 }

@@ -1,5 +1,5 @@
 -- Nodes that stand a period's sleeps back. Assumes nothing.
-use mathlib.Core.Path.{◌≡◌, refl, sym, ap, ap₂, subst, ◌∙◌}
+use mathlib.Core.Path.{◌≡◌, refl, sym, ap, ap₂, ◌∙◌}
 use mathlib.Core.List.{List, [], map}
 use Prim.Native.Nat.{ℕ, ◌+◌, ◌-◌, ◌*◌, ◌≤◌, ◌<◌}
 use native.Mathlib.Omega.{arith}
@@ -8,15 +8,14 @@ use lib.IntN.{ℤ}
 use lib.ListN.{length, get_or, set}
 use Rattle.model.specs.Machine.{Node}
 use Rattle.model.specs.Run.{Stand, sleeping, sending, listening, finishing, adding, working, taking, elsewhere, nowhere, stand_of}
-use Rattle.model.specs.Schedule.{Passage}
 use Rattle.recurrence.proofs.Shift
 use Rattle.later_runs.proofs.Front.{delayed}
 use Rattle.rows.specs.Rows.{rows_of}
 use Rattle.node.specs.declared.Node as held
 use Rattle.node.specs.Views.{Within, node_of}
 use Rattle.stand.specs.Stands.{due_tick, last_tick}
-use Rattle.registers.specs.Words.{word_in, node_in, part_in, held_in, Eight, SameNode, row_in, due_in, last_in, wake_tick_in, with_sleeps}
-use Rattle.registers.proofs.Frames.{part_alike, held_alike, put_there, put_beside, put_others, put_length, same_trans}
+use Rattle.registers.specs.Words.{word_in, node_in, part_in, held_in, row_in, wake_tick_in, with_sleeps}
+use Rattle.registers.proofs.Frames.{part_alike, held_alike, put_there, put_beside, put_others, put_length}
 use Rattle.machine.specs.Running.{RowsStand, ready_at, view_in}
 use Rattle.turning.specs.Turned.{between, MayTurn, NodeTurned, Turned}
 

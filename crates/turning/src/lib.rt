@@ -28,11 +28,9 @@ fn move_rows(rows: &mut [u32], passages: usize, period: u32)
     requires { RowsStand rows.old passages }
     ensures { (rows_of rows.new passages ≡ map (delayed period) (rows_of rows.old passages)) × (length rows.new ≡ length rows.old) }
 {
-    let mut i: usize = 0;
-    while i < passages {
+    for i in 0..passages {
         let ready = rows::number(rows, i, rows::READY);
         rows[i * rows::WIDTH + rows::READY] = later(ready, period);
-        i += 1;
     }
 }
 
@@ -53,10 +51,8 @@ fn rows_between(rows: &[u32], first: usize, second: usize, c: usize) -> u64
     ensures { (n : ℕ) → second ≤ n → result ≡ between (rows_of rows.now n) first second c }
 {
     let mut number: u64 = 0;
-    let mut i = first;
-    while i < second {
+    for i in first..second {
         number = counted(rows, i, c, number);
-        i += 1;
     }
     number
 }
@@ -67,10 +63,8 @@ pub fn rows_of_each(rows: &[u32], count: usize, first: usize, second: usize) -> 
     ensures { (n c : ℕ) → second ≤ n → c < count → get_or result c 0 ≡ between (rows_of rows.now n) first second c }
 {
     let mut numbers: [u64; 8] = [0; 8];
-    let mut c: usize = 0;
-    while c < count {
+    for c in 0..count {
         numbers[c] = rows_between(rows, first, second, c);
-        c += 1;
     }
     numbers
 }
@@ -100,9 +94,7 @@ pub fn turn(
     ensures { (program : List ℕ) (values : List ℤ) (second : ℕ) → MayTurn program rows.old passages words.old values count first second period fewer → Turned program rows.old passages words.old values count first second period rows.new words.new values }
 {
     move_rows(rows, passages, period);
-    let mut c: usize = 0;
-    while c < count {
+    for c in 0..count {
         turn_node(words, c, first + c, fewer[c]);
-        c += 1;
     }
 }

@@ -1,5 +1,5 @@
 -- The call `uppaal`, from what the reader and the schedule answer. Assumes nothing.
-use mathlib.Core.Path.{◌≡◌, refl, sym, ap, ◌∙◌}
+use mathlib.Core.Path.{◌≡◌, sym, ap, ◌∙◌}
 use mathlib.Core.Bool.{Bool, true, false, cond}
 use mathlib.Core.List.{List, ◌++◌}
 use Prim.Native.Nat.{ℕ, ◌+◌, ◌≤◌, ◌<◌}
@@ -14,7 +14,7 @@ use Rattle.model.specs.Reader.{read_table}
 use Rattle.model.specs.Places.{Valid, read_of}
 use Rattle.model.specs.Schedule.{Passage}
 use Rattle.model.specs.Checks.{accepted_schedule_of}
-use Rattle.model.specs.Calls.{Call, refusing, laid, bytes_with, verdict_of, accepted_schedule_in, check_call}
+use Rattle.model.specs.Calls.{refusing, bytes_with, verdict_of, accepted_schedule_in, check_call}
 use Rattle.model.proofs.Reader.Located.{valid_read}
 use Rattle.table.proofs.Answered.{verdict_refused, verdict_accepted}
 use Rattle.schedule.specs.declared.Scheduled.{Scheduled}

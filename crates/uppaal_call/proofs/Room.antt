@@ -8,7 +8,7 @@ use native.Mathlib.Omega.{arith}
 use lib.ListN.{length, take, drop, length-drop, drop_of_length-le}
 use lib.Seq.{get_or-drop, drop-cons}
 use Rattle.model.specs.Lists.{Bytes}
-use Rattle.model.specs.Table.{Component, no_component}
+use Rattle.model.specs.Table.{no_component}
 use Rattle.model.specs.Reader.{byte, update_at, pair_at}
 use Rattle.model.specs.Places.{arc_length, arc_at, items_place, updates_at, pairs_at, budgeted, start_of, Valid, read_of}
 use Rattle.model.proofs.Basics.Sums.{total}

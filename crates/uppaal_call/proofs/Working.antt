@@ -1,7 +1,7 @@
 -- Whether all budgets are 0, edge by edge and component by component. Assumes nothing.
 use mathlib.Core.Path.{◌≡◌, refl, sym, ap, ◌∙◌}
-use mathlib.Core.Bool.{Bool, true, false, cond, ◌&&◌}
-use mathlib.Core.List.{List, [], ◌∷◌}
+use mathlib.Core.Bool.{Bool, true, false, ◌&&◌}
+use mathlib.Core.List.{List}
 use Prim.Native.Nat.{ℕ, zero, suc, ◌+◌, ◌-◌, ◌≤◌, ◌<◌}
 use native.Mathlib.Numerals.{add-one, sub-one}
 use native.Mathlib.Omega.{arith}
@@ -10,9 +10,9 @@ use lib.Dec.{eqb, leb}
 use lib.ListN.{length, take, drop, length-drop, drop_of_length-le}
 use lib.Seq.{get_or-drop, drop-cons}
 use Rattle.model.specs.Lists.{Bytes, all}
-use Rattle.model.specs.Table.{Arc, Component, no_component}
+use Rattle.model.specs.Table.{Arc, no_component}
 use Rattle.model.specs.Reader.{byte, word}
-use Rattle.model.specs.Places.{arc_length, arc_at, budgeted, start_of, Valid, read_of, component_in}
+use Rattle.model.specs.Places.{arc_length, arc_at, budgeted, start_of, Valid, read_of}
 use Rattle.model.proofs.Reader.Located.{valid_located}
 use Rattle.blocks.specs.FrontEdges.{arcs_at, ArcsFit}
 use Rattle.blocks.proofs.Arcs.{edge_passed, edge_whole}

@@ -1,8 +1,6 @@
 -- The call for document 01's table, by its version, its budgets and the bytes lent.
-use Rattle.std.specs.Prelude.{◌≡◌, refl, List, [], ℕ, length, replicate}
-use Rattle.model.specs.declared.Verdict.{Verdict}
+use Rattle.std.specs.Prelude.{◌≡◌, refl, [], replicate}
 use Rattle.model.specs.declared.Verdict.TheVariants.{Accepted, Refused}
-use Rattle.model.specs.Lists.{Answer, accepted, refused}
 use Rattle.model.specs.Reader.{read_table}
 use Rattle.model.specs.Checks.{accepted_schedule}
 use Rattle.model.specs.Bytes.{table_bytes}

@@ -18,7 +18,7 @@ ghost use Rattle.uppaal_call.specs.LaidText.{laid_text};
 
 use model::{Verdict, layout};
 
-// The answer: the verdict, and how many bytes the text has, 0 after a refusal.
+// The answer: the verdict, and how many bytes the text has, 0 after a refusal. A struct: the contract of `uppaal` equates each of the two.
 #[derive(Clone, Copy)]
 pub struct Exported {
     pub verdict: Verdict,
@@ -39,15 +39,14 @@ fn is_budgetless(component: &[u8]) -> bool
     requires { Whole true component.now }
     ensures { result ≡ budgetless (front_component true component.now) }
 {
-    let n = parts::wide(component[layout::COMPONENT_LOCATIONS]);
-    let mut place = layout::COMPONENT_HEADER + n * layout::LOCATION_WIDTH;
-    let mut k = component[layout::COMPONENT_EDGES];
-    while 0 < k {
+    let locations = usize::from(component[layout::COMPONENT_LOCATIONS]);
+    let mut place = layout::COMPONENT_HEADER + locations * layout::LOCATION_WIDTH;
+    // Where the next edge stands is read from the bytes.
+    for _ in 0..component[layout::COMPONENT_EDGES] {
         if parts::word_at(component, place + layout::EDGE_BUDGET) != 0 {
             return false;
         }
         place += decoder::arc_length(&component[place..], true);
-        k -= 1;
     }
     true
 }
@@ -60,14 +59,10 @@ fn are_budgetless(table: &[u8], starts: [u16; 8]) -> bool
     if !decoder::budgeted(table) {
         return true;
     }
-    let count = table[layout::TABLE_COMPONENTS];
-    let mut c: u8 = 0;
-    while c < count {
-        let start = starts[c as usize] as usize;
-        if !is_budgetless(&table[start..]) {
+    for c in 0..usize::from(table[layout::TABLE_COMPONENTS]) {
+        if !is_budgetless(&table[usize::from(starts[c])..]) {
             return false;
         }
-        c += 1;
     }
     true
 }
@@ -77,14 +72,14 @@ fn process_room(component: &[u8], budgets: bool) -> usize
     requires { Whole budgets component.now }
     ensures { (component_room (front_component budgets component.now) ≤ result) × (result ≤ 80000000) }
 {
-    let n = parts::wide(component[layout::COMPONENT_LOCATIONS]);
-    let mut place = layout::COMPONENT_HEADER + n * layout::LOCATION_WIDTH;
+    let locations = usize::from(component[layout::COMPONENT_LOCATIONS]);
+    let mut place = layout::COMPONENT_HEADER + locations * layout::LOCATION_WIDTH;
     let mut room: usize = 480;
-    let mut edges = component[layout::COMPONENT_EDGES];
-    while 0 < edges {
-        room += parts::wide(component[place + layout::EDGE_ITEMS]) * 979 + 1667;
+    let edges = component[layout::COMPONENT_EDGES];
+    // Where the next edge stands is read from the bytes.
+    for _ in 0..edges {
+        room += usize::from(component[place + layout::EDGE_ITEMS]) * 979 + 1667;
         place += decoder::arc_length(&component[place..], budgets);
-        edges -= 1;
     }
     room
 }
@@ -95,13 +90,9 @@ fn text_room(table: &[u8], starts: [u16; 8]) -> usize
     ensures { length (system_text (system_for (read_of table.now).table)) ≤ result }
 {
     let budgets = decoder::budgeted(table);
-    let count = table[layout::TABLE_COMPONENTS];
     let mut room: usize = 137;
-    let mut c: u8 = 0;
-    while c < count {
-        let start = starts[c as usize] as usize;
-        room += process_room(&table[start..], budgets);
-        c += 1;
+    for c in 0..usize::from(table[layout::TABLE_COMPONENTS]) {
+        room += process_room(&table[usize::from(starts[c])..], budgets);
     }
     room
 }

@@ -1,24 +1,29 @@
 -- An upper bound by its mark; and the guards of `ends` by theirs. Assumes nothing.
-use mathlib.Core.Path.{◌≡◌, refl, sym, ap, subst, ◌∙◌}
-use mathlib.Core.List.{List, [], ◌∷◌, ◌++◌, map, append_assoc}
-use Prim.Native.Nat.{ℕ, zero, suc, pred, ◌+◌, ◌-◌, ◌%◌, ◌≤◌, ◌<◌}
+use mathlib.Core.Path.{◌≡◌, refl, sym, ap, ◌∙◌}
+use mathlib.Core.List.{List, [], ◌∷◌, ◌++◌, map}
+use Prim.Native.Nat.{ℕ, zero, suc, pred, ◌+◌, ◌-◌, ◌*◌, ◌%◌, ◌≤◌, ◌<◌}
 use native.Mathlib.Omega.{arith}
 use borrow.Author.Tests.{eq-eqb, ne_eqb, lt-ltb, le-ltb}
 use lib.Dec.{eqb}
 use lib.IntN.{ℤ, pos, negsuc}
-use lib.ListN.{length, drop}
-use lib.Seq.{drop-drop}
+use lib.ListN.{length, take, drop}
+use Rattle.parts.proofs.Skim.{tail}
+use Rattle.uppaal_parts.proofs.Turns.{behind}
 use mathlib.Core.Bool.{Bool, true, false, cond}
 use Rattle.model.specs.declared.ClockGuard.{ClockGuard}
 use Rattle.model.specs.declared.DataGuard.{DataGuard}
 use Rattle.model.specs.declared.Update.{Update}
-use Rattle.model.specs.Reader.{byte, word, complement, clock_guard_at, data_guard_at, update_at}
+use Rattle.model.specs.Reader.{word, complement, clock_guard_at, data_guard_at, update_at}
 use Rattle.model.specs.Lists.{from}
 use Rattle.words.specs.Words.{ascii, decimal}
-use Rattle.uppaal.specs.Xta.{adds, sets_to, resets, Upper, Atom, at_most, below, exactly}
+use Rattle.uppaal.specs.Xta.{adds, sets_to, Upper, Atom, at_most, below, exactly}
 use Rattle.uppaal.specs.XtaText.{atom_text, against, signed, addend, assignment_text}
 use Rattle.uppaal.specs.Export.{ends}
 use Rattle.uppaal_parts.specs.Marks.{mark_of, marked, upper_of, high_text, high_mark, low_text, data_text, high_count, highs_count, lead, update_text, reset_of}
+
+pub pred_less : (n : ℕ) → n - 1 ≡ pred n
+pred_less zero = refl
+pred_less (suc n) = omega arith
 
 pub mark_none : (t : ℕ) (u : Upper) → t ≡ 0 → against u " <= " ≡ atom_text (mark_of t u)
 unfolding atom_text
@@ -98,12 +103,6 @@ data_told h g l k e p q =
 
 -- ## How many upper bounds
 
-pub count_none : {g f : ClockGuard} → g ≡ f → g.high ≡ 65535 → 0 ≡ high_count f
-count_none {g} {f} e q = sym (ap (λ (b : Bool). cond b 0 1) (eq-eqb g.high 65535 q)) ∙ ap high_count e
-
-pub count_one : {g f : ClockGuard} → g ≡ f → (g.high ≡ 65535 → ⊥) → 1 ≡ high_count f
-count_one {g} {f} e q = sym (ap (λ (b : Bool). cond b 0 1) (ne_eqb g.high 65535 q)) ∙ ap high_count e
-
 pub count_small : (n : ℕ) (h : List ℕ) → highs_count n h ≤ n
 unfolding highs_count
 count_small zero h = omega arith
@@ -113,11 +112,14 @@ count_small (suc n) h = omega (arith, count_small n (drop 5 h), small (eqb (cloc
     small true = omega arith
     small false = omega arith
 
-pub count_ahead : (k place : ℕ) (h : List ℕ) → 0 < k → highs_count k (drop place h) ≡ high_count (clock_guard_at (drop place h)) + highs_count (k - 1) (drop (place + 5) h)
+-- those that were counted, and those from number k on
+pub count_on : (h : List ℕ) (k n : ℕ) → k < n → highs_count (n - k) (drop (k * 5) h) ≡ high_count (clock_guard_at (take (length h - k * 5) (drop (k * 5) h))) + highs_count (n - (k + 1)) (drop ((k + 1) * 5) h)
 unfolding highs_count
-count_ahead k place h more =
-    let e : k ≡ suc (k - 1) = omega arith in
-    ap (λ (n : ℕ). highs_count n (drop place h)) e ∙ ap (λ (l : List ℕ). high_count (clock_guard_at (drop place h)) + highs_count (k - 1) l) (drop-drop 5 place h)
+count_on h k n more =
+    let e : n - k ≡ suc (n - (k + 1)) = omega arith in
+    ap (λ (i : ℕ). highs_count i (drop (k * 5) h)) e
+    ∙ ap (λ (l : List ℕ). high_count (clock_guard_at (drop (k * 5) h)) + highs_count (n - (k + 1)) l) (behind 5 k h)
+    ∙ ap (λ (l : List ℕ). high_count (clock_guard_at l) + highs_count (n - (k + 1)) (drop ((k + 1) * 5) h)) (sym (tail h (k * 5)))
 
 pub count_done : (k : ℕ) (h : List ℕ) → k ≤ 0 → highs_count k h ≡ 0
 unfolding highs_count

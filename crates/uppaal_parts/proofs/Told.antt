@@ -1,8 +1,8 @@
 -- What is written from an edge's bytes is the text of the edge's parts. Assumes nothing.
-use mathlib.Core.Path.{◌≡◌, refl, sym, ap, ap₂, subst, ◌∙◌}
+use mathlib.Core.Path.{◌≡◌, refl, sym, ap, ap₂, ◌∙◌}
 use mathlib.Core.Bool.{Bool, true, false, cond}
-use mathlib.Core.List.{List, [], ◌∷◌, ◌++◌, map, append_assoc, append-nil}
-use Prim.Native.Nat.{ℕ, zero, suc, pred, ◌+◌, ◌*◌, ◌≤◌, ◌<◌}
+use mathlib.Core.List.{List, [], ◌∷◌, ◌++◌, map, append_assoc}
+use Prim.Native.Nat.{ℕ, zero, suc, pred, ◌+◌, ◌*◌}
 use Prim.Native.String.{String}
 use native.Mathlib.Omega.{arith}
 use lib.Dec.{eqb}
@@ -18,10 +18,10 @@ use Rattle.model.specs.Reader.{clock_guard_at, data_guard_at, update_at}
 use Rattle.model.specs.Places.{list_at}
 use Rattle.model.proofs.Basics.Sums.{each_join}
 use Rattle.words.specs.Words.{ascii}
-use Rattle.uppaal.specs.Xta.{Upper, Atom, at_least, value_at_least, value_at_most, Assignment, resets}
-use Rattle.uppaal.specs.XtaText.{atom_text, each_after, listed, closed, guard_text, assignment_text, assign_text}
-use Rattle.uppaal.specs.Export.{highs, lows, data_atoms, Sum, more, plus, stays, summed, range_atoms, assignment_of}
-use Rattle.uppaal_parts.specs.Marks.{mark_of, marked, upper_of, high_text, high_mark, highs_text, low_text, lows_text, all_told, data_text, datas_text, lead, led_text, update_text, updates_text, stays_text, range_of, ranges_text, reset_of, resets_text, still_first, none_of, highs_count}
+use Rattle.uppaal.specs.Xta.{Upper, Atom, value_at_least, value_at_most, Assignment, resets}
+use Rattle.uppaal.specs.XtaText.{atom_text, each_after, listed, guard_text, assignment_text}
+use Rattle.uppaal.specs.Export.{highs, lows, data_atoms, more, plus, stays, summed, range_atoms, assignment_of}
+use Rattle.uppaal_parts.specs.Marks.{mark_of, marked, upper_of, highs_text, low_text, lows_text, all_told, data_text, datas_text, lead, led_text, update_text, updates_text, ranges_text, reset_of, resets_text, none_of, highs_count}
 
 -- two lists, one after the other
 pub after_append : {A : Type 0} (between : String) (f : A → List ℕ) (xs ys : List A) → each_after between f (xs ++ ys) ≡ each_after between f xs ++ each_after between f ys

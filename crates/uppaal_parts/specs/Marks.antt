@@ -1,12 +1,12 @@
 -- The pieces of a transition's text, as they are written from an edge's bytes.
-use Rattle.std.specs.Prelude.{Bool, true, false, cond, List, [], ◌∷◌, ◌++◌, ℕ, zero, suc, pred, ◌+◌, ◌*◌, eqb, ℤ, pos, negsuc, ◌+ℤ◌, drop}
+use Rattle.std.specs.Prelude.{Bool, false, cond, List, [], ◌∷◌, ◌++◌, ℕ, zero, suc, pred, ◌+◌, ◌*◌, eqb, ℤ, pos, negsuc, ◌+ℤ◌, drop}
 use Rattle.model.specs.declared.ClockGuard.{ClockGuard}
 use Rattle.model.specs.declared.DataGuard.{DataGuard}
 use Rattle.model.specs.declared.Update.{Update}
 use Rattle.model.specs.Reader.{clock_guard_at, data_guard_at, update_at}
 use Rattle.model.specs.Places.{list_at}
 use Rattle.model.specs.Window.{masked}
-use Rattle.words.specs.Words.{ascii, decimal}
+use Rattle.words.specs.Words.{ascii}
 use Rattle.uppaal.specs.Xta.{Upper, Atom, at_most, below, exactly, at_least, value_at_least, value_at_most, Assignment, resets}
 use Rattle.uppaal.specs.XtaText.{atom_text, each_after, assignment_text}
 use Rattle.uppaal.specs.Export.{assignment_of, Sum, number, more, plus, stays, summed}

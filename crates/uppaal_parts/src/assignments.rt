@@ -8,16 +8,24 @@ ghost use Rattle.uppaal.specs.XtaText.{addend, assignment_text};
 ghost use Rattle.uppaal_parts.specs.Marks.{lead, update_text, updates_text, reset_of, resets_text, still_first};
 
 use crate::put_bits;
+use model::layout;
+
+// Where the text stands, and whether no assignment was written yet.
+#[derive(Clone, Copy)]
+pub struct Led {
+    pub at: usize,
+    pub first: bool,
+}
 
 // What stands before an assignment.
-fn put_lead(out: &mut [u8], at: usize, first: bool) -> usize
-    requires { at + 8 ≤ 2305843009213693952 }
-    ensures { Put out.old at (lead first) result out.new × (result ≤ at + 8) }
+fn put_lead(out: &mut [u8], led: Led) -> usize
+    requires { led.at + 8 ≤ 2305843009213693952 }
+    ensures { Put out.old led.at (lead led.first) result out.new × (result ≤ led.at + 8) }
 {
-    if first {
-        return words::put_words(out, at, b" assign ");
+    if led.first {
+        return words::put_words(out, led.at, b" assign ");
     }
-    words::put_words(out, at, b", ")
+    words::put_words(out, led.at, b", ")
 }
 
 // A signed number that is added.
@@ -50,102 +58,77 @@ fn put_sets(out: &mut [u8], at: usize, variable: u8, bits: u16) -> usize
 }
 
 // The update at the front, as an assignment.
-fn put_update(bytes: &[u8], first: bool, out: &mut [u8], at: usize) -> usize
-    requires { (4 ≤ length bytes.now) × (at + 60 ≤ 2305843009213693952) }
-    ensures { Put out.old at (update_text first (update_at bytes.now)) result out.new × (result ≤ at + 60) }
+fn put_update(bytes: &[u8], out: &mut [u8], led: Led) -> Led
+    requires { (4 ≤ length bytes.now) × (led.at + 60 ≤ 2305843009213693952) }
+    ensures { Put out.old led.at (update_text led.first (update_at bytes.now)) result.at out.new × (result.first ≡ false) × (result.at ≤ led.at + 60) }
 {
-    let u = decoder::update_at(bytes);
-    let bits = parts::word_at(bytes, 2);
-    let next = put_lead(out, at, first);
-    if u.adds {
-        return put_adds(out, next, u.variable, bits);
-    }
-    put_sets(out, next, u.variable, bits)
+    let update = decoder::update_at(bytes);
+    let bits = parts::word_at(bytes, layout::UPDATE_NUMBER);
+    let next = put_lead(out, led);
+    let at = if update.adds {
+        put_adds(out, next, update.variable, bits)
+    } else {
+        put_sets(out, next, update.variable, bits)
+    };
+    Led { at, first: false }
 }
 
-// Those of n updates.
-pub fn put_updates(bytes: &[u8], count: u8, out: &mut [u8], at: usize) -> usize
+// Those of so many updates.
+pub fn put_updates(bytes: &[u8], count: u8, out: &mut [u8], at: usize) -> Led
     requires { (count * 4 ≤ length bytes.now) × (at + count * 60 ≤ 2305843009213693952) }
-    ensures { Put out.old at (updates_text true count bytes.now) result out.new × (result ≤ at + count * 60) }
+    ensures { Put out.old at (updates_text true count bytes.now) result.at out.new × (result.first ≡ eqb count 0) × (result.at ≤ at + count * 60) }
 {
-    let mut place: usize = 0;
-    let mut next = at;
-    let mut first = true;
-    let mut k = count;
-    while 0 < k {
-        next = put_update(&bytes[place..], first, out, next);
-        first = false;
-        place += 4;
-        k -= 1;
+    let mut led = Led { at, first: true };
+    for k in 0..usize::from(count) {
+        led = put_update(&bytes[k * layout::UPDATE_WIDTH..], out, led);
     }
-    next
-}
-
-// Where the text stands, and whether no assignment was written yet.
-#[derive(Clone, Copy)]
-pub struct Led {
-    pub at: usize,
-    pub first: bool,
+    led
 }
 
 // The reset of a clock, if the lowest bit says so.
-fn put_reset(bits: u8, clock: u8, first: bool, out: &mut [u8], at: usize) -> Led
-    requires { at + 40 ≤ 2305843009213693952 }
-    ensures { Put out.old at (reset_of first clock (eqb (bits % 2) 1)) result.at out.new × (result.first ≡ cond (eqb (bits % 2) 1) false first) × (result.at ≤ at + 40) }
+fn put_reset(bits: u8, clock: u8, out: &mut [u8], led: Led) -> Led
+    requires { led.at + 40 ≤ 2305843009213693952 }
+    ensures { Put out.old led.at (reset_of led.first clock (eqb (bits % 2) 1)) result.at out.new × (result.first ≡ cond (eqb (bits % 2) 1) false led.first) × (result.at ≤ led.at + 40) }
 {
-    if bits % 2 == 1 {
-        let next = put_lead(out, at, first);
-        let name = words::put_field(out, next, b"x", clock as u32);
-        let end = words::put_words(out, name, b" := 0");
-        return Led {
-            at: end,
-            first: false,
-        };
+    if bits % 2 == 0 {
+        return led;
     }
-    Led {
-        at: at,
-        first: first,
-    }
+    let next = put_lead(out, led);
+    let name = words::put_field(out, next, b"x", clock as u32);
+    let at = words::put_words(out, name, b" := 0");
+    Led { at, first: false }
 }
 
 // Those of all clocks, by the reset mask.
-pub fn put_resets(mask: u8, clocks: u8, first: bool, out: &mut [u8], at: usize) -> Led
-    requires { at + clocks * 40 ≤ 2305843009213693952 }
-    ensures { Put out.old at (resets_text first mask 0 clocks) result.at out.new × (result.first ≡ still_first first mask 0 clocks) × (result.at ≤ at + clocks * 40) }
+pub fn put_resets(mask: u8, clocks: u8, out: &mut [u8], begun: Led) -> Led
+    requires { begun.at + clocks * 40 ≤ 2305843009213693952 }
+    ensures { Put out.old begun.at (resets_text begun.first mask 0 clocks) result.at out.new × (result.first ≡ still_first begun.first mask 0 clocks) × (result.at ≤ begun.at + clocks * 40) }
 {
     let mut bits = mask;
-    let mut next = at;
-    let mut lead = first;
-    let mut i: u8 = 0;
-    while i < clocks {
-        let l = put_reset(bits, i, lead, out, next);
-        next = l.at;
-        lead = l.first;
-        bits = bits / 2;
-        i += 1;
+    let mut led = begun;
+    for clock in 0..clocks {
+        led = put_reset(bits, clock, out, led);
+        bits /= 2;
     }
-    Led {
-        at: next,
-        first: lead,
-    }
+    led
 }
 
 // What closes the assignments, if there are any.
-fn put_close(out: &mut [u8], at: usize, first: bool) -> usize
-    requires { at + 5 ≤ 2305843009213693952 }
-    ensures { Put out.old at (cond first [] (ascii ";")) result out.new × (result ≤ at + 5) }
+fn put_close(out: &mut [u8], led: Led) -> usize
+    requires { led.at + 5 ≤ 2305843009213693952 }
+    ensures { Put out.old led.at (cond led.first [] (ascii ";")) result out.new × (result ≤ led.at + 5) }
 {
-    if first {
-        return at;
+    if led.first {
+        return led.at;
     }
-    words::put_words(out, at, b";")
+    words::put_words(out, led.at, b";")
 }
 
 // The resets of the edge at the front behind its updates, and what closes them.
-pub fn put_resets_closed(mask: u8, clocks: u8, first: bool, out: &mut [u8], at: usize) -> usize
-    requires { (clocks ≤ 4) × (at + 165 ≤ 2305843009213693952) }
-    ensures { Put out.old at (resets_text first mask 0 clocks ++ cond (still_first first mask 0 clocks) [] (ascii ";")) result out.new × (result ≤ at + 165) }
+pub fn put_resets_closed(mask: u8, clocks: u8, out: &mut [u8], begun: Led) -> usize
+    requires { (clocks ≤ 4) × (begun.at + 165 ≤ 2305843009213693952) }
+    ensures { Put out.old begun.at (resets_text begun.first mask 0 clocks ++ cond (still_first begun.first mask 0 clocks) [] (ascii ";")) result out.new × (result ≤ begun.at + 165) }
 {
-    let led = put_resets(mask, clocks, first, out, at);
-    put_close(out, led.at, led.first)
+    let led = put_resets(mask, clocks, out, begun);
+    put_close(out, led)
 }

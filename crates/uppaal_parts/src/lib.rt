@@ -1,13 +1,17 @@
 // The pieces of a guard for UPPAAL, from the bytes of an edge: upper bounds, lows and data bounds.
+// Text is put into a lent slice, from a place on, and the place behind it is answered: memory is fixed, and what does not fit is counted.
 #![tactic(auto)]
 
-ghost use Rattle.std.specs.Prelude.{◌≡◌, ◌++◌, ℕ, pred, ◌+◌, ◌*◌, ◌≤◌, length};
+ghost use Rattle.std.specs.Prelude.{◌≡◌, List, ◌++◌, ℕ, pred, ◌+◌, ◌*◌, ◌≤◌, length};
 ghost use Rattle.model.specs.Reader.{complement, clock_guard_at, data_guard_at};
 ghost use Rattle.blocks.specs.Put.{Put};
 ghost use Rattle.words.specs.Words.{ascii, decimal};
 ghost use Rattle.uppaal.specs.Xta.{at_least};
 ghost use Rattle.uppaal.specs.XtaText.{atom_text, signed};
-ghost use Rattle.uppaal_parts.specs.Marks.{mark_of, upper_of, high_text, high_mark, highs_text, low_text, lows_text, data_text, datas_text, high_count, highs_count};
+ghost use Rattle.uppaal_parts.specs.Telling.{Takes, Tells};
+ghost use Rattle.uppaal_parts.specs.Marks.{all_told, mark_of, upper_of, high_text, high_mark, highs_text, low_text, lows_text, data_text, datas_text, high_count, highs_count};
+
+use model::layout;
 
 pub mod assignments;
 pub mod ranges;
@@ -19,66 +23,76 @@ pub struct Mark {
     pub tight: u8,
 }
 
-pub fn minus_one(n: u8) -> u8
-    ensures { result ≡ pred n }
-{
-    if n == 0 {
-        return 0;
-    }
-    n - 1
-}
-
-// A clock against an upper bound.
-pub fn put_upper(out: &mut [u8], at: usize, clock: u8, bound: u16, tight: u8) -> usize
-    requires { at + 30 ≤ 2305843009213693952 }
-    ensures { Put out.old at (atom_text (mark_of tight (upper_of clock bound))) result out.new × (result ≤ at + 30) }
-{
-    let sign = words::put_field(out, at, b"x", clock as u32);
-    if tight == 0 {
-        return words::put_field(out, sign, b" <= ", bound as u32);
-    }
-    if tight == 1 {
-        return words::put_field(out, sign, b" == ", bound as u32);
-    }
-    words::put_field(out, sign, b" < ", bound as u32)
-}
-
-// The high of the clock bound at the front, if it has one, behind other atoms.
-fn put_high(bytes: &[u8], out: &mut [u8], at: usize, tight: u8) -> Mark
-    requires { (5 ≤ length bytes.now) × (at + 40 ≤ 2305843009213693952) }
-    ensures { Put out.old at (high_text tight (clock_guard_at bytes.now)) result.at out.new × (result.tight ≡ high_mark tight (clock_guard_at bytes.now)) × (result.at ≤ at + 40) }
-{
-    let g = decoder::clock_guard_at(bytes);
-    let high = g.high;
-    if high == 65535 {
-        return Mark {
-            at: at,
-            tight: tight,
+impl Mark {
+    // A clock against an upper bound; the mark falls.
+    #[inline(never)]
+    pub fn put_upper(self, out: &mut [u8], clock: u8, bound: u16) -> Mark
+        requires { self.at + 30 ≤ 2305843009213693952 }
+        ensures { Put out.old self.at (atom_text (mark_of self.tight (upper_of clock bound))) result.at out.new × (result.tight ≡ pred self.tight) × (result.at ≤ self.at + 30) }
+    {
+        let sign = words::put_field(out, self.at, b"x", u32::from(clock));
+        let at = match self.tight {
+            0 => words::put_field(out, sign, b" <= ", u32::from(bound)),
+            1 => words::put_field(out, sign, b" == ", u32::from(bound)),
+            _ => words::put_field(out, sign, b" < ", u32::from(bound)),
         };
+        Mark {
+            at,
+            tight: self.tight.saturating_sub(1),
+        }
     }
-    let first = words::put_words(out, at, b" && ");
-    let next = put_upper(out, first, g.clock, high, tight);
-    Mark {
-        at: next,
-        tight: minus_one(tight),
+
+    // The high of the clock bound at the front, if it has one, behind other atoms.
+    fn put_high(self, bytes: &[u8], out: &mut [u8]) -> Mark
+        requires { (5 ≤ length bytes.now) × (self.at + 40 ≤ 2305843009213693952) }
+        ensures { Put out.old self.at (high_text self.tight (clock_guard_at bytes.now)) result.at out.new × (result.tight ≡ high_mark self.tight (clock_guard_at bytes.now)) × (result.at ≤ self.at + 40) }
+    {
+        let guard = decoder::clock_guard_at(bytes);
+        if guard.high == 65535 {
+            return self;
+        }
+        let at = words::put_words(out, self.at, b" && ");
+        Mark {
+            at,
+            tight: self.tight,
+        }
+        .put_upper(out, guard.clock, guard.high)
+    }
+
+    // Those of so many clock bounds.
+    pub fn put_highs(self, bytes: &[u8], count: u8, out: &mut [u8]) -> usize
+        requires { (count * 5 ≤ length bytes.now) × (self.at + count * 40 ≤ 2305843009213693952) }
+        ensures { Put out.old self.at (highs_text self.tight count bytes.now) result out.new × (result ≤ self.at + count * 40) }
+    {
+        let mut mark = self;
+        for k in 0..usize::from(count) {
+            mark = mark.put_high(&bytes[k * layout::GUARD_WIDTH..], out);
+        }
+        mark.at
     }
 }
 
-// Those of n clock bounds.
-pub fn put_highs(bytes: &[u8], count: u8, out: &mut [u8], at: usize, tight: u8) -> usize
-    requires { (count * 5 ≤ length bytes.now) × (at + count * 40 ≤ 2305843009213693952) }
-    ensures { Put out.old at (highs_text tight count bytes.now) result out.new × (result ≤ at + count * 40) }
+// So many parts of this width, one after the other: `put` puts the one at the front, in at most so many bytes.
+pub fn put_each<F: Fn(&[u8], &mut [u8], usize) -> usize>(
+    bytes: &[u8],
+    width: usize,
+    count: u8,
+    most: usize,
+    put: F,
+    out: &mut [u8],
+    at: usize,
+) -> usize
+    ghost tell: { List ℕ → List ℕ }
+    requires whole { count * width ≤ length bytes.now }
+    requires room { at + count * most ≤ 2305843009213693952 }
+    requires takes { Takes F.Fn put width most }
+    requires tells { Tells F.Fn put width most tell }
+    ensures told { Put out.old at (all_told tell width count bytes.now) result out.new }
+    ensures near { result ≤ at + count * most }
 {
-    let mut place: usize = 0;
     let mut next = at;
-    let mut mark = tight;
-    let mut k = count;
-    while 0 < k {
-        let m = put_high(&bytes[place..], out, next, mark);
-        next = m.at;
-        mark = m.tight;
-        place += 5;
-        k -= 1;
+    for k in 0..usize::from(count) {
+        next = put(&bytes[k * width..], out, next);
     }
     next
 }
@@ -98,15 +112,7 @@ pub fn put_lows(bytes: &[u8], count: u8, out: &mut [u8], at: usize) -> usize
     requires { (count * 5 ≤ length bytes.now) × (at + count * 40 ≤ 2305843009213693952) }
     ensures { Put out.old at (lows_text count bytes.now) result out.new × (result ≤ at + count * 40) }
 {
-    let mut place: usize = 0;
-    let mut next = at;
-    let mut k = count;
-    while 0 < k {
-        next = put_low(&bytes[place..], out, next);
-        place += 5;
-        k -= 1;
-    }
-    next
+    put_each(bytes, layout::GUARD_WIDTH, count, 40, put_low, out, at)
 }
 
 // A signed number of 16 bits.
@@ -147,15 +153,7 @@ pub fn put_datas(bytes: &[u8], count: u8, out: &mut [u8], at: usize) -> usize
     requires { (count * 5 ≤ length bytes.now) × (at + count * 100 ≤ 2305843009213693952) }
     ensures { Put out.old at (datas_text count bytes.now) result out.new × (result ≤ at + count * 100) }
 {
-    let mut place: usize = 0;
-    let mut next = at;
-    let mut k = count;
-    while 0 < k {
-        next = put_data(&bytes[place..], out, next);
-        place += 5;
-        k -= 1;
-    }
-    next
+    put_each(bytes, layout::GUARD_WIDTH, count, 100, put_data, out, at)
 }
 
 // One or none: whether a clock bound has a high.
@@ -163,12 +161,7 @@ fn high_count(bytes: &[u8]) -> u8
     requires { 5 ≤ length bytes.now }
     ensures { result ≡ high_count (clock_guard_at bytes.now) }
 {
-    let g = decoder::clock_guard_at(bytes);
-    let high = g.high;
-    if high == 65535 {
-        return 0;
-    }
-    1
+    u8::from(decoder::clock_guard_at(bytes).high != 65535)
 }
 
 // How many of n clock bounds have a high.
@@ -176,13 +169,9 @@ pub fn highs_count(bytes: &[u8], count: u8) -> u8
     requires { (count * 5 ≤ length bytes.now) × (count ≤ 4) }
     ensures { (result ≡ highs_count count bytes.now) × (result ≤ count) }
 {
-    let mut place: usize = 0;
-    let mut n: u8 = 0;
-    let mut k = count;
-    while 0 < k {
-        n += high_count(&bytes[place..]);
-        place += 5;
-        k -= 1;
+    let mut n = 0;
+    for k in 0..usize::from(count) {
+        n += high_count(&bytes[k * layout::GUARD_WIDTH..]);
     }
     n
 }

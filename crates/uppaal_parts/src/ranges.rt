@@ -8,7 +8,10 @@ ghost use Rattle.uppaal.specs.XtaText.{addend};
 ghost use Rattle.uppaal.specs.Export.{number, more, plus, after, summed};
 ghost use Rattle.uppaal_parts.specs.Marks.{less_bias, total_of, stays_text, range_of, ranges_text};
 
+use model::layout;
+
 // What a variable is worth while the updates act: a number, or a number more than its value at entry. The number is kept 16,777,216 larger.
+// A struct: the sum counts in both cases, and an enum would carry it in each.
 #[derive(Clone, Copy)]
 pub struct Total {
     pub known: bool,
@@ -64,12 +67,8 @@ fn total_before(bytes: &[u8], count: u8, variable: u8) -> Total
         known: false,
         sum: 16777216,
     };
-    let mut place: usize = 0;
-    let mut k = count;
-    while 0 < k {
-        t = pass_update(t, variable, &bytes[place..]);
-        place += 4;
-        k -= 1;
+    for k in 0..usize::from(count) {
+        t = pass_update(t, variable, &bytes[k * layout::UPDATE_WIDTH..]);
     }
     t
 }
@@ -151,10 +150,8 @@ pub fn put_ranges(bytes: &[u8], count: u8, out: &mut [u8], at: usize) -> usize
     ensures { Put out.old at (ranges_text bytes.now 0 count) result out.new × (result ≤ at + 400) }
 {
     let mut next = at;
-    let mut i: u8 = 0;
-    while i < count {
+    for i in 0..count {
         next = put_range(bytes, i, out, next);
-        i += 1;
     }
     next
 }

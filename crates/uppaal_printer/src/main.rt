@@ -26,12 +26,7 @@ fn print(output: &impl Print, errors: &impl Print, table: &[u8], out: &mut [u8])
     requires { 64 ≤ length out.old }
 {
     let n = put_printed(table, out);
-    streams::write_or_say(
-        output,
-        errors,
-        &out[..n],
-        b"The text could not be written.\n",
-    );
+    streams::write_or_say_line(output, errors, &out[..n], "The text could not be written.");
 }
 
 // The array is lent as an array first: no proof has to count its zeros then.

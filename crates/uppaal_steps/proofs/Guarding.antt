@@ -2,9 +2,9 @@
 use mathlib.Core.Path.{◌≡◌, refl, sym, ap, ap₂, ◌∙◌}
 use mathlib.Core.Bool.{Bool, true, false, cond}
 use mathlib.Core.List.{List, [], ◌∷◌, ◌++◌, map, append_assoc}
-use Prim.Native.Nat.{ℕ, zero, suc, pred, ◌+◌, ◌*◌, ◌≤◌, ◌<◌}
+use Prim.Native.Nat.{ℕ, zero, suc, pred, ◌+◌, ◌*◌}
 use native.Mathlib.Omega.{arith}
-use borrow.Author.Tests.{eq-eqb, ne_eqb}
+use borrow.Author.Tests.{ne_eqb}
 use lib.Dec.{eqb}
 use lib.ListN.{length, drop}
 use Rattle.model.specs.declared.Location.{Location}
@@ -15,8 +15,8 @@ use Rattle.model.specs.Window.{masked}
 use Rattle.model.specs.Reader.{byte, clock_guard_at, data_guard_at, update_at}
 use Rattle.model.specs.Places.{list_at, arc_head_length, items_place, items_length, updates_at, arc_at}
 use Rattle.words.specs.Words.{ascii}
-use Rattle.uppaal.specs.Xta.{Upper, Atom, Assignment, resets}
-use Rattle.uppaal.specs.XtaText.{atom_text, each_after, listed, closed, guard_text, assignment_text, assign_text}
+use Rattle.uppaal.specs.Xta.{Assignment, resets}
+use Rattle.uppaal.specs.XtaText.{atom_text, each_after, listed, closed, guard_text, assign_text}
 use Rattle.uppaal.specs.Export.{highs, uppers_from, lows, data_atoms, range_atoms, others, assignment_of, assignments_of}
 use Rattle.uppaal_parts.specs.Marks.{mark_of, marked, upper_of, highs_text, lows_text, datas_text, ranges_text, led_text, updates_text, resets_text, still_first, none_of, highs_count}
 use Rattle.uppaal_parts.proofs.Told.{after_append, highs_told, lows_told, datas_told, ranges_told, guard_told, led_listed, led_append, updates_told, resets_told, count_told}

@@ -7,7 +7,7 @@ use Prim.Native.Nat.{ℕ, zero, suc, ◌+◌, ◌-◌, ◌*◌, ◌≤◌, ◌<�
 use native.Mathlib.Omega.{arith}
 use borrow.Author.Tests.{ltb-true, ltb-false}
 use lib.Dec.{ltb}
-use lib.ListN.{length, get_or, set, take, drop, length-drop}
+use lib.ListN.{length, get_or, set, take, drop}
 use lib.Seq.{sets, sets-eq, take_at, drop_at, take-set-le, length-take-le, get_or-set_same, get_or-set_other}
 use Rattle.model.specs.declared.Location.{Location}
 use Rattle.model.specs.Lists.{each, from}
@@ -19,12 +19,12 @@ use Rattle.blocks.specs.Put.{Put}
 use Rattle.blocks.proofs.Runs.{put_long}
 use Rattle.words.specs.Words.{ascii}
 use Rattle.window.specs.Views.{message_of}
-use Rattle.uppaal.specs.XtaText.{sync_text}
-use Rattle.uppaal.specs.Export.{highs, uppers_from, entries, step_in_with}
+use Rattle.uppaal.specs.XtaText.{sync_text, guard_text}
+use Rattle.uppaal.specs.Export.{highs, uppers_from, others, entries, step_in_with}
 use Rattle.uppaal_parts.specs.Marks.{marked}
 use Rattle.uppaal_steps.specs.declared.Origin.{Origin}
 use Rattle.uppaal_steps.specs.Steps.{arrow_in, arrow_out, sync_made, step_text, step_told, outcome_told}
-use Rattle.uppaal_steps.specs.Shared.{guard_in, tail_out, Stands, Kept}
+use Rattle.uppaal_steps.specs.Shared.{tail_out, Stands, Kept}
 use Rattle.uppaal_steps.proofs.Stepping.{step_in_told, step_out_told, with-message, transitions_told}
 
 -- ## What stands in a list
@@ -45,9 +45,6 @@ written {o} {p} {x} {at} {n} h s k =
           ∙ ap (λ (l : List ℕ). take (n - at) l) (drop_at (take at o) (x ++ rest) at (length-take-le at o (omega (arith, long))))
           ∙ take_at x rest (n - at) size;
     }
-
-pub part_long : (s : List ℕ) (a b : ℕ) → a ≤ b → b ≤ length s → length (take (b - a) (drop a s)) ≡ b - a
-part_long s a b h k = length-take-le (b - a) (drop a s) (omega (arith, h, k, length-drop a s))
 
 -- a store behind a part leaves it alone
 one_behind : (a k : ℕ) (l : List ℕ) (i v : ℕ) → a + k ≤ i → take k (drop a (set l i v)) ≡ take k (drop a l)
@@ -86,9 +83,6 @@ front_count {n = n} h k = sym (length-take-le n _ (omega (arith, k, put_long h))
 -- ## One mark after the other
 
 module _ {l : Location} {clocks : ℕ} {a : Arc} where
-  pub none_kept : (s ends : List ℕ) → Kept l clocks a 1 s ends
-  none_kept s ends = record { stands = λ t p q. absurd (omega (arith, p, q)) }
-
   pub one_more : {s p ends : List ℕ} {i n : ℕ} → Kept l clocks a i s ends → length ends ≡ 8 → i ≤ 5 → Put s (i * 640) (tail_out l clocks a i) n p
       → n ≤ i * 640 + 610 → 3840 ≤ length s → Kept l clocks a (i + 1) p (set ends i n)
   one_more {s} {p} {ends} {i} {n} k long few h short room = record { stands = λ t least most. go t least most (ltb t i) refl }
@@ -117,12 +111,12 @@ out_told o h m k target e q =
     ap (λ (y : List ℕ). ascii ",\n  " ++ (arrow_out o.number (message_of m) target ++ y)) q
     ∙ ap (λ (y : List ℕ). ascii ",\n  " ++ y) (step_out_told o.clocks o.number target a (message_of m) (marked k (uppers_from o.location a)) e)
 
-pub in_told : (o : Origin) (h : List ℕ) (m : ℕ) {x : List ℕ} → x ≡ guard_in o.location (arc_at o.budgets h)
-    → ascii ",\n  " ++ (arrow_in (byte h 1) o.number (message_of m) ++ (x ++ (sync_text (sync_made (byte h 0) m) ++ ascii " }"))) ≡ step_told true o h m 0
-in_told o h m q =
+pub in_told : (o : Origin) (h : List ℕ) (m k : ℕ) {x : List ℕ} → x ≡ guard_text (marked k (uppers_from o.location (arc_at o.budgets h)) ++ others (arc_at o.budgets h))
+    → ascii ",\n  " ++ (arrow_in (byte h 1) o.number (message_of m) ++ (x ++ (sync_text (sync_made (byte h 0) m) ++ ascii " }"))) ≡ step_told true o h m k
+in_told o h m k q =
     let a = arc_at o.budgets h in
     ap (λ (y : List ℕ). ascii ",\n  " ++ (arrow_in (byte h 1) o.number (message_of m) ++ (y ++ (sync_text (sync_made (byte h 0) m) ++ ascii " }")))) q
-    ∙ ap (λ (y : List ℕ). ascii ",\n  " ++ y) (step_in_told o.budgets h o.number m (marked 0 (uppers_from o.location a)))
+    ∙ ap (λ (y : List ℕ). ascii ",\n  " ++ y) (step_in_told o.budgets h o.number m (marked k (uppers_from o.location a)))
 
 -- the transitions of a message
 pub message_told : (o : Origin) (h : List ℕ) (m last : ℕ) → (m ≡ 255 → ⊥) → last ≡ length (highs (arc_at o.budgets h).clock_guards) + 2

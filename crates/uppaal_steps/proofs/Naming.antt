@@ -2,9 +2,8 @@
 use mathlib.Core.Path.{◌≡◌, refl, sym, ap, ◌∙◌}
 use mathlib.Core.Bool.{Bool, true, false, cond}
 use mathlib.Core.List.{List, [], ◌∷◌, ◌++◌}
-use mathlib.Core.Option.{Option, none, some}
-use Prim.Native.Nat.{ℕ, zero, suc, ◌≤◌, ◌<◌}
-use native.Mathlib.Omega.{arith}
+use mathlib.Core.Option.{none, some}
+use Prim.Native.Nat.{ℕ, zero, suc}
 use borrow.Author.Tests.{eq-eqb, ne_eqb}
 use lib.Dec.{eqb}
 use Rattle.model.specs.declared.Location.{Location}
@@ -13,7 +12,7 @@ use Rattle.model.specs.Table.{Arc}
 use Rattle.model.specs.Places.{action_at}
 use Rattle.window.specs.Views.{message_of}
 use Rattle.words.specs.Words.{ascii, decimal}
-use Rattle.uppaal.specs.Xta.{Name, waiting, Upper, Sync, sends, receives}
+use Rattle.uppaal.specs.Xta.{Name, waiting, Upper, sends, receives}
 use Rattle.uppaal.specs.XtaText.{against, atom_text, each_after, listed, name_text, sync_text, location_text}
 use Rattle.uppaal.specs.Export.{highs, uppers_from, sync_of}
 use Rattle.uppaal_parts.specs.Marks.{marked, upper_of}

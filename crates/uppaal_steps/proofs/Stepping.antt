@@ -12,7 +12,7 @@ use Rattle.model.specs.declared.Action.{Action}
 use Rattle.model.specs.declared.Action.TheVariants.{Internal, Send, Receive}
 use Rattle.model.specs.declared.Location.{Location}
 use Rattle.model.specs.declared.Pair.{Pair}
-use Rattle.model.specs.Lists.{All, empty, more, each, from}
+use Rattle.model.specs.Lists.{All, more, each, from}
 use Rattle.model.specs.Table.{Arc}
 use Rattle.model.specs.Window.{leads_to}
 use Rattle.model.specs.Reader.{byte, pair_at}
@@ -20,8 +20,6 @@ use Rattle.model.specs.Places.{list_at, items_place, items_length, action_at, ar
 use Rattle.model.proofs.Basics.Sums.{each_join}
 use Rattle.model.proofs.Basics.Walk.{list_length}
 use Rattle.decoder.proofs.ByAction.{receive_length, receive_pairs}
-use Rattle.blocks.specs.Put.{Put}
-use Rattle.blocks.proofs.Runs.{Writing, left_is, put_on, put_all}
 use Rattle.window.specs.Views.{message_of}
 use Rattle.words.specs.Words.{ascii}
 use Rattle.uppaal.specs.Xta.{Upper, Atom, at_most, Transition, location, waiting}
@@ -119,21 +117,6 @@ module _ (b : Bool) (h : List ℕ) (us : List Upper) (step : List Atom → Trans
       → each (λ j. step_text (step (marked j us))) (from 1 n) ≡ each step_text (map step (entries us (arc_at b h).edge.action (message_of m)))
   unfolding arc_at
   timed_out q e n f = entry_end us step (byte h 0) (byte h (items_place b h)) m q e n f
-
--- ## A loop over numbers
-
-pub numbers_on : (f : ℕ → List ℕ) (i n : ℕ) {o₀ all o p : List ℕ} {at₀ at m : ℕ} → i < n → Writing o₀ at₀ all o at (each f (from i (n - i))) → Put o at (f i) m p
-    → Writing o₀ at₀ all p m (each f (from (i + 1) (n - (i + 1))))
-unfolding each
-numbers_on f i n {o₀} {all} {o} {p} {at₀} {at} {m} h v q =
-    let e : n - i ≡ suc (n - (i + 1)) = omega arith in
-    let s : suc i ≡ i + 1 = omega arith in
-    let w : Writing o₀ at₀ all o at (f i ++ each f (from (suc i) (n - (i + 1)))) = subst (λ (k : ℕ). Writing o₀ at₀ all o at (each f (from i k))) e v in
-    subst (λ (j : ℕ). Writing o₀ at₀ all p m (each f (from j (n - (i + 1))))) s (put_on (each f (from (suc i) (n - (i + 1)))) w q)
-
-pub numbers_done : (f : ℕ → List ℕ) (i n : ℕ) {o₀ all o : List ℕ} {at₀ at : ℕ} → n ≤ i → Writing o₀ at₀ all o at (each f (from i (n - i))) → Put o₀ at₀ all at o
-unfolding each
-numbers_done f i n {o₀} {all} {o} {at₀} {at} h v = let e : n - i ≡ 0 = omega arith in put_all (subst (λ (k : ℕ). Writing o₀ at₀ all o at (each f (from i k))) e v)
 
 -- ## Outcomes
 

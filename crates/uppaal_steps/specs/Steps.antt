@@ -1,5 +1,5 @@
 -- The waiting locations and the transitions of an edge, as they are written from its bytes.
-use Rattle.std.specs.Prelude.{◌≡◌, Bool, true, false, cond, List, [], ◌∷◌, ◌++◌, map, ℕ, zero, suc, pred, ◌≤◌, ◌<◌, eqb, length}
+use Rattle.std.specs.Prelude.{◌≡◌, Bool, true, false, cond, List, ◌++◌, map, ℕ, zero, suc, pred, ◌≤◌, ◌<◌, eqb, length}
 use Rattle.std.proofs.Math.Option.{Option, none, some}
 use Rattle.model.specs.declared.Location.{Location}
 use Rattle.model.specs.declared.Action.TheVariants.{Send}
@@ -9,7 +9,7 @@ use Rattle.model.specs.Reader.{byte}
 use Rattle.model.specs.Places.{arc_at}
 use Rattle.window.specs.Views.{ArcReady, message_of}
 use Rattle.words.specs.Words.{ascii}
-use Rattle.uppaal.specs.Xta.{Name, location, waiting, Atom, Sync, sends, receives, Transition}
+use Rattle.uppaal.specs.Xta.{location, waiting, Sync, sends, receives, Transition}
 use Rattle.uppaal.specs.XtaText.{atom_text, each_after, name_text, location_text, transition_text}
 use Rattle.uppaal.specs.Export.{highs, uppers_from, ends, outcomes, entries, step_in_with, step_out_with}
 use Rattle.uppaal_parts.specs.Marks.{mark_of, marked, upper_of}

@@ -8,6 +8,7 @@ ghost use Rattle.uppaal_parts.specs.Marks.{marked, led_text, none_of};
 ghost use Rattle.uppaal_steps.specs.Steps.{Writable, uppers_text};
 
 use model::{Location, layout};
+use uppaal_parts::Mark;
 use uppaal_parts::assignments::Led;
 
 // The upper bounds, from a location with this invariant; the mark says which of them is reached.
@@ -23,15 +24,8 @@ pub fn put_uppers(
     ensures { Put out.old at (uppers_text tight location (arc_at budgets edge.now)) result out.new × (result ≤ at + 190) }
 {
     let head = decoder::head_length(budgets);
-    let first = uppaal_parts::put_upper(out, at, location.clock, location.bound, tight);
-    let left = uppaal_parts::minus_one(tight);
-    uppaal_parts::put_highs(
-        &edge[head..],
-        edge[layout::EDGE_CLOCK_GUARDS],
-        out,
-        first,
-        left,
-    )
+    let mark = Mark { at, tight }.put_upper(out, location.clock, location.bound);
+    mark.put_highs(&edge[head..], edge[layout::EDGE_CLOCK_GUARDS], out)
 }
 
 // That the updates stay in range; other edges than internal ones have none.
@@ -105,18 +99,10 @@ fn put_edge_updates(edge: &[u8], budgets: bool, out: &mut [u8], at: usize) -> Le
     ensures { Put out.old at (led_text true (map assignment_of (arc_at budgets edge.now).updates)) result.at out.new × (result.first ≡ none_of true (arc_at budgets edge.now).updates) × (result.at ≤ at + 240) }
 {
     if edge[layout::EDGE_KIND] != 0 {
-        return Led {
-            at: at,
-            first: true,
-        };
+        return Led { at, first: true };
     }
     let items = decoder::items_place(edge, budgets);
-    let count = edge[layout::EDGE_ITEMS];
-    let next = uppaal_parts::assignments::put_updates(&edge[items..], count, out, at);
-    Led {
-        at: next,
-        first: count == 0,
-    }
+    uppaal_parts::assignments::put_updates(&edge[items..], edge[layout::EDGE_ITEMS], out, at)
 }
 
 // The assignments of a step out, of a component with so many clocks.
@@ -125,11 +111,5 @@ pub fn put_assign(edge: &[u8], budgets: bool, clocks: u8, out: &mut [u8], at: us
     ensures { Put out.old at (assign_text (assignments_of clocks (arc_at budgets edge.now))) result out.new × (result ≤ at + 405) }
 {
     let led = put_edge_updates(edge, budgets, out, at);
-    uppaal_parts::assignments::put_resets_closed(
-        edge[layout::EDGE_MASK],
-        clocks,
-        led.first,
-        out,
-        led.at,
-    )
+    uppaal_parts::assignments::put_resets_closed(edge[layout::EDGE_MASK], clocks, out, led)
 }

@@ -16,6 +16,7 @@ use crate::{Origin, conditions, names};
 use model::layout;
 
 // What stands behind the arrow of a step out.
+#[inline(never)]
 pub fn put_tail(edge: &[u8], origin: Origin, tight: u8, out: &mut [u8], at: usize) -> usize
     requires { Writable origin.budgets edge.now × (origin.clocks ≤ 4) × (at + 610 ≤ 2305843009213693952) }
     ensures { Put out.old at (tail_out origin.location origin.clocks (arc_at origin.budgets edge.now) tight) result out.new × (result ≤ at + 610) }
@@ -31,32 +32,28 @@ fn keep_tails(edge: &[u8], origin: Origin, last: u8, kept: &mut [u8]) -> [u16; 8
     ensures { Kept origin.location origin.clocks (arc_at origin.budgets edge.now) last kept.new result }
 {
     let mut ends = [0u16; 8];
-    let mut tight: u8 = 1;
-    while tight < last {
-        let end = put_tail(edge, origin, tight, kept, parts::wide(tight) * 640);
-        ends[tight as usize] = end as u16;
-        tight += 1;
+    for tight in 1..last {
+        let end = put_tail(edge, origin, tight, kept, usize::from(tight) * 640);
+        ends[usize::from(tight)] = end as u16;
     }
     ends
 }
 
-// A step out, behind another: its arrow, and what is kept from one place to another.
+// A step out, behind another: its arrow, and the tail that is kept.
 fn put_kept_out(
     number: u8,
     message: u8,
     target: u8,
-    kept: &[u8],
-    start: usize,
-    end: usize,
+    tail: &[u8],
     out: &mut [u8],
     at: usize,
 ) -> usize
-    requires { (start ≤ end) × (end ≤ start + 610) × (end ≤ length kept.now) × (at + 700 ≤ 2305843009213693952) }
-    ensures { Put out.old at (ascii ",\n  " ++ (arrow_out number (message_of message) target ++ take (end - start) (drop start kept.now))) result out.new × (result ≤ at + 700) }
+    requires { (length tail.now ≤ 610) × (at + 700 ≤ 2305843009213693952) }
+    ensures { Put out.old at (ascii ",\n  " ++ (arrow_out number (message_of message) target ++ tail.now)) result out.new × (result ≤ at + 700) }
 {
     let first = words::put_words(out, at, b",\n  ");
     let second = names::put_arrow_out(out, first, number, message, target);
-    words::put_words(out, second, &kept[start..end])
+    words::put_words(out, second, tail)
 }
 
 // The steps out of a message.
@@ -75,12 +72,10 @@ fn put_kept_outs(
 {
     let target = window::leads_to(edge, message, origin.budgets);
     let mut next = at;
-    let mut tight: u8 = 1;
-    while tight < last {
-        let end = ends[tight as usize] as usize;
-        let start = parts::wide(tight) * 640;
-        next = put_kept_out(origin.number, message, target, kept, start, end, out, next);
-        tight += 1;
+    for tight in 1..last {
+        let start = usize::from(tight) * 640;
+        let end = usize::from(ends[usize::from(tight)]);
+        next = put_kept_out(origin.number, message, target, &kept[start..end], out, next);
     }
     next
 }
@@ -148,24 +143,11 @@ fn put_all(
     requires { Writable origin.budgets edge.now × (origin.clocks ≤ 4) × (guard.now ≡ guard_in origin.location (arc_at origin.budgets edge.now)) × (length guard.now ≤ 1160) × (last ≡ length (highs (arc_at origin.budgets edge.now).clock_guards) + 2) × (last ≤ 6) × Kept origin.location origin.clocks (arc_at origin.budgets edge.now) last kept.now ends × (count * 2 ≤ length pairs.now) × (count ≤ 8) × (at + count * 12500 ≤ 2305843009213693952) }
     ensures { Put out.old at (all_told (λ q. outcome_told true origin edge.now (pair_at q).channel) 2 count pairs.now) result out.new × (result ≤ at + count * 12500) }
 {
-    let mut place: usize = 0;
+    // Not by `put_each`: what it asks of a closure with captures does not close.
     let mut next = at;
-    let mut k = count;
-    while 0 < k {
-        let pair = decoder::pair_at(&pairs[place..]);
-        next = put_message(
-            edge,
-            origin,
-            pair.channel,
-            guard,
-            kept,
-            ends,
-            last,
-            out,
-            next,
-        );
-        place += layout::PAIR_WIDTH;
-        k -= 1;
+    for k in 0..usize::from(count) {
+        let message = decoder::pair_at(&pairs[k * layout::PAIR_WIDTH..]).channel;
+        next = put_message(edge, origin, message, guard, kept, ends, last, out, next);
     }
     next
 }

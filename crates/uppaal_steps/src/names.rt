@@ -45,7 +45,7 @@ pub fn put_arrow_out(out: &mut [u8], at: usize, edge: u8, message: u8, location:
     words::put_words(out, second, b" {")
 }
 
-// The synchronisation of a step in, of an edge of this kind.
+// The synchronisation of a step in, of an edge of this kind. The kind is the byte of the table: no step in needs the edge's items.
 pub fn put_sync(out: &mut [u8], at: usize, kind: u8, message: u8) -> usize
     requires { at + 25 ≤ 2305843009213693952 }
     ensures { Put out.old at (sync_text (sync_made kind message)) result out.new × (result ≤ at + 25) }

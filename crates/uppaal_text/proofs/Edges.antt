@@ -17,8 +17,8 @@ use Rattle.model.specs.declared.Sizes.{Sizes}
 use Rattle.model.specs.Lists.{All, empty, more, each, from}
 use Rattle.model.specs.Table.{Arc, Component, no_location, location_of}
 use Rattle.model.specs.Limits.{PairIn, ActionIn, ArcIn}
-use Rattle.model.specs.Reader.{byte, location_at, pair_at, clock_guard_at, data_guard_at, update_at}
-use Rattle.model.specs.Places.{list_at, arc_head_length, arc_length, items_place, updates_at, arc_at}
+use Rattle.model.specs.Reader.{byte, location_at, clock_guard_at, data_guard_at, update_at}
+use Rattle.model.specs.Places.{arc_head_length, arc_length, items_place, updates_at, arc_at}
 use Rattle.model.proofs.Basics.Walk.{list_length, list_part}
 use Rattle.parts.proofs.Skim.{tail}
 use Rattle.window.proofs.Ready.{arc_ready}
@@ -27,7 +27,7 @@ use Rattle.blocks.proofs.Arcs.{edge_passed}
 use Rattle.blocks.specs.Put.{Put}
 use Rattle.blocks.proofs.Runs.{Writing, left_is, put_on, put_all}
 use Rattle.translator.specs.Front.{arcs_place, front_component}
-use Rattle.uppaal.specs.Xta.{Location, Transition, waiting}
+use Rattle.uppaal.specs.Xta.{waiting}
 use Rattle.uppaal.specs.XtaText.{each_after, location_text, transition_text}
 use Rattle.uppaal.specs.Export.{uppers, ends, outcomes, entries, plain_location, step_in_with, step_out_with, transitions_with, transitions_from, waiting_from}
 use Rattle.uppaal.proofs.One.{pairs_in}

@@ -1,6 +1,6 @@
 -- Numbered names and single locations, as they are written. Assumes nothing.
 use mathlib.Core.Path.{◌≡◌, refl, sym, ap, ◌∙◌}
-use mathlib.Core.List.{List, [], ◌∷◌, ◌++◌, append_assoc, append-nil}
+use mathlib.Core.List.{List, [], ◌++◌, append_assoc, append-nil}
 use Prim.Native.Nat.{ℕ, zero, suc, ◌-◌, ◌≤◌}
 use Prim.Native.String.{String}
 use native.Mathlib.Numerals.{sub-one}
@@ -8,7 +8,7 @@ use native.Mathlib.Omega.{arith}
 use Rattle.model.specs.declared.Location.{Location}
 use Rattle.model.specs.Lists.{each, from}
 use Rattle.words.specs.Words.{ascii, decimal}
-use Rattle.uppaal.specs.XtaText.{field, each_after, listed, closed, declared, location_text}
+use Rattle.uppaal.specs.XtaText.{field, each_after, listed, declared, location_text}
 use Rattle.uppaal_text.specs.Texts.{further_name, names_text, plain_text}
 
 pub names_none : (before letter : List ℕ) (n : ℕ) → n ≡ 0 → [] ≡ names_text before letter n

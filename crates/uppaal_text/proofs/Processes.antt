@@ -3,7 +3,7 @@ use mathlib.Core.Path.{◌≡◌, refl, sym, ap, ap₂, subst, ◌∙◌}
 use mathlib.Core.Bool.{Bool, true, false}
 use mathlib.Core.List.{List, [], ◌∷◌, ◌++◌, map, append_assoc}
 use mathlib.Core.Option.{Option, none, some}
-use Prim.Native.Nat.{ℕ, zero, suc, ◌+◌, ◌-◌, ◌*◌, ◌≤◌, ◌<◌}
+use Prim.Native.Nat.{ℕ, zero, suc, ◌+◌, ◌-◌, ◌≤◌, ◌<◌}
 use native.Mathlib.Numerals.{add-one}
 use native.Mathlib.Omega.{arith}
 use lib.ListN.{length, take, drop, length-append, length-map, drop_of_length-le}
@@ -19,12 +19,12 @@ use Rattle.model.specs.Places.{arc_length, budgeted, start_of, Valid, read_of, c
 use Rattle.model.proofs.Basics.Walk.{list_length}
 use Rattle.model.proofs.Reader.Located.{valid_located, valid_in}
 use Rattle.blocks.specs.Put.{Put}
-use Rattle.blocks.specs.FrontEdges.{arcs_at, ArcsFit}
+use Rattle.blocks.specs.FrontEdges.{arcs_at}
 use Rattle.blocks.proofs.Runs.{Writing, left_is, put_is, put_on, put_all, put_join}
 use Rattle.translator.specs.Front.{arcs_place, front_component, Whole}
 use Rattle.translator.proofs.Standing.{valid_limits, valid_count, node_is, node_whole}
-use Rattle.words.specs.Words.{ascii, decimal}
-use Rattle.uppaal.specs.Xta.{Location, Transition, Process, location}
+use Rattle.words.specs.Words.{ascii}
+use Rattle.uppaal.specs.Xta.{Transition, location}
 use Rattle.uppaal.specs.XtaText.{field, name_text, each_after, listed, closed, declared, location_text, transition_text, process_text, process_texts, system_text}
 use Rattle.uppaal.specs.Export.{uppers, ends, outcomes, entries, step_in_with, step_out_with, transitions_with, transitions_from, plain_location, waiting_from, process_for, system_for}
 use Rattle.uppaal_parts.proofs.Told.{after_append}

@@ -24,7 +24,7 @@ use Rattle.model.proofs.Basics.Sums.{total, total_most, total_const, length_from
 use Rattle.model.proofs.Basics.Walk.{all_at}
 use Rattle.model.proofs.Schedule.Own.{all_then, all_map}
 use Rattle.words.specs.Words.{ascii}
-use Rattle.uppaal.specs.Xta.{Location, location, waiting, Upper, Atom, at_most}
+use Rattle.uppaal.specs.Xta.{Location, waiting, Upper, Atom, at_most}
 use Rattle.uppaal.specs.XtaText.{field, each_after, listed, against, atom_text, sync_text, location_text, assign_text, transition_text, declared, process_text, process_texts, system_text}
 use Rattle.uppaal.specs.Export.{highs, uppers, ends, others, outcomes, entries, assignments_of, step_in_with, step_out_with, transitions_with, transitions_from, plain_location, waiting_from, process_for, system_for}
 use Rattle.uppaal.proofs.One.{pairs_in}

@@ -1,4 +1,5 @@
 // Writes a valid table for UPPAAL: its processes and the system. What lies past the buffer's end is counted and not stored.
+// Text is put into a lent slice, from a place on, and the place behind it is answered: memory is fixed, and what does not fit is counted.
 #![tactic(auto)]
 
 ghost use Rattle.std.specs.Prelude.{◌≡◌, ◌++◌, ℕ, ◌+◌, ◌-◌, ◌*◌, ◌≤◌, ◌<◌, length, drop};
@@ -34,10 +35,8 @@ fn put_further_names(letter: &[u8], count: u8, out: &mut [u8], at: usize) -> usi
     ensures { Put out.old at (each (further_name letter.now) (from 1 (count - 1))) result out.new × (result ≤ at + (count - 1) * 13) }
 {
     let mut next = at;
-    let mut i: u8 = 1;
-    while i < count {
+    for i in 1..count {
         next = put_further_name(letter, i, out, next);
-        i += 1;
     }
     next
 }
@@ -74,18 +73,15 @@ fn put_locations(component: &[u8], budgets: bool, out: &mut [u8], at: usize) -> 
 {
     let count = component[layout::COMPONENT_LOCATIONS];
     let mut next = at;
-    let mut l: u8 = 0;
-    while l < count {
-        let location = decoder::location_at(
-            &component[layout::COMPONENT_HEADER + parts::wide(l) * layout::LOCATION_WIDTH..],
-        );
-        next = put_location(l, location, out, next);
-        l += 1;
+    for number in 0..count {
+        let place = layout::COMPONENT_HEADER + usize::from(number) * layout::LOCATION_WIDTH;
+        let location = decoder::location_at(&component[place..]);
+        next = put_location(number, location, out, next);
     }
     next
 }
 
-// The edge at this place of the component at the front: its transitions, or its waiting locations.
+// The edge at this place of the component at the front: its transitions, or its waiting locations. `steps` is handed on, as in `uppaal_steps::put_edge`.
 fn put_edge_at(
     component: &[u8],
     place: usize,
@@ -99,15 +95,15 @@ fn put_edge_at(
     ensures { Put out.old at (edge_text steps (location_of (front_component budgets component.now) (arc_at budgets (drop place component.now)).edge.source) (front_component budgets component.now).clocks number (arc_at budgets (drop place component.now))) result out.new × (result ≤ at + 112500) }
 {
     let edge = decoder::edge_at(&component[place..], budgets);
-    let source = parts::wide(edge.source);
+    let source = usize::from(edge.source);
     let location = decoder::location_at(
         &component[layout::COMPONENT_HEADER + source * layout::LOCATION_WIDTH..],
     );
     let origin = Origin {
-        number: number,
-        location: location,
+        number,
+        location,
         clocks: component[layout::COMPONENT_CLOCKS],
-        budgets: budgets,
+        budgets,
     };
     uppaal_steps::put_edge(&component[place..], origin, steps, out, at)
 }
@@ -117,16 +113,14 @@ fn put_edges(component: &[u8], budgets: bool, steps: bool, out: &mut [u8], at: u
     requires { Exportable budgets component.now × (at + 3600000 ≤ 2305843009213693952) }
     ensures { Put out.old at (edges_text steps (front_component budgets component.now) 0 (front_component budgets component.now).arcs) result out.new × (result ≤ at + 3600000) }
 {
-    let n = parts::wide(component[layout::COMPONENT_LOCATIONS]);
-    let mut place = layout::COMPONENT_HEADER + n * layout::LOCATION_WIDTH;
+    let locations = usize::from(component[layout::COMPONENT_LOCATIONS]);
+    let mut place = layout::COMPONENT_HEADER + locations * layout::LOCATION_WIDTH;
     let mut next = at;
-    let mut number: u8 = 0;
-    let mut k = component[layout::COMPONENT_EDGES];
-    while 0 < k {
+    let edges = component[layout::COMPONENT_EDGES];
+    // Where the next edge stands is read from the bytes.
+    for number in 0..edges {
         next = put_edge_at(component, place, number, budgets, steps, out, next);
         place += decoder::arc_length(&component[place..], budgets);
-        number += 1;
-        k -= 1;
     }
     next
 }
@@ -205,11 +199,9 @@ fn put_processes(table: &[u8], starts: [u16; 8], out: &mut [u8], at: usize) -> u
     let budgets = decoder::budgeted(table);
     let count = table[layout::TABLE_COMPONENTS];
     let mut next = at;
-    let mut c: u8 = 0;
-    while c < count {
-        let start = starts[c as usize] as usize;
-        next = put_process(&table[start..], c, budgets, out, next);
-        c += 1;
+    for number in 0..count {
+        let start = usize::from(starts[usize::from(number)]);
+        next = put_process(&table[start..], number, budgets, out, next);
     }
     next
 }

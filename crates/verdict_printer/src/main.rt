@@ -6,7 +6,6 @@
 
 use std::env::Env;
 use std::io::Read;
-use text::Number;
 
 // The table that is read, at a spread. The words are made, then written: what is put in out is all that is written.
 fn print(table: &mut impl Read, output: &impl Print, errors: &impl Print, spread: u32) {
@@ -15,32 +14,29 @@ fn print(table: &mut impl Read, output: &impl Print, errors: &impl Print, spread
     let n = streams::read_full(table, &mut input);
     let mut out = [0u8; verdict_words::ROOM];
     let size = verdict_words::write(&input[..n], spread, &mut out);
-    streams::write_or_say(
+    streams::write_or_say_line(
         output,
         errors,
         &out[..size],
-        b"The verdict could not be written.\n",
+        "The verdict could not be written.",
     );
 }
 
-// The spread that is asked for, of so many words with the program's own name.
-fn spread_asked(env: &impl Env, words: usize) -> Number {
-    if words < 2 {
-        return Number::Read(0);
+// The spread that is asked for, of so many words with the program's own name; none where what is asked is no number.
+fn spread_asked(env: &impl Env, words: usize) -> Option<u32> {
+    match words {
+        0 | 1 => Some(0),
+        2 => arguments::argument(env, 1),
+        _ => None,
     }
-    if 2 < words {
-        return Number::Unreadable;
-    }
-    arguments::argument(env, 1)
 }
 
 fn main(rt: HostRuntime) {
-    let spread = spread_asked(&rt, arguments::count(&rt));
-    match spread {
-        Number::Read(ticks) => print(&mut rt.stdin(), &rt.stdout(), &rt.stderr(), ticks),
-        Number::Unreadable => streams::say(
+    match spread_asked(&rt, arguments::count(&rt)) {
+        Some(spread) => print(&mut rt.stdin(), &rt.stdout(), &rt.stderr(), spread),
+        None => streams::say_line(
             &rt.stderr(),
-            b"usage: verdict_printer [SPREAD], a number up to 4294967295\n",
+            "usage: verdict_printer [SPREAD], a number up to 4294967295",
         ),
     }
 }

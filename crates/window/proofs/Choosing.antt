@@ -1,5 +1,8 @@
 -- The edge taken, from edge to edge. Assumes nothing.
-use mathlib.Core.Path.{◌≡◌, refl, sym, ap, subst, ◌∙◌}
+use Rattle.std.specs.Prelude.{Option as Found}
+use Rattle.std.specs.Prelude.{Some, None, is_some}
+use Rattle.window.specs.Views.{option_of}
+use mathlib.Core.Path.{◌≡◌, refl, sym, subst, ◌∙◌}
 use mathlib.Core.Bool.{Bool, true, false, cond}
 use mathlib.Core.List.{List, [], ◌∷◌}
 use mathlib.Core.Option.{Option, none, some}
@@ -127,11 +130,13 @@ module _ (c : ℕ) (C : Component) (at : Entry) where
   open_none e = rw (← e)
 
   module _ (p : Pick) (e : some p ≡ choice C at) where
-    pub open_out : none ≡ updated (arc_of C p.edge).updates at.values → refused 9 c ≡ opening c C at
+    pub open_out : (found : Found (List ℤ)) → is_some found ≡ false → option_of found ≡ updated (arc_of C p.edge).updates at.values → refused 9 c ≡ opening c C at
     unfolding opening
-    open_out u = rw (← e, ← u)
+    open_out None s u = rw (← e, ← u)
+    open_out (Some vs) s u = let n : ◌≡◌ {A = ℕ} 0 1 = cc in absurd (omega arith)
 
-    pub open_ranged : {vs : List ℤ} → some vs ≡ updated (arc_of C p.edge).updates at.values
+    pub open_ranged : (found : Found (List ℤ)) → is_some found ≡ true → option_of found ≡ updated (arc_of C p.edge).updates at.values
         → accepted (passage_of c at p (channel_of (arc_of C p.edge))) ≡ opening c C at
     unfolding opening
-    open_ranged u = rw (← e, ← u)
+    open_ranged None s u = let n : ◌≡◌ {A = ℕ} 0 1 = cc in absurd (omega arith)
+    open_ranged (Some vs) s u = rw (← e, ← u)

@@ -2,8 +2,8 @@
 use mathlib.Core.Path.{◌≡◌, refl}
 use mathlib.Core.Bool.{Bool, true, false, cond}
 use mathlib.Core.List.{List, [], ◌∷◌}
-use mathlib.Core.Option.{Option, none, some}
-use Prim.Native.Nat.{ℕ, zero, suc, ◌+◌, ◌-◌, ◌/◌, ◌%◌, ◌≤◌, ◌<◌}
+use mathlib.Core.Option.{Option}
+use Prim.Native.Nat.{ℕ, suc, ◌+◌, ◌-◌, ◌/◌, ◌%◌, ◌≤◌, ◌<◌}
 use native.Mathlib.Nat.{div-one}
 use native.Mathlib.Omega.{arith}
 use borrow.Author.Tests.{eq-eqb, ne_eqb}
@@ -15,7 +15,10 @@ use Rattle.model.specs.Table.{Arc}
 use Rattle.model.specs.Reader.{pair_at}
 use Rattle.model.specs.Places.{list_at}
 use Rattle.model.specs.Window.{Entry, masked, aged, updated, leads_to, leaves, listens, paired}
-use Rattle.window.specs.Views.{message_of}
+use Rattle.std.specs.Prelude.{Option as Found}
+use Rattle.std.specs.Prelude.{Some, None}
+use Rattle.std.specs.Option.{unwrap_or}
+use Rattle.window.specs.Views.{message_of, option_of}
 use Rattle.window.proofs.Rests.{next, no_more, all_as}
 
 -- ## Clocks
@@ -65,9 +68,9 @@ module _ (h : List ℕ) (at k channel other x : ℕ) (i : paired (list_at pair_a
 
 -- ## The entry
 
-pub kept_else : (b : Bool) (us vs : List ℤ) → cond b us vs ≡ or_else (cond b (some us) none) vs
-kept_else true us vs = refl
-kept_else false us vs = refl
+pub kept_else : (found : Found (List ℤ)) (vs : List ℤ) → unwrap_or found vs ≡ or_else (option_of found) vs
+kept_else None vs = refl
+kept_else (Some us) vs = refl
 
 pub leaves_to : (a : Arc) (m : Option ℕ) (end : ℕ) (at : Entry) {l : ℕ} {xs : List ℕ} {vs : List ℤ} → l ≡ leads_to a m
     → xs ≡ aged a.edge.mask (end - at.tick) 0 at.clocks

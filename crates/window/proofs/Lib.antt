@@ -2,7 +2,6 @@ pub mod Rests
 pub mod Narrowing
 pub mod Fronts
 pub mod Considering
-pub mod Signed
 pub mod Updating
 pub mod Leaving
 pub mod Ready

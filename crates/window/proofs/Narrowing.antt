@@ -14,13 +14,6 @@ use Rattle.model.specs.Window.{clock_at, ready_of, past_of}
 use Rattle.window.specs.Views.{past_from}
 use Rattle.window.proofs.Rests.{next, no_more}
 
--- the numbers stay small
-pub ready_small : (r low x w : ℕ) → r ≡ max (low - x) w → low < 65536 → w ≤ 65535 → r ≤ 65535
-ready_small r low x w e l h = omega arith
-
-pub past_small : (p a w : ℕ) → p ≡ min a w → w ≤ 65536 → p ≤ 65536
-past_small p a w e h = omega arith
-
 -- the invariant leaves as much
 pub past_is : (l : Location) (gs : List ClockGuard) (xs : List ℕ) → past_of l gs xs ≡ past_from (suc l.bound - clock_at xs l.clock) gs xs
 unfolding past_from

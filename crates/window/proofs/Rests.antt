@@ -1,4 +1,4 @@
--- The parts of one width that are left to a loop that counts down. Assumes nothing.
+-- The parts of one width that are left to a loop that goes over them. Assumes nothing.
 use mathlib.Core.Path.{◌≡◌, refl, ap, ◌∙◌}
 use mathlib.Core.Bool.{Bool, true, false, not}
 use mathlib.Core.List.{List, [], ◌∷◌}
@@ -12,6 +12,13 @@ use Rattle.parts.proofs.Skim.{tail}
 
 counted : (k : ℕ) → 0 < k → k ≡ suc (k - 1)
 counted k e = omega arith
+
+-- how many are left to a loop that has passed so many of n: at first all, then one fewer
+pub all_left : (n : ℕ) → n - 0 ≡ n
+all_left n = omega arith
+
+pub one_fewer : (n passed : ℕ) → n - (passed + 1) ≡ n - passed - 1
+one_fewer n passed = omega arith
 
 module _ {A : Type 0} (value : List ℕ → A) (w : ℕ) where
   -- the part at a place, and those after it

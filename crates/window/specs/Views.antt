@@ -1,5 +1,6 @@
 -- What the code's values are in the words of the definitions, and which bytes an edge can be read from.
-use Rattle.std.specs.Prelude.{◌≡◌, Bool, cond, List, [], ◌∷◌, ℕ, suc, ◌+◌, ◌-◌, min, ◌≤◌, ◌<◌, eqb, ltb, ℤ, length}
+use Rattle.std.specs.Prelude.{◌≡◌, Bool, cond, List, [], ◌∷◌, ℕ, suc, ◌+◌, ◌-◌, min, ◌≤◌, ◌<◌, eqb, ltb, ℤ, length, Result, Ok, Err, Some, None}
+use Rattle.std.specs.Prelude.{Option as Found}
 use Rattle.std.proofs.Math.Option.{Option, none, some}
 use Rattle.model.specs.declared.ClockGuard.{ClockGuard}
 use Rattle.model.specs.declared.Location.{Location}
@@ -10,15 +11,12 @@ use Rattle.model.specs.Window.{Pick, clock_at, ready_of, past_of, data_holds, fi
 use Rattle.model.specs.Schedule.{Passage, passage_of}
 use Rattle.decoder.specs.Decoded.{Decodable}
 use Rattle.window.specs.declared.Entry.{Entry}
-use Rattle.window.specs.declared.Updated.{Updated}
 use Rattle.window.specs.declared.Choice.{Choice}
 use Rattle.window.specs.declared.TakenEdge.{TakenEdge}
 use Rattle.window.specs.declared.Standing.{Standing}
 use Rattle.window.specs.declared.Standing.TheVariants.{Elsewhere, Blocked, Windowless, Candidate}
-use Rattle.window.specs.declared.NewValue.{NewValue}
-use Rattle.window.specs.declared.NewValue.TheVariants.{Fits, Out}
-use Rattle.window.specs.declared.Opening.{Opening}
-use Rattle.window.specs.declared.Opening.TheVariants.{Opens, Fails}
+use Rattle.window.specs.declared.Unopened.{Unopened}
+use Rattle.window.specs.declared.Unopened.TheVariants.{NoWindow, OutOfRange}
 
 -- what clock bounds leave of the delays below p
 unfoldable pub past_from : ℕ → List ClockGuard → List ℕ → ℕ
@@ -56,21 +54,27 @@ abbrev pub Kept : (ℕ → ℕ) → Choice → Type 0
 Kept place k = k.ready < 65536 → (k.place ≡ place k.edge) × (k.edge < 256) × (k.end ≤ 65535)
 
 -- a new value of a variable, if it is one
-abbrev pub new_of : ℤ → NewValue
-new_of z = cond (in_range z) (Fits z) Out
+abbrev pub new_of : ℤ → Found ℤ
+new_of z = cond (in_range z) (Some z) None
 
--- the variables after updates, or none
-abbrev pub updated_of : Updated → Option (List ℤ)
-updated_of u = cond u.fits (some u.values) none
+-- what the code has found, as the definitions have it
+abbrev pub option_of : {A : Type 0} → Found A → Option A
+option_of None = none
+option_of (Some x) = some x
 
 -- 255 is no message
 abbrev pub message_of : ℕ → Option ℕ
 message_of m = cond (eqb m 255) none (some m)
 
+-- the number of the refusal
+abbrev pub number_of : Unopened → ℕ
+number_of NoWindow = 8
+number_of OutOfRange = 9
+
 -- what an opening gives
-abbrev pub opening_of : ℕ → Component → Rattle.model.specs.Window.Entry → Opening → Answer Passage
-opening_of c C at (Opens t) = accepted (passage_of c at (record { edge = t.edge; ready = t.ready; end = t.end }) (channel_of (arc_of C t.edge)))
-opening_of c C at (Fails n) = refused n c
+abbrev pub opening_of : ℕ → Component → Rattle.model.specs.Window.Entry → Result TakenEdge Unopened → Answer Passage
+opening_of c C at (Ok t) = accepted (passage_of c at (record { edge = t.edge; ready = t.ready; end = t.end }) (channel_of (arc_of C t.edge)))
+opening_of c C at (Err why) = refused (number_of why) c
 
 -- An edge stands at the front, whole, and names clocks and variables that have a place.
 pub record ArcReady (b : Bool) (h : List ℕ) : Type 0 where
@@ -80,7 +84,7 @@ pub record ArcReady (b : Bool) (h : List ℕ) : Type 0 where
   pub updates : All (λ u. u.variable < 4) (arc_at b h).updates
 
 -- an opened passage's edge: its number, its place, small numbers
-abbrev pub Placed : List ℕ → ℕ → ℕ → Opening → Type 0
-Placed bs start c (Opens t) =
+abbrev pub Placed : List ℕ → ℕ → ℕ → Result TakenEdge Unopened → Type 0
+Placed bs start c (Ok t) =
     (t.edge < length (component_in bs c).arcs) × (t.place ≡ arc_place bs start t.edge) × (t.ready ≤ 65535) × (t.end ≤ 65535)
-Placed bs start c (Fails n) = Unit {0}
+Placed bs start c (Err why) = Unit {0}

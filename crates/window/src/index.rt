@@ -24,11 +24,9 @@ fn put_places(table: &[u8], start: usize, c: usize, index: &mut [u16], budgets: 
     let mut place = start
         + layout::COMPONENT_HEADER
         + parts::wide(table[start + layout::COMPONENT_LOCATIONS]) * layout::LOCATION_WIDTH;
-    let mut e: usize = 0;
-    while e < count {
+    for e in 0..count {
         index[from + e] = place as u16;
         place += decoder::arc_length(&table[place..], budgets);
-        e += 1;
     }
 }
 
@@ -38,9 +36,8 @@ fn put_links(table: &[u8], start: usize, c: usize, index: &mut [u16])
     ensures { LinksPut table.now index.old index.new c 0 }
 {
     let from = c * COMPONENT_WIDTH;
-    let mut e = parts::wide(table[start + layout::COMPONENT_EDGES]);
-    while 0 < e {
-        e -= 1;
+    let count = parts::wide(table[start + layout::COMPONENT_EDGES]);
+    for e in (0..count).rev() {
         let place = index[from + PLACE + e] as usize;
         let first = from + parts::wide(table[place + layout::EDGE_SOURCE]);
         index[from + NEXT + e] = index[first];

@@ -10,7 +10,7 @@ ghost use Rattle.model.specs.Places.{list_at, arc_at, budgeted, arc_place, start
 ghost use Rattle.model.specs.Window.{clock_at, ready_of, past_of, data_within, first_failing, considered, choice, looked, aged, paired, leads_to, leaves};
 ghost use Rattle.model.specs.Schedule.{opening};
 ghost use Rattle.window.specs.Indexed.{Indexed};
-ghost use Rattle.window.specs.Views.{past_from, standing_of, SmallDelays, entry_of, pick_of, Kept, message_of, opening_of, ArcReady, Placed, better_of};
+ghost use Rattle.window.specs.Views.{past_from, standing_of, SmallDelays, entry_of, pick_of, Kept, message_of, opening_of, number_of, ArcReady, Placed, better_of};
 
 pub mod index;
 pub mod updates;
@@ -43,6 +43,7 @@ pub struct TakenEdge {
 }
 
 // The best edge so far, as plain numbers without gaps between them. A ready above 65535 says that there is none.
+// A struct, not an Option: the search hands it from edge to edge, and asks only which ready is the earlier, with one comparison where there is none too.
 #[derive(Clone, Copy)]
 pub struct Choice {
     pub edge: usize,
@@ -68,42 +69,23 @@ pub struct Search {
     pub looked: usize,
 }
 
-#[derive(Clone, Copy)]
-pub struct Updated {
-    pub fits: bool,
-    pub values: [i16; 4],
+// Why no passage opens: no edge from the location entered has a window that is long enough, or an update of the edge taken leaves the range.
+#[derive(Clone, Copy, PartialEq, Eq)]
+pub enum Unopened {
+    NoWindow,
+    OutOfRange,
 }
 
-#[derive(Clone, Copy)]
-enum NewValue {
-    Fits(i16),
-    Out,
-}
-
-// An edge opens a passage, or the number of the refusal (8 or 9).
-#[derive(Clone, Copy)]
-pub enum Opening {
-    Opens(TakenEdge),
-    Fails(u8),
-}
-
-// What is left of a clock bound, in ticks from that clock on, or 0.
-fn left_of(bound: u32, clock: u32) -> u32
-    ensures { result ≡ bound - clock }
-{
-    if clock < bound { bound - clock } else { 0 }
-}
-
-fn greater(first: u32, second: u32) -> u32
-    ensures { result ≡ max first second }
-{
-    if first < second { second } else { first }
-}
-
-fn lesser(first: u32, second: u32) -> u32
-    ensures { result ≡ min first second }
-{
-    if first < second { first } else { second }
+impl Unopened {
+    // The number of the refusal (docs/REFUSALS.md).
+    pub fn number(self) -> u8
+        ensures { result ≡ number_of self }
+    {
+        match self {
+            Unopened::NoWindow => 8,
+            Unopened::OutOfRange => 9,
+        }
+    }
 }
 
 // One clock bound narrows a window.
@@ -111,14 +93,16 @@ fn narrowed(delays: Delays, guard: ClockGuard, clock: u32) -> Delays
     requires { (delays.ready ≤ 65535) × (delays.past ≤ 65536) }
     ensures { (result.ready ≡ max (guard.low - clock) delays.ready) × (result.past ≡ cond (eqb guard.high 65535) delays.past (min (suc guard.high - clock) delays.past)) × (result.ready ≤ 65535) × (result.past ≤ 65536) }
 {
-    let ready = greater(left_of(parts::word32(guard.low), clock), delays.ready);
+    let ready = u32::from(guard.low).saturating_sub(clock).max(delays.ready);
     if guard.high == 65535 {
         return Delays {
             ready,
             past: delays.past,
         };
     }
-    let past = lesser(left_of(parts::word32(guard.high) + 1, clock), delays.past);
+    let past = (u32::from(guard.high) + 1)
+        .saturating_sub(clock)
+        .min(delays.past);
     Delays { ready, past }
 }
 
@@ -127,8 +111,8 @@ fn stays(location: Location, clocks: [u32; 4]) -> u32
     requires { location.clock < 4 }
     ensures { (result ≡ suc location.bound - clock_at clocks location.clock) × (result ≤ 65536) }
 {
-    let i = parts::wide(location.clock);
-    left_of(parts::word32(location.bound) + 1, clocks[i])
+    let clock = clocks[usize::from(location.clock)];
+    (u32::from(location.bound) + 1).saturating_sub(clock)
 }
 
 // The window that `count` clock bounds leave of so many ticks; `guards` begins at the first bound. One that is ready at the delay `before` or later
@@ -142,16 +126,13 @@ fn window_within(before: u32, left: u32, guards: &[u8], count: u8, clocks: [u32;
         past: left,
     };
     let mut at: usize = 0;
-    let mut k = count;
-    while 0 < k {
+    for _ in 0..count {
         let guard = decoder::clock_guard_at(&guards[at..]);
-        let j = parts::wide(guard.clock);
-        delays = narrowed(delays, guard, clocks[j]);
+        delays = narrowed(delays, guard, clocks[usize::from(guard.clock)]);
         if before <= delays.ready {
             return delays;
         }
         at += layout::GUARD_WIDTH;
-        k -= 1;
     }
     delays
 }
@@ -176,8 +157,7 @@ fn data_within(guard: DataGuard, values: [i16; 4]) -> bool
     requires { guard.variable < 4 }
     ensures { result ≡ data_within guard values }
 {
-    let i = parts::wide(guard.variable);
-    within(values[i], guard.low, guard.high)
+    within(values[usize::from(guard.variable)], guard.low, guard.high)
 }
 
 // The number of the first of `count` data bounds that fails, `count` where all hold; `guards` begins at the first bound.
@@ -186,14 +166,12 @@ fn first_failing(guards: &[u8], count: u8, values: [i16; 4]) -> u8
     ensures { result ≡ first_failing (list_at data_guard_at 5 count guards.now) values }
 {
     let mut at: usize = 0;
-    let mut k = count;
-    while 0 < k {
+    for held in 0..count {
         let guard = decoder::data_guard_at(&guards[at..]);
         if !data_within(guard, values) {
-            return count - k;
+            return held;
         }
         at += layout::GUARD_WIDTH;
-        k -= 1;
     }
     count
 }
@@ -331,6 +309,7 @@ pub fn choose(table: &[u8], start: usize, c: u8, at: Entry, index: &[u16], budge
         end: 0,
     };
     let mut e = index[from + parts::wide(at.location)] as usize;
+    // A loop: the next edge is read from the index, no count of steps is known.
     loop {
         if count <= e {
             break Search {
@@ -385,14 +364,12 @@ pub fn paired_location(pairs: &[u8], count: u8, channel: u8, other: u8) -> u8
     ensures { result ≡ paired (list_at pair_at 2 count pairs.now) channel other }
 {
     let mut at: usize = 0;
-    let mut k = count;
-    while 0 < k {
+    for _ in 0..count {
         let pair = decoder::pair_at(&pairs[at..]);
         if pair.channel == channel {
             return pair.location;
         }
         at += layout::PAIR_WIDTH;
-        k -= 1;
     }
     other
 }
@@ -422,13 +399,6 @@ pub fn leads_to(bytes: &[u8], message: u8, budgets: bool) -> u8
     }
 }
 
-// The variables after updates that fit, else those before.
-pub fn kept_values(after: Updated, values: [i16; 4]) -> [i16; 4]
-    ensures { result ≡ cond after.fits after.values values }
-{
-    if after.fits { after.values } else { values }
-}
-
 // The entry that a passage over the edge at the front of the bytes leads to, at the tick `end`.
 pub fn leave(bytes: &[u8], message: u8, end: u32, at: Entry, budgets: bool) -> Entry
     requires { ArcReady budgets bytes.now × (at.tick ≤ end) × (end ≤ 1000000) × All (λ x. x ≤ at.tick) at.clocks }
@@ -436,7 +406,7 @@ pub fn leave(bytes: &[u8], message: u8, end: u32, at: Entry, budgets: bool) -> E
     ensures young { All (λ x. x ≤ end) result.clocks }
 {
     let before = at.values;
-    let values = kept_values(updates::edge_update(bytes, before, budgets), before);
+    let values = updates::edge_update(bytes, before, budgets).unwrap_or(before);
     let young = at.clocks;
     let edge = decoder::edge_at(bytes, budgets);
     let clocks = age(edge.mask, end - at.tick, young);
@@ -449,7 +419,14 @@ pub fn leave(bytes: &[u8], message: u8, end: u32, at: Entry, budgets: bool) -> E
 }
 
 // Checks 8 and 9: the passage that component c opens as it enters.
-pub fn open(table: &[u8], start: usize, c: u8, at: Entry, index: &[u16], budgets: bool) -> Opening
+pub fn open(
+    table: &[u8],
+    start: usize,
+    c: u8,
+    at: Entry,
+    index: &[u16],
+    budgets: bool,
+) -> Result<TakenEdge, Unopened>
     requires { Valid table.now × (c < size (read_of table.now).table) × (start ≡ start_of table.now c) × (at.location < length (component_in table.now c).locations) × Indexed table.now index.now c start × (budgets ≡ budgeted table.now) }
     ensures opens { opening_of c (component_in table.now c) (entry_of at) result ≡ opening c (component_in table.now c) (entry_of at) }
     ensures placed { Placed table.now start c result }
@@ -457,15 +434,14 @@ pub fn open(table: &[u8], start: usize, c: u8, at: Entry, index: &[u16], budgets
     let found = choose(table, start, c, at, index, budgets);
     let chosen = found.choice;
     if 65535 < chosen.ready {
-        return Opening::Fails(8);
+        return Err(Unopened::NoWindow);
     }
     let place = chosen.place;
     let values = at.values;
-    let after = updates::edge_update(&table[place..], values, budgets);
-    if !after.fits {
-        return Opening::Fails(9);
+    if updates::edge_update(&table[place..], values, budgets).is_none() {
+        return Err(Unopened::OutOfRange);
     }
-    Opening::Opens(TakenEdge {
+    Ok(TakenEdge {
         edge: chosen.edge as u8,
         place,
         ready: chosen.ready,

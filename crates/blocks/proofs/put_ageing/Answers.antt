@@ -1,5 +1,4 @@
 -- `blocks::put_ageing` meets its contract. Assumes nothing.
-use borrow.Author.Rules.{rules}
 use Rattle.blocks.proofs.Runs.{put_is}
 use Rattle.blocks.proofs.Blocks.{zeroed, grown}
 use Rattle.blocks.proofs.put_ageing.Goals as goal

@@ -1,5 +1,4 @@
 -- `blocks::put_clock_test` meets its contract. Assumes nothing.
-use borrow.Author.Rules.{rules}
 use mathlib.Core.Path.{sym}
 use Rattle.model.specs.Reader.{byte, clock_guard_at}
 use Rattle.model.specs.Program.{quad}

@@ -1,10 +1,9 @@
 -- `blocks::put_clocks` meets its contract. Assumes nothing.
-use borrow.Author.Rules.{rules}
 use mathlib.Core.Path.{◌≡◌, sym}
-use Prim.Native.Nat.{◌-◌, ◌/◌, ◌^◌, ◌≤◌}
+use Prim.Native.Nat.{◌-◌}
 use native.Mathlib.Nat.{div-one}
 use native.Mathlib.Omega.{arith}
-use Rattle.blocks.proofs.Runs.{Writing, begin, writing_long}
+use Rattle.blocks.proofs.Runs.{begin, writing_long}
 use Rattle.blocks.proofs.Blocks.{clocks_from, halved, clock_asked, clock_put, clocks_done}
 use Rattle.blocks.proofs.put_clocks.Goals as goal
 

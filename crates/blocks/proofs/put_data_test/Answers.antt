@@ -1,5 +1,4 @@
 -- `blocks::put_data_test` meets its contract. Assumes nothing.
-use borrow.Author.Rules.{rules}
 use native.Mathlib.Omega.{arith}
 use Rattle.model.specs.Program.{quad}
 use Rattle.blocks.proofs.Parts.{data_words, data_room}

@@ -1,12 +1,10 @@
 -- `blocks::put_location_block` meets its contract. Assumes nothing.
-use borrow.Author.Rules.{rules}
 use mathlib.Core.Path.{◌≡◌}
-use Prim.Native.Nat.{◌+◌, ◌-◌, ◌≤◌}
+use Prim.Native.Nat.{◌+◌, ◌-◌}
 use native.Mathlib.Omega.{arith}
-use lib.ListN.{length, drop}
+use lib.ListN.{drop}
 use mathlib.Core.List.{[]}
-use Rattle.blocks.specs.FrontEdges.{ArcsFit}
-use Rattle.blocks.proofs.Runs.{Writing, begin, put_on, put_all, room_left, same_end}
+use Rattle.blocks.proofs.Runs.{begin, put_on, put_all, room_left, same_end}
 use Rattle.blocks.proofs.Arcs.{edge_whole, edge-head, edge_on, edges_on}
 use Rattle.blocks.proofs.Blocks.{block_from, some_left, trial_room, trial_put, take_left}
 use Rattle.blocks.proofs.put_location_block.Goals as goal

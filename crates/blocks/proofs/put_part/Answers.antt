@@ -1,5 +1,4 @@
 -- `blocks::put_part` meets its contract. Assumes nothing.
-use borrow.Author.Rules.{rules}
 use Rattle.blocks.proofs.Parts.{asked_as, made_as}
 use Rattle.blocks.proofs.put_part.Goals as goal
 

@@ -1,5 +1,4 @@
 -- `blocks::put_trial_from` meets its contract. Assumes nothing.
-use borrow.Author.Rules.{rules}
 use mathlib.Core.Path.{sym}
 use Rattle.blocks.proofs.Runs.{put_is, put_none, room_is}
 use Rattle.blocks.proofs.Blocks.{skipped, tried}

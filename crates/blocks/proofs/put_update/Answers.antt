@@ -1,5 +1,4 @@
 -- `blocks::put_update` meets its contract. Assumes nothing.
-use borrow.Author.Rules.{rules}
 use native.Mathlib.Omega.{arith}
 use Rattle.blocks.proofs.Parts.{adds, sets-to, update_room}
 use Rattle.blocks.proofs.Runs.{put_is}

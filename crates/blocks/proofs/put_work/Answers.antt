@@ -1,5 +1,4 @@
 -- `blocks::put_work` meets its contract. Assumes nothing.
-use borrow.Author.Rules.{rules}
 use mathlib.Core.Path.{sym, ◌∙◌}
 use lib.ListN.{drop}
 use Rattle.model.specs.Reader.{byte}

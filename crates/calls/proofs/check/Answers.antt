@@ -1,6 +1,5 @@
 -- `calls::check` meets its contract. Assumes nothing.
 use mathlib.Core.Path.{◌∙◌}
-use borrow.Author.Rules.{rules}
 use Rattle.model.proofs.Checks.Acceptance.{accepted_is}
 use Rattle.model.proofs.Run.CallsApart.{check_together}
 use Rattle.translator.proofs.Standing.{slice_bytes}

@@ -1,13 +1,7 @@
-use mathlib.Core.Path.{◌≡◌, sym, ap, ◌∙◌}
+use mathlib.Core.Path.{sym, ap, ◌∙◌}
 use native.Mathlib.Omega.{arith}
-use Rattle.model.specs.Calls.{Call, schedule_call}
+use Rattle.model.specs.Calls.{Call}
 use Rattle.calls.proofs.Answering.{plan_refused, call_refused, few, room, too_short, written}
-use borrow.Author.Rules.{rules}
-use Rattle.calls.proofs.plan_into.Reads as reads
-use Rattle.calls.proofs.plan_into.Lts as lts
-use Rattle.schedule.proofs.plan_rows.Reads as plan-rows-reads
-use Rattle.schedule.proofs.put_fields.Reads as put-fields-reads
-use Rattle.calls.proofs.refused.Reads as refused-reads
 use Rattle.calls.proofs.plan_into.Goals as goal
 
 -- src/lib.rt:101:29

@@ -1,6 +1,5 @@
 -- `calls::plan_verdict` meets its contract. Assumes nothing.
 use mathlib.Core.Path.{◌∙◌}
-use borrow.Author.Rules.{rules}
 use Rattle.model.proofs.Run.CallsApart.{check_together}
 use Rattle.calls.proofs.plan_verdict.Goals as goal
 

@@ -1,5 +1,4 @@
 -- `calls::run` meets its contract. Assumes nothing.
-use borrow.Author.Rules.{rules}
 use Rattle.model.proofs.Observations.All.{observations_read}
 use Rattle.model.proofs.Run.CallsApart.{run_together}
 use Rattle.model.proofs.Run.Finished.{finishes_together}

@@ -3,12 +3,6 @@ use native.Mathlib.Omega.{arith}
 use Rattle.model.specs.Calls.{Call}
 use Rattle.table.proofs.Answered.{was_valid, its_starts, was_refused}
 use Rattle.calls.proofs.Answering.{call_refused}
-use borrow.Author.Rules.{rules}
-use Rattle.calls.proofs.schedule.Reads as reads
-use Rattle.calls.proofs.schedule.Lts as lts
-use Rattle.table.proofs.read.Reads as read-reads
-use Rattle.calls.proofs.plan_into.Reads as plan-into-reads
-use Rattle.calls.proofs.refused.Reads as refused-reads
 use Rattle.calls.proofs.schedule.Goals as goal
 
 -- src/lib.rt:123:13

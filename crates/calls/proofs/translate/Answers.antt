@@ -4,7 +4,6 @@ use native.Mathlib.Omega.{arith}
 use Rattle.model.specs.Calls.{Call}
 use Rattle.table.proofs.Answered.{was_valid, its_starts, was_refused}
 use Rattle.calls.proofs.Translating.{translate_refused}
-use borrow.Author.Rules.{rules}
 use Rattle.calls.proofs.translate.Goals as goal
 
 pub translate_into-requires : goal.translate_into-requires

@@ -3,7 +3,6 @@ use mathlib.Core.Path.{sym, ap, ◌∙◌}
 use native.Mathlib.Omega.{arith}
 use Rattle.model.specs.Calls.{Call}
 use Rattle.calls.proofs.Translating.{check_refused, too_short, written}
-use borrow.Author.Rules.{rules}
 use Rattle.calls.proofs.translate_into.Goals as goal
 
 pub returns-then-program-long : goal.returns-then-program-long

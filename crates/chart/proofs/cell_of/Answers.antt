@@ -1,6 +1,5 @@
 -- `chart::cell_of` meets its contract. Assumes nothing.
 use native.Mathlib.Omega.{arith}
-use borrow.Author.Rules.{rules}
 use Rattle.model.proofs.Schedule.Charted.{cell_there}
 use Rattle.chart.proofs.cell_of.Goals as goal
 

@@ -1,7 +1,6 @@
 -- `chart::draw` meets its contract. Assumes nothing.
 use native.Mathlib.Omega.{arith}
 use Rattle.chart.proofs.Drawing.{reached, in_order, drawn_late, drawn_more}
-use borrow.Author.Rules.{rules}
 use Rattle.chart.proofs.draw.Goals as goal
 
 pub returns-then-horizon-ready : goal.returns-then-horizon-ready

@@ -1,10 +1,6 @@
 -- `chart::draw_rows` meets its contract. Assumes nothing.
 use mathlib.Core.Path.{◌≡◌, refl, sym, subst, ◌∙◌}
-use mathlib.Core.List.{List, []}
-use Prim.Native.Nat.{ℕ, ◌-◌, ◌≤◌}
 use native.Mathlib.Omega.{arith}
-use borrow.Author.Rules.{rules}
-use lib.ListN.{length}
 use Rattle.model.specs.Places.{read_of}
 use Rattle.rows.specs.Rows.{row_passage, rows_from, rows_of}
 use Rattle.rows.proofs.Placed.{row_known}
@@ -30,9 +26,6 @@ draw-requires c =
     let l = c.loop-i in
     let f = row_fits a.table.now a.rows.now a.count l.i c.window_at-window.result e.requires.0 c.loop-i-test.true c.window_at-window.ensures in
     (omega (arith, f.0, e.requires.1, e.requires.4, l.invariant.1), omega (arith, f.0, e.requires.1, e.requires.2), f.1, e.requires.3)
-
-pub overflow_add-i : goal.overflow_add-i
-overflow_add-i c = omega (arith, c.requires.0.few)
 
 pub loop-i-preserved : goal.loop-i-preserved
 loop-i-preserved c =

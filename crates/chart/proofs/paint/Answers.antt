@@ -1,8 +1,6 @@
 -- `chart::paint` meets its contract. Assumes nothing.
 use mathlib.Core.Path.{subst}
-use Prim.Native.Nat.{◌-◌, ◌≤◌}
 use native.Mathlib.Omega.{arith}
-use borrow.Author.Rules.{rules}
 use Rattle.chart.specs.Drawn.{Painted}
 use Rattle.chart.proofs.Painting.{painted_none, painted_turn}
 use Rattle.chart.proofs.paint.Goals as goal

@@ -1,8 +1,6 @@
 -- `chart::put_cells` meets its contract. Assumes nothing.
 use mathlib.Core.Path.{subst}
-use Prim.Native.Nat.{◌-◌, ◌≤◌}
 use native.Mathlib.Omega.{arith}
-use borrow.Author.Rules.{rules}
 use Rattle.chart.specs.Drawn.{EmptyCells}
 use Rattle.chart.proofs.Painting.{cells_none, cells_turn}
 use Rattle.chart.proofs.put_cells.Goals as goal

@@ -2,7 +2,6 @@
 use Rattle.model.specs.Places.{read_of}
 use Rattle.rows.specs.Rows.{rows_of}
 use Rattle.chart.proofs.Laying.{all_drawn}
-use borrow.Author.Rules.{rules}
 use Rattle.chart.proofs.put_chart.Goals as goal
 
 pub returns : goal.returns

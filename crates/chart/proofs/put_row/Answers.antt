@@ -4,7 +4,6 @@ use Prim.Native.Nat.{◌+◌}
 use native.Mathlib.Omega.{arith}
 use lib.ListN.{length-set}
 use Rattle.chart.proofs.Painting.{row_put}
-use borrow.Author.Rules.{rules}
 use Rattle.chart.proofs.put_row.Goals as goal
 
 pub bounds-chart-at-2 : goal.bounds-chart-at-2

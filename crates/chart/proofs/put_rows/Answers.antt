@@ -1,11 +1,7 @@
 -- `chart::put_rows` meets its contract. Assumes nothing.
-use mathlib.Core.Path.{◌≡◌, refl, subst, ◌∙◌}
+use mathlib.Core.Path.{refl, subst, ◌∙◌}
 use mathlib.Core.List.{[]}
-use Prim.Native.Nat.{◌-◌, ◌≤◌}
 use native.Mathlib.Omega.{arith}
-use borrow.Author.Rules.{rules}
-use lib.ListN.{length}
-use Rattle.model.specs.Table.{Table}
 use Rattle.chart.specs.Drawn.{Drawn}
 use Rattle.chart.proofs.Painting.{drawn_none, drawn_turn}
 use Rattle.chart.proofs.put_rows.Goals as goal

@@ -1,5 +1,4 @@
 -- `checks::band` meets its contract. Assumes nothing.
-use borrow.Author.Rules.{rules}
 use native.Mathlib.Omega.{arith}
 use Rattle.rows.proofs.Placed.{known_bytes}
 use Rattle.checks.proofs.Banded.{first_there, first_band, band_fits, band_there}

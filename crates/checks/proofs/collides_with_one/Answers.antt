@@ -1,7 +1,7 @@
 -- `checks::collides_with_one` meets its contract. Assumes nothing.
 use mathlib.Core.Path.{sym, ◌∙◌}
 use mathlib.Core.List.{[]}
-use Prim.Native.Nat.{◌+◌, ◌-◌, ◌≤◌}
+use Prim.Native.Nat.{◌+◌}
 use native.Mathlib.Omega.{arith}
 use borrow.Author.Tests.{not-false}
 use Rattle.model.specs.Lists.{only}
@@ -11,7 +11,7 @@ use Rattle.rows.specs.Rows.{row_passage, rows_of}
 use Rattle.rows.proofs.Placed.{row_known}
 use Rattle.checks.proofs.Questions.{meets_near, not_asked, collides_none, collides_one}
 use Rattle.checks.proofs.Earlier.{none_earlier}
-use Rattle.checks.proofs.Swept.{rest, Swept, swept_at, swept_in, swept_out, swept_stop, swept_done}
+use Rattle.checks.proofs.Swept.{rest, swept_at, swept_in, swept_out, swept_stop, swept_done}
 use Rattle.checks.proofs.collides_with_one.Goals as goal
 
 pub is_send-requires : goal.is_send-requires
@@ -35,7 +35,7 @@ loop-j-init c =
     let T = (read_of a.table.now).table in
     let p = meets a.spread T a.horizon (row_passage a.rows.now a.i) in
     let none = none_earlier a.spread T a.horizon a.rows.now a.count a.i e.requires.1 (sym c.is_send.ensures ∙ not-false c.is_send.result c.if-not-is_send.false-raw) e.requires.2 in
-    (omega (arith, e.requires.1), swept_at p a.table.now a.rows.now a.count a.i e.requires.0 e.requires.1 (meets_near a.spread T a.horizon a.rows.now a.i) [] none)
+    swept_at p a.table.now a.rows.now a.count a.i e.requires.0 e.requires.1 (meets_near a.spread T a.horizon a.rows.now a.i) [] none
 
 pub tick-requires : goal.tick-requires
 tick-requires c = omega (arith, c.requires.0.fits, c.requires.1)
@@ -48,7 +48,7 @@ returns-then-until-tick c =
     let T = (read_of a.table.now).table in
     let v = row_passage a.rows.now a.i in
     collides_none a.spread T a.horizon (rows_of a.rows.now a.count) v c.is_send.result c.is_send.ensures c.if-not-is_send.false-raw
-    (swept_stop (meets a.spread T a.horizon v) a.table.now a.rows.now a.count a.i e.requires.0 e.requires.1 (meets_near a.spread T a.horizon a.rows.now a.i) l.j [] c.loop-j-test.true (omega (arith, c.put_off-until.ensures, c.tick.ensures)) l.invariant.1)
+    (swept_stop (meets a.spread T a.horizon v) a.table.now a.rows.now a.count a.i e.requires.0 e.requires.1 (meets_near a.spread T a.horizon a.rows.now a.i) l.j [] c.loop-j-test.true (omega (arith, c.put_off-until.ensures, c.tick.ensures)) l.invariant)
 
 pub is_met-requires : goal.is_met-requires
 is_met-requires c =
@@ -63,19 +63,13 @@ returns-then-is_met c =
     let T = (read_of a.table.now).table in
     let v = row_passage a.rows.now a.i in
     collides_one a.spread T a.horizon (rows_of a.rows.now a.count) v c.is_send.result c.is_send.ensures c.if-not-is_send.false-raw (row_passage a.rows.now l.j) (only (meets a.spread T a.horizon v) (rest a.rows.now a.count (l.j + 1)))
-    (swept_in (meets a.spread T a.horizon v) a.rows.now a.count l.j [] c.is_met.result c.loop-j-test.true c.is_met.ensures c.if-is_met.true l.invariant.1)
-
-pub overflow_add-j : goal.overflow_add-j
-overflow_add-j c = omega (arith, c.requires.0.few, c.requires.1)
-
-pub loop-j-smaller : goal.loop-j-smaller
-loop-j-smaller c = omega (arith, c.requires.1)
+    (swept_in (meets a.spread T a.horizon v) a.rows.now a.count l.j [] c.is_met.result c.loop-j-test.true c.is_met.ensures c.if-is_met.true l.invariant)
 
 pub loop-j-preserved : goal.loop-j-preserved
 loop-j-preserved c =
     let a = c.args in
     let l = c.loop-j in
-    (omega (arith, c.requires.1), swept_out (meets a.spread (read_of a.table.now).table a.horizon (row_passage a.rows.now a.i)) a.rows.now a.count l.j [] c.is_met.result c.loop-j-test.true c.is_met.ensures c.if-is_met.false l.invariant.1)
+    swept_out (meets a.spread (read_of a.table.now).table a.horizon (row_passage a.rows.now a.i)) a.rows.now a.count l.j [] c.is_met.result c.loop-j-test.true c.is_met.ensures c.if-is_met.false l.invariant
 
 pub returns : goal.returns
 returns c =
@@ -83,4 +77,4 @@ returns c =
     let l = c.loop-j in
     let T = (read_of a.table.now).table in
     let v = row_passage a.rows.now a.i in
-    collides_none a.spread T a.horizon (rows_of a.rows.now a.count) v c.is_send.result c.is_send.ensures c.if-not-is_send.false-raw (swept_done (meets a.spread T a.horizon v) a.rows.now a.count l.j [] (omega arith) l.invariant.1)
+    collides_none a.spread T a.horizon (rows_of a.rows.now a.count) v c.is_send.result c.is_send.ensures c.if-not-is_send.false-raw (swept_done (meets a.spread T a.horizon v) a.rows.now a.count l.j [] (omega arith) l.invariant)

@@ -1,5 +1,4 @@
 -- `checks::is_met` meets its contract. Assumes nothing.
-use borrow.Author.Rules.{rules}
 use Rattle.model.specs.Places.{read_of}
 use Rattle.rows.specs.Rows.{row_passage}
 use Rattle.checks.proofs.Questions.{not_met, no_send_met, met}

@@ -1,6 +1,6 @@
 -- `checks::is_send` meets its contract. Assumes nothing.
 use native.Mathlib.Omega.{arith}
-use borrow.Author.Rules.{rules}
+use mathlib.Core.Path.{◌∙◌}
 use Rattle.model.specs.Places.{read_of}
 use Rattle.rows.specs.Rows.{row_passage}
 use Rattle.checks.proofs.Sending.{ready_late, ready_early}
@@ -14,4 +14,4 @@ returns-then-horizon-number c =
 pub returns : goal.returns
 returns c =
     let a = c.args in
-    ready_early (read_of a.table.now).table a.horizon (row_passage a.rows.now a.i) c.row_sends.result (omega (arith, c.number.ensures)) c.row_sends.ensures
+    c.is_some.ensures ∙ ready_early (read_of a.table.now).table a.horizon (row_passage a.rows.now a.i) c.row_sent.result (omega (arith, c.number.ensures)) c.row_sent.ensures

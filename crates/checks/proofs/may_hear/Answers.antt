@@ -1,7 +1,6 @@
 -- `checks::may_hear` meets its contract. Assumes nothing.
-use borrow.Author.Rules.{rules}
 use Rattle.model.specs.Places.{read_of}
-use Rattle.rows.specs.Rows.{message_of, row_passage}
+use Rattle.rows.specs.Rows.{option_of, row_passage}
 use Rattle.checks.proofs.Questions.{not_beside, not_receive, hear}
 use Rattle.checks.proofs.may_hear.Goals as goal
 
@@ -19,4 +18,4 @@ pub returns : goal.returns
 returns c =
     let e = c in
     let a = e.args in
-    hear a.spread (read_of a.table.now).table (row_passage a.rows.now a.j) (row_passage a.rows.now a.i) c.overlap.result c.row_receives.result c.row_lists.result (message_of a.channel) c.overlap.ensures c.if-not-overlap.false-raw c.row_receives.ensures c.if-not-row_receives.false-raw e.requires.2 c.row_lists.ensures
+    hear a.spread (read_of a.table.now).table (row_passage a.rows.now a.j) (row_passage a.rows.now a.i) c.overlap.result c.row_receives.result c.row_lists.result (option_of a.channel) c.overlap.ensures c.if-not-overlap.false-raw c.row_receives.ensures c.if-not-row_receives.false-raw e.requires.2 c.row_lists.ensures

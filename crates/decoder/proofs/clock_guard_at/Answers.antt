@@ -1,5 +1,4 @@
 -- `decoder::clock_guard_at` meets its contract. Assumes nothing.
-use borrow.Author.Rules.{rules}
 use Rattle.decoder.proofs.clock_guard_at.Goals as goal
 
 pub returns : goal.returns

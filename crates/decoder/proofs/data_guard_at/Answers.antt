@@ -1,7 +1,7 @@
 -- `decoder::data_guard_at` meets its contract. Assumes nothing.
 use mir.Syntax.{w16}
 use mir.ValLaws.{to_z-of_z}
-use borrow.Author.Rules.{rules, sfits_of}
+use borrow.Author.Rules.{sfits_of}
 use Rattle.decoder.proofs.data_guard_at.Goals as goal
 
 pub returns : goal.returns

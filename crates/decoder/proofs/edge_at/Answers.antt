@@ -1,6 +1,5 @@
 -- `decoder::edge_at` meets its contract. Assumes nothing.
 use Rattle.model.specs.Places.{arc_at}
-use borrow.Author.Rules.{rules}
 use Rattle.decoder.proofs.edge_at.Goals as goal
 
 pub returns : goal.returns

@@ -1,5 +1,4 @@
 -- `decoder::location_at` meets its contract. Assumes nothing.
-use borrow.Author.Rules.{rules}
 use Rattle.decoder.proofs.location_at.Goals as goal
 
 pub returns : goal.returns

@@ -3,7 +3,6 @@ use mathlib.Core.Path.{sym, ap, ◌∙◌}
 use native.Mathlib.Omega.{arith}
 use Rattle.model.specs.EdgeChoice.{chosen_of}
 use Rattle.window.proofs.Considering.{pick_some, pick_none}
-use borrow.Author.Rules.{rules}
 use Rattle.edge_choice.proofs.answered.Goals as goal
 
 pub returns-then-choice-gt65535 : goal.returns-then-choice-gt65535

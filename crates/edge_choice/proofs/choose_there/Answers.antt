@@ -1,5 +1,5 @@
 -- `edge_choice::choose_there` meets its contract. Assumes nothing.
-use mathlib.Core.Path.{◌≡◌, sym, ap, subst, ◌∙◌}
+use mathlib.Core.Path.{sym, ap, subst, ◌∙◌}
 use Prim.Native.Nat.{◌+◌, ◌*◌}
 use native.Mathlib.Omega.{arith}
 use lib.ListN.{get_or-replicate}
@@ -10,7 +10,6 @@ use Rattle.window.specs.Views.{entry_of}
 use Rattle.rows.proofs.Placed.{known_bytes, valid_small}
 use Rattle.schedule.proofs.Tables.{header, few_components, limits_of}
 use Rattle.edge_choice.proofs.Chosen.{call_read}
-use borrow.Author.Rules.{rules}
 use Rattle.edge_choice.proofs.choose_there.Goals as goal
 
 pub budgeted-budgets-requires : goal.budgeted-budgets-requires
@@ -22,19 +21,19 @@ put_edges-requires c =
     let bs = s.args.table.now in
     let few = few_components bs c.type_inv.table s.requires.0 in (
       s.requires.0,
-      omega (arith, c.wide.ensures.0, s.requires.1),
-      s.requires.2 ∙ ap (start_of bs) (sym c.wide.ensures.0),
-      omega (arith, c.wide.ensures.0, s.requires.1, few),
-      omega (arith, c.wide.ensures.0, s.requires.1, few),
+      omega (arith, c.from.ensures, s.requires.1),
+      s.requires.2 ∙ ap (start_of bs) (sym c.from.ensures),
+      omega (arith, c.from.ensures, s.requires.1, few),
+      omega (arith, c.from.ensures, s.requires.1, few),
       valid_small bs (known_bytes bs c.type_inv.table) s.requires.0,
-      λ q h. get_or-replicate 640 (c.wide.result * 80 + q) 32 0 (omega (arith, h, c.wide.ensures.0, s.requires.1, few)),
+      λ q h. get_or-replicate 640 (c.from.result * 80 + q) 32 0 (omega (arith, h, c.from.ensures, s.requires.1, few)),
       c.budgeted-budgets.ensures,
     )
 
 pub choose-found-requires : goal.choose-found-requires
 choose-found-requires c =
     let s = c in
-    (s.requires.0, s.requires.1, s.requires.2, s.requires.3, subst (λ n. Indexed s.args.table.now c.put_edges.new.index n s.args.start) c.wide.ensures.0 c.put_edges.ensures.noted, c.budgeted-budgets.ensures)
+    (s.requires.0, s.requires.1, s.requires.2, s.requires.3, subst (λ n. Indexed s.args.table.now c.put_edges.new.index n s.args.start) c.from.ensures c.put_edges.ensures.noted, c.budgeted-budgets.ensures)
 
 pub overflow_cast-found : goal.overflow_cast-found
 overflow_cast-found c =

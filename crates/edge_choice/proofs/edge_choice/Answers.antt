@@ -3,7 +3,6 @@ use mathlib.Core.Path.{◌∙◌}
 use Rattle.table.proofs.Answered.{was_valid, its_starts, read_refused}
 use Rattle.window.specs.Views.{entry_of}
 use Rattle.edge_choice.proofs.Chosen.{call_refused}
-use borrow.Author.Rules.{rules}
 use Rattle.edge_choice.proofs.edge_choice.Goals as goal
 
 pub choose_read-requires : goal.choose_read-requires

@@ -8,6 +8,3 @@ abbrev pub invariant-loop-block : goal.invariant-loop-block
 invariant-loop-block l =
     (l.block ≤ l.blocks) × (l.blocks ≤ 510) × (l.at ≤ 700000000000000000) × (l.next ≤ l.at + 10485760 * l.block)
     × Writing l.initial.out l.at (blocks_text l.part 0 (blocks_of l.part)) l.out l.next (blocks_text l.part l.block (l.blocks - l.block))
-
-abbrev pub decreases-loop-block : goal.decreases-loop-block
-decreases-loop-block l = l.blocks - l.block

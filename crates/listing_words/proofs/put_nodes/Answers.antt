@@ -1,7 +1,6 @@
 -- `listing_words::put_nodes` meets its contract. Assumes nothing.
-use mathlib.Core.Path.{◌≡◌, ap}
-use mathlib.Core.List.{List}
-use Prim.Native.Nat.{ℕ, ◌+◌, ◌-◌}
+use mathlib.Core.Path.{◌≡◌, ap₂}
+use Prim.Native.Nat.{◌+◌, ◌-◌}
 use native.Mathlib.Omega.{arith}
 use Rattle.model.specs.Program.{part_of}
 use Rattle.blocks.proofs.Runs.{begin, left_is, put_is, put_on, put_all, writing_long}
@@ -34,7 +33,7 @@ loop-node-preserved c =
       put_on
           (nodes_text a.program.now (l.node + 1) (a.nodes - (l.node + 1)))
           (left_is (node_left a.program.now l.node a.nodes t.true) l.invariant.3)
-          (put_is (ap (λ (part : List ℕ). node_text l.node part) c.part.ensures) c.put_node-next.ensures.0),
+          (put_is (ap₂ node_text c.from.ensures c.part.ensures) c.put_node-next.ensures.0),
     )
 
 pub shape_of-out : goal.shape_of-out

@@ -8,6 +8,3 @@ abbrev pub invariant-loop-node : goal.invariant-loop-node
 invariant-loop-node l =
     (l.node ≤ l.nodes) × (l.nodes ≤ 255) × (l.next ≤ l.at + 5347737920 * l.node)
     × Writing l.initial.out l.at (nodes_text l.program 0 l.nodes) l.out l.next (nodes_text l.program l.node (l.nodes - l.node))
-
-abbrev pub decreases-loop-node : goal.decreases-loop-node
-decreases-loop-node l = l.nodes - l.node

@@ -8,6 +8,3 @@ abbrev pub invariant-loop-place : goal.invariant-loop-place
 invariant-loop-place l =
     (l.start ≤ l.place) × (l.end < 65536) × (l.at ≤ 900000000000000000) × (l.next ≤ l.at + 160 * (l.place - l.start)) × (160 * (l.place - l.start) ≤ 10485600)
     × Writing l.initial.out l.at (statements_text l.part l.start (l.end - l.start)) l.out l.next (statements_text l.part l.place (l.end - l.place))
-
-abbrev pub decreases-loop-place : goal.decreases-loop-place
-decreases-loop-place l = l.end - l.place

@@ -1,7 +1,6 @@
 -- `long_run::reaches` meets its contract. Assumes nothing.
 use native.Mathlib.Omega.{arith}
 use borrow.Author.Tests.{lt-ltb, le-ltb, le-leb, lt-leb}
-use borrow.Author.Rules.{rules}
 use Rattle.long_run.proofs.reaches.Goals as goal
 
 pub returns-then-horizon-eq0 : goal.returns-then-horizon-eq0
@@ -14,4 +13,4 @@ returns-then-horizon-own c =
 
 pub returns-else-horizon-own : goal.returns-else-horizon-own
 returns-else-horizon-own c =
-    let a = c.args in rw (lt-ltb 0 a.horizon (omega (arith, c.if-horizon-eq0.false)), lt-leb a.horizon a.own (omega (arith, c.if-horizon-own.false)))
+    let a = c.args in rw (lt-ltb 0 a.horizon (omega (arith, c.if-horizon-eq0.false)), lt-leb a.horizon a.own (omega (arith, c.if-horizon-own.false))) c.is_some-found.ensures

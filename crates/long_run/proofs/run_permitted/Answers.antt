@@ -1,11 +1,9 @@
 -- `long_run::run_permitted` meets its contract. Assumes nothing.
-use mathlib.Core.Path.{refl, ap₂, ◌∙◌}
+use mathlib.Core.Path.{refl}
 use native.Mathlib.Omega.{arith}
-use Rattle.model.specs.Calls.{end_of}
 use Rattle.translator.proofs.Standing.{slice_bytes}
 use Rattle.long_run.proofs.Bounds.{tick_most}
 use Rattle.long_run.proofs.Answering.{reached_to, bytes_done}
-use borrow.Author.Rules.{rules}
 use Rattle.long_run.proofs.run_permitted.Goals as goal
 
 pub overflow_cast-result : goal.overflow_cast-result
@@ -23,7 +21,7 @@ returns c =
     let e = c.run_table-e.ensures L q in
     record {
       verdict = refl;
-      end = c.end_of.ensures ∙ ap₂ end_of e.end e.node;
+      end = e.end;
       tick = e.tick;
       used = e.used;
       size = e.written;

@@ -1,13 +1,12 @@
 -- `long_run::run_planned` meets its contract. Assumes nothing.
-use mathlib.Core.Path.{◌≡◌, sym, ◌∙◌}
-use mathlib.Core.Bool.{true, false}
+use mathlib.Core.Path.{sym, ◌∙◌}
+use Prim.Native.Nat.{◌<◌}
 use native.Mathlib.Omega.{arith}
 use borrow.Author.Tests.{not-true, not-false}
 use Rattle.schedule.proofs.Tables.{horizon_is, horizon_small}
 use Rattle.translator.proofs.Standing.{slice_bytes, valid_long}
 use Rattle.long_run.proofs.Bounds.{passages_most}
 use Rattle.long_run.proofs.Answering.{reach_is, reached, reached_to, not_reached, too_short, is_done}
-use borrow.Author.Rules.{rules}
 use Rattle.long_run.proofs.run_planned.Goals as goal
 
 pub word_at-requires : goal.word_at-requires
@@ -26,7 +25,7 @@ returns-then-not-reaches c =
     let bs = a.table.now in
     let own = c.word32-own.ensures.0 ∙ c.word_at.ensures ∙ horizon_is bs c.type_inv.table p.0 in
     let S = p.2.passages in
-    let is = reach_is bs a.rows.now a.count p.2 c.pair_beyond-pair.result c.word32-own.result a.horizon own c.pair_beyond-pair.ensures in
+    let is = reach_is bs a.rows.now a.count p.2 c.pair_beyond-pair.result c.word32-own.result a.horizon own c.pair_beyond-pair.ensures.0 in
     let no = sym is ∙ sym c.reaches.ensures ∙ not-true _ c.if-not-reaches.true-raw in
     rw (not_reached bs a.horizon a.choices.now a.observations.now p.0 S p.2.accepted_schedule no) (c.not_run.ensures a.observations.now)
 
@@ -37,9 +36,9 @@ passages_to-passages-requires c =
     let bs = a.table.now in
     let own = c.word32-own.ensures.0 ∙ c.word_at.ensures ∙ horizon_is bs c.type_inv.table p.0 in
     let S = p.2.passages in
-    let is = reach_is bs a.rows.now a.count p.2 c.pair_beyond-pair.result c.word32-own.result a.horizon own c.pair_beyond-pair.ensures in
-    let r = reached bs a.rows.now a.count p.2 c.pair_beyond-pair.result c.word32-own.result a.horizon own c.pair_beyond-pair.ensures (sym c.reaches.ensures ∙ not-false _ c.if-not-reaches.false-raw) in
-    (p.2, r.pair, own, omega (arith, own, horizon_small bs c.type_inv.table p.0), r.least, r.found)
+    let is = reach_is bs a.rows.now a.count p.2 c.pair_beyond-pair.result c.word32-own.result a.horizon own c.pair_beyond-pair.ensures.0 in
+    let r = reached bs a.rows.now a.count p.2 c.pair_beyond-pair.result c.word32-own.result a.horizon own c.pair_beyond-pair.ensures.0 (sym c.reaches.ensures ∙ not-false _ c.if-not-reaches.false-raw) in
+    (p.2, c.pair_beyond-pair.ensures.0, own, omega (arith, own, horizon_small bs c.type_inv.table p.0), r.least, λ h. r.found (omega (arith, h, own)))
 
 pub holds-requires : goal.holds-requires
 holds-requires c =
@@ -48,8 +47,8 @@ holds-requires c =
     let bs = a.table.now in
     let own = c.word32-own.ensures.0 ∙ c.word_at.ensures ∙ horizon_is bs c.type_inv.table p.0 in
     let S = p.2.passages in
-    let is = reach_is bs a.rows.now a.count p.2 c.pair_beyond-pair.result c.word32-own.result a.horizon own c.pair_beyond-pair.ensures in
-    let r = reached bs a.rows.now a.count p.2 c.pair_beyond-pair.result c.word32-own.result a.horizon own c.pair_beyond-pair.ensures (sym c.reaches.ensures ∙ not-false _ c.if-not-reaches.false-raw) in
+    let is = reach_is bs a.rows.now a.count p.2 c.pair_beyond-pair.result c.word32-own.result a.horizon own c.pair_beyond-pair.ensures.0 in
+    let r = reached bs a.rows.now a.count p.2 c.pair_beyond-pair.result c.word32-own.result a.horizon own c.pair_beyond-pair.ensures.0 (sym c.reaches.ensures ∙ not-false _ c.if-not-reaches.false-raw) in
     let u = reached_to p.0 r in
     omega (arith, c.passages_to-passages.ensures u.passages u.planned, passages_most bs (slice_bytes bs c.type_inv.table) p.0 a.horizon (omega (arith, c.ranges.horizon)) u.passages u.planned)
 
@@ -60,9 +59,9 @@ returns-then-not-holds c =
     let bs = a.table.now in
     let own = c.word32-own.ensures.0 ∙ c.word_at.ensures ∙ horizon_is bs c.type_inv.table p.0 in
     let S = p.2.passages in
-    let is = reach_is bs a.rows.now a.count p.2 c.pair_beyond-pair.result c.word32-own.result a.horizon own c.pair_beyond-pair.ensures in
+    let is = reach_is bs a.rows.now a.count p.2 c.pair_beyond-pair.result c.word32-own.result a.horizon own c.pair_beyond-pair.ensures.0 in
     let yes = sym c.reaches.ensures ∙ not-false _ c.if-not-reaches.false-raw in
-    let u = reached_to p.0 (reached bs a.rows.now a.count p.2 c.pair_beyond-pair.result c.word32-own.result a.horizon own c.pair_beyond-pair.ensures yes) in
+    let u = reached_to p.0 (reached bs a.rows.now a.count p.2 c.pair_beyond-pair.result c.word32-own.result a.horizon own c.pair_beyond-pair.ensures.0 yes) in
     let short = c.holds.ensures.1 (not-true _ c.if-not-holds.true-raw) in
     rw (too_short bs a.horizon a.choices.now a.observations.now p.0 S p.2.accepted_schedule (sym is ∙ yes) u.passages u.planned (omega (arith, short, c.passages_to-passages.ensures u.passages u.planned))) (c.not_run-then-not-holds.ensures a.observations.now)
 
@@ -73,9 +72,9 @@ run_permitted-requires c =
     let bs = a.table.now in
     let own = c.word32-own.ensures.0 ∙ c.word_at.ensures ∙ horizon_is bs c.type_inv.table p.0 in
     let S = p.2.passages in
-    let is = reach_is bs a.rows.now a.count p.2 c.pair_beyond-pair.result c.word32-own.result a.horizon own c.pair_beyond-pair.ensures in
+    let is = reach_is bs a.rows.now a.count p.2 c.pair_beyond-pair.result c.word32-own.result a.horizon own c.pair_beyond-pair.ensures.0 in
     let yes = sym c.reaches.ensures ∙ not-false _ c.if-not-reaches.false-raw in
-    let r = reached bs a.rows.now a.count p.2 c.pair_beyond-pair.result c.word32-own.result a.horizon own c.pair_beyond-pair.ensures yes in
+    let r = reached bs a.rows.now a.count p.2 c.pair_beyond-pair.result c.word32-own.result a.horizon own c.pair_beyond-pair.ensures.0 yes in
     (p.0, p.1, r, λ L q. omega (arith, c.holds.ensures.0 (not-false _ c.if-not-holds.false-raw), c.passages_to-passages.ensures L q))
 
 pub returns : goal.returns
@@ -85,7 +84,7 @@ returns c =
     let bs = a.table.now in
     let own = c.word32-own.ensures.0 ∙ c.word_at.ensures ∙ horizon_is bs c.type_inv.table p.0 in
     let S = p.2.passages in
-    let is = reach_is bs a.rows.now a.count p.2 c.pair_beyond-pair.result c.word32-own.result a.horizon own c.pair_beyond-pair.ensures in
+    let is = reach_is bs a.rows.now a.count p.2 c.pair_beyond-pair.result c.word32-own.result a.horizon own c.pair_beyond-pair.ensures.0 in
     let yes = sym c.reaches.ensures ∙ not-false _ c.if-not-reaches.false-raw in
-    let u = reached_to p.0 (reached bs a.rows.now a.count p.2 c.pair_beyond-pair.result c.word32-own.result a.horizon own c.pair_beyond-pair.ensures yes) in
+    let u = reached_to p.0 (reached bs a.rows.now a.count p.2 c.pair_beyond-pair.result c.word32-own.result a.horizon own c.pair_beyond-pair.ensures.0 yes) in
     rw (is_done bs a.horizon a.choices.now a.observations.now p.0 S p.2.accepted_schedule (sym is ∙ yes) u.passages u.planned (omega (arith, c.holds.ensures.0 (not-false _ c.if-not-holds.false-raw), c.passages_to-passages.ensures u.passages u.planned))) (c.run_permitted.ensures u.passages u.planned)

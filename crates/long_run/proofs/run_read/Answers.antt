@@ -4,7 +4,6 @@ use Rattle.table.proofs.Answered.{verdict_refused}
 use Rattle.schedule.specs.Filled.{accepted_schedule_in}
 use Rattle.schedule.proofs.Accepted.{accepted_rows}
 use Rattle.long_run.proofs.Answering.{plan_not_run}
-use borrow.Author.Rules.{rules}
 use Rattle.long_run.proofs.run_read.Goals as goal
 
 pub run_planned-requires : goal.run_planned-requires

@@ -2,7 +2,6 @@
 use Rattle.table.proofs.Answered.{was_valid, its_starts, read_refused}
 use Rattle.later_runs.proofs.Promised.{run_to_true}
 use Rattle.long_run.proofs.Answering.{read_not_run}
-use borrow.Author.Rules.{rules}
 use Rattle.long_run.proofs.run_to.Goals as goal
 
 pub run_read-requires : goal.run_read-requires

@@ -1,6 +1,5 @@
 -- `machine::began` meets its contract. Assumes nothing.
 use native.Mathlib.Omega.{arith}
-use borrow.Author.Rules.{rules}
 use Rattle.machine.proofs.began.Goals as goal
 
 pub overflow_add-result : goal.overflow_add-result

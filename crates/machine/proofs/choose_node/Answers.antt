@@ -37,8 +37,8 @@ slice_bounds-op_at-end c =
     let s = c.requires.0.each c.args.choice present in
     search rules
 
-pub send_message-allowed-requires : goal.send_message-allowed-requires
-send_message-allowed-requires c =
+pub send_message-requires : goal.send_message-requires
+send_message-requires c =
     let present : c.args.choice < c.args.count =
     (omega (arith, c.if-count-c.false)) in
     let op-there : let a = c.args in c.op_at-op.result ≡ op_of a.program.now a.words.now a.values.now a.choice =
@@ -55,7 +55,7 @@ returns-then-op-eq-SEND c H =
     (omega (arith, c.if-tick-wake.false, c.word-wake.ensures)) in
     let d = c in
     let a = c.args in
-    c.send_message-allowed.ensures H a.written a.out.now up
+    rw c.then_some.ensures (c.send_message.ensures H a.written a.out.now up)
 
 pub go_alone-requires : goal.go_alone-requires
 go_alone-requires c =

@@ -3,10 +3,9 @@ use Rattle.registers.proofs.Frames.{stored_eight}
 use Rattle.machine.proofs.NodeMoves.{Passing, passing_length, passes, words_moved, finish_noted, place_stored, time_stored, wake_stored}
 use Rattle.machine.proofs.Quiet.{quiet_kept}
 use Rattle.machine.specs.Chosen.{RowPassed}
-use mathlib.Core.Logic.{inl, inr, ⊎_elim}
+use mathlib.Core.Logic.{inl, inr}
 use mathlib.Core.Path.{sym, subst, ◌∙◌}
 use native.Mathlib.Omega.{arith}
-use borrow.Author.Rules.{rules}
 use Rattle.machine.proofs.finish_node.Goals as goal
 use Rattle.machine.proofs.finish_node.Goals.{then-op-eq-SLEEP, else-op-eq-SLEEP}
 

@@ -16,7 +16,6 @@ use mathlib.Core.Bool.{Bool, true, false, cond}
 use mathlib.Core.List.{List}
 use native.Mathlib.Omega.{arith}
 use mathlib.Core.Path.{◌≡◌, refl, sym, ap, ap₂, subst, ◌∙◌}
-use borrow.Author.Rules.{rules}
 use Rattle.machine.proofs.go_alone.Goals as goal
 
 -- a test at the tick of its own clock

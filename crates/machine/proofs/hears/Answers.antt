@@ -1,6 +1,5 @@
 -- `machine::hears` meets its contract. Assumes nothing.
 use native.Mathlib.Omega.{arith}
-use borrow.Author.Rules.{rules}
 use Rattle.machine.proofs.Hearing.{deaf_late, deaf_taken, heard}
 use Rattle.machine.proofs.hears.Goals as goal
 

@@ -5,7 +5,6 @@ use native.Mathlib.Omega.{arith}
 use lib.Dec.{leb}
 use Rattle.node.proofs.Ops.{op_short}
 use Rattle.machine.proofs.Quiet.{timed_is}
-use borrow.Author.Rules.{rules}
 use Rattle.machine.proofs.is_timed.Goals as goal
 
 pub returns-then-part-lt4 : goal.returns-then-part-lt4

@@ -1,10 +1,8 @@
 -- `machine::listener` meets its contract. Assumes nothing.
 use mathlib.Core.Path.{sym, ◌∙◌}
-use mathlib.Core.Logic.{⊎_elim}
-use Prim.Native.Nat.{◌-◌, ◌≤◌}
 use native.Mathlib.Omega.{arith}
 use borrow.Author.Rules.{rules}
-use Rattle.machine.proofs.Hearing.{NoneYet, one_more, found, not_found}
+use Rattle.machine.proofs.Hearing.{one_more, found, not_found}
 use Rattle.machine.proofs.listener.Goals as goal
 use Rattle.machine.proofs.listener.Goals.{then-i-c+else-hears, else-i-c}
 

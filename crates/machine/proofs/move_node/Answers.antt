@@ -1,7 +1,6 @@
 -- `machine::move_node` meets its contract. Assumes nothing.
 use mathlib.Core.Path.{sym, ◌∙◌}
 use native.Mathlib.Omega.{arith}
-use borrow.Author.Rules.{rules}
 use borrow.Author.Tests.{not-true, not-false}
 use Rattle.registers.specs.Words.{held_in, node_in, part_in, wake_tick_in}
 use Rattle.machine.proofs.Alone.{refused_asleep}

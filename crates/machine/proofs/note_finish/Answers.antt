@@ -1,6 +1,5 @@
 -- `machine::note_finish` meets its contract. Assumes nothing.
 use native.Mathlib.Omega.{arith}
-use borrow.Author.Rules.{rules}
 use borrow.Author.Tests.{le-leb, lt-leb}
 use mathlib.Core.Path.{refl}
 use Rattle.machine.proofs.note_finish.Goals as goal

@@ -8,7 +8,6 @@ use lib.ListN.{drop}
 use Rattle.node.specs.Views.{op_in}
 use Rattle.registers.specs.Words.{word_in}
 use Rattle.machine.proofs.Quiet.{still_noted}
-use borrow.Author.Rules.{rules}
 use Rattle.machine.proofs.note_next.Goals as goal
 
 pub returns-then-not-is_timed : goal.returns-then-not-is_timed

@@ -3,7 +3,6 @@ use Rattle.machine.proofs.Lent.{lent_is}
 use Rattle.registers.proofs.Frames.{stored_eight}
 use Rattle.machine.proofs.NodeMoves.{still_inside, node_noted, place_stored, time_stored, wake_stored}
 use native.Mathlib.Omega.{arith}
-use borrow.Author.Rules.{rules}
 use Rattle.machine.proofs.put_node.Goals as goal
 
 pub overflow_add-end : goal.overflow_add-end

@@ -32,13 +32,13 @@ overflow_add-pc c =
     (record { begins = c.word-base.ensures; spans = c.word.ensures; counts = refl; node = refl; stands = c.requires.0.each c.args.c c.requires.1 }) in
     let d = c in let e = pc_low loaded c.requires.2 in omega (arith, d.word-pc.ensures)
 
-pub listener-i-requires : goal.listener-i-requires
-listener-i-requires c =
+pub listener-requires : goal.listener-requires
+listener-requires c =
     let f = c in
     (search rules, search rules, search rules, all_heard f.requires.0)
 
-pub returns-then-i-ge8 : goal.returns-then-i-ge8
-returns-then-i-ge8 c H written out wake =
+pub returns-in_default : goal.returns-in_default
+returns-in_default c H written out wake =
     let loaded : let a = c.args in
     Loaded a.program.now a.rows.now a.passages a.words.now a.values.now a.c c.word-base.result c.word.result (held_in a.words.now a.c) (node_in a.words.now a.values.now a.c) =
     (record { begins = c.word-base.ensures; spans = c.word.ensures; counts = refl; node = refl; stands = c.requires.0.each c.args.c c.requires.1 }) in
@@ -52,9 +52,7 @@ returns-then-i-ge8 c H written out wake =
     let a = f.args in
     unheard a.program.now a.rows.now a.passages H a.count a.tick a.c a.words.now a.values.now out written f.requires.0.most f.requires.1 wake f.requires.2 c.byte_at-channel.result
     on-channel
-    c.listener-i.result
-    c.if-i-ge8.true
-    c.listener-i.ensures
+    c.in_default.ensures
 
 pub finish_node-requires : goal.finish_node-requires
 finish_node-requires c =
@@ -75,12 +73,12 @@ pub hear-requires : goal.hear-requires
 hear-requires c =
     let d = c in
     let f = c in
-    let w = c.listener-i.ensures.1 (omega (arith, c.if-i-ge8.false)) in (
+    let w = c.in-Some.ensures.stands c.in-Some.i refl in (
       c.finish_node.ensures.0.eight,
       f.requires.0.listed,
-      (omega (arith, c.if-i-ge8.false)),
-      same_stands (c.finish_node.ensures.0.others c.listener-i.result w.1) (stands_there f.requires.0 c.listener-i.result w.0),
-      op_still f.args.program.now 5 (c.finish_node.ensures.0.others c.listener-i.result w.1) w.2,
+      (omega (arith, f.requires.0.most, w.0)),
+      same_stands (c.finish_node.ensures.0.others c.in-Some.i w.1) (stands_there f.requires.0 c.in-Some.i w.0),
+      op_still f.args.program.now 5 (c.finish_node.ensures.0.others c.in-Some.i w.1) w.2,
     )
 
 pub returns : goal.returns
@@ -98,10 +96,14 @@ returns c H written out wake =
     let a = f.args in
     taken a.program.now a.rows.now a.passages H a.count a.tick a.c a.words.now a.values.now out written f.requires.0.most f.requires.1 wake f.requires.2 c.byte_at-channel.result
     on-channel
-    c.listener-i.result
-    (omega (arith, c.if-i-ge8.false))
-    c.listener-i.ensures
+    c.in-Some.i
+    c.in-Some.ensures
     c.finish_node.ensures.0
     c.hear.ensures.0
     (c.finish_node.ensures.1 ∙ c.own_tick-sent.ensures)
     (c.hear.ensures.1 ∙ c.own_tick-heard.ensures)
+
+pub own_tick-heard-requires : goal.own_tick-heard-requires
+own_tick-heard-requires c =
+    let w = c.in-Some.ensures.stands c.in-Some.i refl in
+    (search rules, omega (arith, c.requires.0.most, w.0))

@@ -1,6 +1,6 @@
 -- `machine::try_node` meets its contract. Assumes nothing.
 use mathlib.Core.Logic.{inr}
-use mathlib.Core.Path.{◌≡◌, refl, sym, ◌∙◌}
+use mathlib.Core.Path.{◌≡◌, refl, ◌∙◌}
 use mathlib.Core.List.{List}
 use Prim.Native.Nat.{ℕ, ◌≤◌}
 use native.Mathlib.Omega.{arith}
@@ -10,7 +10,6 @@ use Rattle.node.specs.Views.{op_in, Addable}
 use Rattle.registers.proofs.Frames.{stored_eight}
 use Rattle.machine.proofs.NodeMoves.{Passing, passes, words_moved, place_stored, time_stored, wake_stored}
 use Rattle.machine.proofs.Quiet.{quiet_kept}
-use borrow.Author.Rules.{rules}
 use Rattle.machine.proofs.try_node.Goals as goal
 
 -- the row stays: it is no sleep

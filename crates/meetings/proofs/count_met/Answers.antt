@@ -1,7 +1,6 @@
 -- `meetings::count_met` meets its contract. Assumes nothing.
 use mathlib.Core.Path.{sym, subst}
-use mathlib.Core.Logic.{⊎_elim}
-use Prim.Native.Nat.{ℕ, ◌+◌, ◌-◌, ◌≤◌}
+use Prim.Native.Nat.{ℕ, ◌+◌}
 use native.Mathlib.Omega.{arith}
 use Rattle.model.specs.Places.{read_of}
 use Rattle.rows.specs.Rows.{row_passage}
@@ -15,7 +14,7 @@ use Rattle.meetings.proofs.count_met.Goals.{then-is_met, else-is_met}
 pub loop-j-init : goal.loop-j-init
 loop-j-init c =
     let a = c.args in
-    (omega arith, omega arith, counted_start (met_by a.spread a.question (read_of a.table.now).table a.horizon (row_passage a.rows.now a.i)) a.rows.now a.count)
+    (omega arith, counted_start (met_by a.spread a.question (read_of a.table.now).table a.horizon (row_passage a.rows.now a.i)) a.rows.now a.count)
 
 pub is_met-requires : goal.is_met-requires
 is_met-requires c =
@@ -24,13 +23,7 @@ is_met-requires c =
     (row_known a.table.now a.rows.now a.count a.i e.requires.0 e.requires.1, row_known a.table.now a.rows.now a.count c.loop-j.j e.requires.0 c.loop-j-test.true)
 
 pub overflow_add-met : goal.overflow_add-met
-overflow_add-met c = omega (arith, c.requires.0.few, c.requires.1, c.loop-j.invariant.1)
-
-pub overflow_add-j : goal.overflow_add-j
-overflow_add-j c = omega (arith, c.requires.0.few, c.requires.1)
-
-pub loop-j-smaller : goal.loop-j-smaller
-loop-j-smaller c = omega (arith, c.requires.1)
+overflow_add-met c = omega (arith, c.requires.0.few, c.requires.1, c.loop-j.invariant.0)
 
 pub loop-j-preserved : goal.loop-j-preserved
 loop-j-preserved c =
@@ -39,12 +32,12 @@ loop-j-preserved c =
     let l = c.loop-j in
     let p = met_by a.spread a.question (read_of a.table.now).table a.horizon (row_passage a.rows.now a.i) in
     elim c.if-is_met.branch [
-      | then-is_met w ↦ (omega (arith, e.requires.1), omega (arith, l.invariant.1, w.met-is), subst (λ (k : ℕ). Counted p a.rows.now a.count (l.j + 1) k) (sym w.met-is) (counted_in p a.rows.now a.count l.j l.met c.is_met.result c.loop-j-test.true c.is_met.ensures l.invariant.2 w.if-is_met.true))
-      | else-is_met w ↦ (omega (arith, e.requires.1), omega (arith, l.invariant.1, w.met-is), subst (λ (k : ℕ). Counted p a.rows.now a.count (l.j + 1) k) (sym w.met-is) (counted_out p a.rows.now a.count l.j l.met c.is_met.result c.loop-j-test.true c.is_met.ensures l.invariant.2 w.if-is_met.false))
+      | then-is_met w ↦ (omega (arith, l.invariant.0, w.met-is), subst (λ (k : ℕ). Counted p a.rows.now a.count (l.j + 1) k) (sym w.met-is) (counted_in p a.rows.now a.count l.j l.met c.is_met.result c.loop-j-test.true c.is_met.ensures l.invariant.1 w.if-is_met.true))
+      | else-is_met w ↦ (omega (arith, l.invariant.0, w.met-is), subst (λ (k : ℕ). Counted p a.rows.now a.count (l.j + 1) k) (sym w.met-is) (counted_out p a.rows.now a.count l.j l.met c.is_met.result c.loop-j-test.true c.is_met.ensures l.invariant.1 w.if-is_met.false))
     ]
 
 pub returns : goal.returns
 returns c =
     let a = c.args in
     let l = c.loop-j in
-    (counted_done (met_by a.spread a.question (read_of a.table.now).table a.horizon (row_passage a.rows.now a.i)) a.rows.now a.count l.j l.met (omega arith) l.invariant.2, omega (arith, l.invariant.0, l.invariant.1))
+    (counted_done (met_by a.spread a.question (read_of a.table.now).table a.horizon (row_passage a.rows.now a.i)) a.rows.now a.count l.j l.met (omega arith) l.invariant.1, omega (arith, l.invariant.0))

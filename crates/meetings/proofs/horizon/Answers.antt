@@ -1,7 +1,6 @@
 -- `meetings::horizon` meets its contract. Assumes nothing.
 use mathlib.Core.Path.{◌∙◌}
 use native.Mathlib.Omega.{arith}
-use borrow.Author.Rules.{rules}
 use Rattle.schedule.proofs.Tables.{header, horizon_is}
 use Rattle.meetings.proofs.horizon.Goals as goal
 

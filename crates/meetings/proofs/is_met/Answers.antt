@@ -1,5 +1,4 @@
 -- `meetings::is_met` meets its contract. Assumes nothing.
-use borrow.Author.Rules.{rules}
 use Rattle.model.specs.Places.{read_of}
 use Rattle.rows.specs.Rows.{row_passage}
 use Rattle.meetings.proofs.Collected.{asked_10, asked_11, asked_12}

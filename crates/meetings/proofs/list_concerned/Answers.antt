@@ -1,35 +1,27 @@
 -- `meetings::list_concerned` meets its contract. Assumes nothing.
-use mathlib.Core.Path.{subst}
-use Prim.Native.Nat.{◌<◌}
 use borrow.Author.Rules.{rules}
-use Rattle.model.specs.Places.{read_of}
-use Rattle.model.specs.Checks.{collides, checked}
-use Rattle.model.specs.Meetings.{sends_met, concerned}
-use Rattle.rows.specs.Rows.{rows_of}
-use Rattle.checks.specs.Faults.{FaultBelow, from11}
-use Rattle.meetings.specs.Asked.{concerned11}
-use Rattle.meetings.proofs.Listing.{passed, failed}
+use Rattle.model.specs.Checks.{checked}
+use Rattle.model.specs.Meetings.{concerned}
+use Rattle.model.specs.declared.Verdict.TheVariants.{Accepted}
+use Rattle.meetings.proofs.Listing.{says_none}
 use Rattle.meetings.proofs.list_concerned.Goals as goal
 
-pub list_fault-requires : goal.list_fault-requires
-list_fault-requires c =
-    let e = c in
-    let a = e.args in
-    let below : c.in-At.i < a.count = subst (FaultBelow a.count) c.in-At.is c.first_collision-fault.ensures.1 in
-    (e.requires, below)
-
-pub returns-in-Nothing : goal.returns-in-Nothing
+pub returns-in-Some : goal.returns-in-Some
 unfolding checked concerned
-returns-in-Nothing c =
-    let a = c.args in
-    let T = (read_of a.table.now).table in
-    let S = rows_of a.rows.now a.count in
-    passed (collides a.spread T a.horizon S) S a.rows.now c.first_collision-fault.result c.first_collision-fault.ensures.0 (λ v. 10) (sends_met a.spread T a.horizon S) (from11 a.spread T a.horizon S) (concerned11 a.spread T a.horizon S) a.list.now c.list_unheard.result _ c.in-Nothing.is c.list_unheard.ensures
+returns-in-Some c = search rules
 
-pub returns-in-At : goal.returns-in-At
+pub returns-in-Some-first_unheard : goal.returns-in-Some-first_unheard
 unfolding checked concerned
-returns-in-At c =
-    let a = c.args in
-    let T = (read_of a.table.now).table in
-    let S = rows_of a.rows.now a.count in
-    failed (collides a.spread T a.horizon S) S a.rows.now c.first_collision-fault.result c.first_collision-fault.ensures.0 (λ v. 10) (sends_met a.spread T a.horizon S) (from11 a.spread T a.horizon S) (concerned11 a.spread T a.horizon S) a.list.now c.list_fault.result _ c.in-At.i c.in-At.is c.list_fault.ensures
+returns-in-Some-first_unheard c = search rules
+
+pub returns-in-Some-first_crowded : goal.returns-in-Some-first_crowded
+unfolding checked concerned
+returns-in-Some-first_crowded c = search rules
+
+pub returns : goal.returns
+unfolding checked concerned
+returns c =
+    let none10 = c.in_default.ensures.0 in
+    let none11 = c.in_default-first_unheard.ensures.0 in
+    let none12 = c.in_default-first_crowded.ensures.0 in
+    rw (← none10, ← none11, ← none12) (says_none Accepted c.args.list.now c.nothing.result c.nothing.ensures.0 c.nothing.ensures.1 c.nothing.ensures.2)

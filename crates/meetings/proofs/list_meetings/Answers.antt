@@ -1,6 +1,5 @@
 -- `meetings::list_meetings` meets its contract. Assumes nothing.
 use mathlib.Core.Path.{sym, subst}
-use borrow.Author.Rules.{rules}
 use Rattle.model.specs.Meetings.{MeetingsCall}
 use Rattle.schedule.proofs.Whole.{rows_placed}
 use Rattle.meetings.specs.Asked.{Says}

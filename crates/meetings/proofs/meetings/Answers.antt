@@ -2,7 +2,6 @@
 use mathlib.Core.Path.{ap, ◌∙◌}
 use Rattle.model.specs.Meetings.{MeetingsCall}
 use Rattle.model.proofs.Run.CallsApart.{meetings_together}
-use borrow.Author.Rules.{rules}
 use Rattle.meetings.proofs.meetings.Goals as goal
 
 pub returns : goal.returns

@@ -1,6 +1,5 @@
 -- `meetings::meetings_spread` meets its contract. Assumes nothing.
 use mathlib.Core.Path.{sym, subst}
-use borrow.Author.Rules.{rules}
 use Rattle.model.specs.Meetings.{MeetingsCall}
 use Rattle.table.proofs.Answered.{refused_at, narrow, valid_at, starts_at}
 use Rattle.meetings.specs.Asked.{Says}

@@ -1,5 +1,4 @@
 -- `meetings::number_of` meets its contract. Assumes nothing.
-use borrow.Author.Rules.{rules}
 use Rattle.meetings.proofs.number_of.Goals as goal
 
 pub returns-in-Unheard : goal.returns-in-Unheard

@@ -1,8 +1,5 @@
 -- `node_events::after_event` meets its contract. Assumes nothing.
-use mathlib.Core.Path.{◌≡◌, refl, sym, ap, ◌∙◌}
-use borrow.Author.Tests.{not-true, not-false}
 use Rattle.node_events.proofs.Laws.{refuses, takes_place}
-use borrow.Author.Rules.{rules}
 use Rattle.node_events.proofs.after_event.Goals as goal
 
 -- src/lib.rt:200:9

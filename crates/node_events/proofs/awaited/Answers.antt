@@ -1,6 +1,5 @@
 -- `node_events::awaited` meets its contract. Assumes nothing.
-use mathlib.Core.Path.{◌≡◌, refl, sym, ap, ◌∙◌}
-use borrow.Author.Tests.{not-true, not-false}
+use mathlib.Core.Path.{refl}
 use Rattle.node_events.proofs.Laws.{awaits_sleep, awaits_work, awaits_send, awaits_message, awaits_nothing}
 use borrow.Author.Rules.{rules}
 use Rattle.node_events.proofs.awaited.Goals as goal

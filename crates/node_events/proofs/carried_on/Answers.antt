@@ -7,25 +7,21 @@ use Rattle.lent_node.specs.Step.{held_of}
 use Rattle.node_events.specs.Events.{carried, most}
 use Rattle.node_events.proofs.carried_on.Goals as goal
 
--- src/lib.rt:47:5
 pub loop-left-init : goal.loop-left-init
 loop-left-init c = refl
 
--- src/lib.rt:49:13
 pub returns-then-not-goes_on : goal.returns-then-not-goes_on
 returns-then-not-goes_on c =
     let a = c.args in
     let l = c.loop-left in
     sym (carried_stops a.part.now (held_of a.clocks a.variables) a.first a.last l.left l.next (sym c.goes_on.ensures ∙ not-true _ c.if-not-goes_on.true-raw)) ∙ l.invariant
 
--- src/lib.rt:47:5
 pub loop-left-preserved : goal.loop-left-preserved
 loop-left-preserved c =
     let a = c.args in
     let l = c.loop-left in
     carried_goes a.part.now (held_of a.clocks a.variables) a.first a.last l.left _ l.next c.stepped-next.result c.loop-left-test.true refl (sym c.goes_on.ensures ∙ not-false _ c.if-not-goes_on.false-raw) c.stepped-next.ensures ∙ l.invariant
 
--- src/lib.rt:42:1
 pub returns : goal.returns
 returns c =
     let a = c.args in

@@ -1,7 +1,5 @@
 -- `node_events::finish_tick` meets its contract. Assumes nothing.
 use mathlib.Core.List.{[]}
-use mathlib.Core.Path.{◌≡◌, refl, sym, ap, ◌∙◌}
-use borrow.Author.Tests.{not-true, not-false}
 use Rattle.node_events.proofs.Laws.{finished_before, finishes_now}
 use Rattle.node_events.proofs.finish_tick.Goals as goal
 

@@ -1,8 +1,6 @@
 -- `node_events::first_tick` meets its contract. Assumes nothing.
-use mathlib.Core.Path.{◌≡◌, refl, sym, ap, ◌∙◌}
-use borrow.Author.Tests.{not-true, not-false}
+use mathlib.Core.Path.{refl}
 use Rattle.node_events.proofs.Laws.{opens_at_end, opens_at_ready}
-use borrow.Author.Rules.{rules}
 use Rattle.node_events.proofs.first_tick.Goals as goal
 
 -- src/lib.rt:143:9

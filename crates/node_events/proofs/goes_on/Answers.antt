@@ -1,8 +1,5 @@
 -- `node_events::goes_on` meets its contract. Assumes nothing.
-use mathlib.Core.Path.{◌≡◌, refl, sym, ap, ◌∙◌}
-use borrow.Author.Tests.{not-true, not-false}
 use Rattle.node_events.proofs.Laws.{goes_is}
-use borrow.Author.Rules.{rules}
 use Rattle.node_events.proofs.goes_on.Goals as goal
 
 -- src/lib.rt:32:1

@@ -1,8 +1,5 @@
 -- `node_events::happened` meets its contract. Assumes nothing.
-use mathlib.Core.Path.{◌≡◌, refl, sym, ap, ◌∙◌}
-use borrow.Author.Tests.{not-true, not-false}
 use Rattle.node_events.proofs.Laws.{is-late, is_told}
-use borrow.Author.Rules.{rules}
 use Rattle.node_events.proofs.happened.Goals as goal
 
 -- src/lib.rt:211:9

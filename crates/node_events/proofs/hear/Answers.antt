@@ -1,9 +1,6 @@
 -- `node_events::hear` meets its contract. Assumes nothing.
-use mathlib.Core.Path.{◌≡◌, refl, sym, ap, ◌∙◌}
-use borrow.Author.Tests.{not-true, not-false}
 use Rattle.node_events.proofs.Laws.{settled_of}
 use Rattle.lent_node.specs.Step.{held_of}
-use borrow.Author.Rules.{rules}
 use Rattle.node_events.proofs.hear.Goals as goal
 
 -- src/lib.rt:87:1

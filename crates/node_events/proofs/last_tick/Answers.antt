@@ -1,8 +1,6 @@
 -- `node_events::last_tick` meets its contract. Assumes nothing.
-use mathlib.Core.Path.{◌≡◌, refl, sym, ap, ◌∙◌}
-use borrow.Author.Tests.{not-true, not-false}
+use mathlib.Core.Path.{refl}
 use Rattle.node_events.proofs.Laws.{closes_at_ready, closes_at_end}
-use borrow.Author.Rules.{rules}
 use Rattle.node_events.proofs.last_tick.Goals as goal
 
 -- src/lib.rt:153:9

@@ -1,6 +1,5 @@
 -- `node_events::listens` meets its contract. Assumes nothing.
 use Rattle.node_events.proofs.Laws.{names_none, names_it}
-use borrow.Author.Rules.{rules}
 use Rattle.node_events.proofs.listens.Goals as goal
 
 pub returns-then-part-gt65535 : goal.returns-then-part-gt65535

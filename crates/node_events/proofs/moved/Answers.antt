@@ -1,9 +1,6 @@
 -- `node_events::moved` meets its contract. Assumes nothing.
-use mathlib.Core.Path.{◌≡◌, refl, sym, ap, ◌∙◌}
-use borrow.Author.Tests.{not-true, not-false}
 use Rattle.node_events.proofs.Laws.{by_waking, by_work, by_message, by_passing}
 use Rattle.lent_node.specs.Step.{held_of}
-use borrow.Author.Rules.{rules}
 use Rattle.node_events.proofs.moved.Goals as goal
 
 -- src/lib.rt:175:9

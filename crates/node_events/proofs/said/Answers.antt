@@ -1,5 +1,5 @@
 -- `node_events::said` meets its contract. Assumes nothing.
-use mathlib.Core.Path.{◌≡◌, refl, sym, ap, ◌∙◌}
+use mathlib.Core.Path.{sym, ◌∙◌}
 use borrow.Author.Tests.{not-true, not-false}
 use Rattle.node_events.proofs.Laws.{no_tick, no-part, not_awaited, says_when}
 use borrow.Author.Rules.{rules}

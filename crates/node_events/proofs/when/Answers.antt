@@ -1,8 +1,5 @@
 -- `node_events::when` meets its contract. Assumes nothing.
-use mathlib.Core.Path.{◌≡◌, refl, sym, ap, ◌∙◌}
-use borrow.Author.Tests.{not-true, not-false}
 use Rattle.node_events.proofs.Laws.{too_early, too-late, in-time}
-use borrow.Author.Rules.{rules}
 use Rattle.node_events.proofs.when.Goals as goal
 
 -- src/lib.rt:164:9

@@ -6,7 +6,6 @@ use lib.ListN.{drop}
 use Rattle.model.specs.Reader.{edge_fine}
 use Rattle.parts.proofs.Skim.{tail}
 use Rattle.parts.proofs.Sequence.{moved, further, arc_short, arc_bad, arc_good}
-use borrow.Author.Rules.{rules}
 use Rattle.parts.proofs.arc.Goals as goal
 
 pub returns-then-component-at-lt-EDGE_HEADER : goal.returns-then-component-at-lt-EDGE_HEADER

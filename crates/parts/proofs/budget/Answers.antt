@@ -2,7 +2,6 @@
 use native.Mathlib.Omega.{arith}
 use borrow.Author.Tests.{not-true, not-false}
 use Rattle.parts.proofs.Sequence.{no_budget, budget_short, budget_bad, budget_good}
-use borrow.Author.Rules.{rules}
 use Rattle.parts.proofs.budget.Goals as goal
 
 pub returns-then-not-sizes : goal.returns-then-not-sizes

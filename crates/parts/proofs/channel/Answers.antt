@@ -6,7 +6,6 @@ use borrow.Author.Tests.{lt-ltb, le-ltb}
 use lib.ListN.{drop}
 use Rattle.model.specs.Reader.{byte, channel_fine}
 use Rattle.parts.proofs.Skim.{part_good, part_short, part_bad, first_of}
-use borrow.Author.Rules.{rules}
 use Rattle.parts.proofs.channel.Goals as goal
 
 pub returns-then-component-at-lt1 : goal.returns-then-component-at-lt1

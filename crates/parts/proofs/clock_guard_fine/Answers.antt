@@ -1,5 +1,4 @@
 -- `parts::clock_guard_fine` meets its contract. Assumes nothing.
-use borrow.Author.Rules.{rules}
 use Rattle.parts.proofs.clock_guard_fine.Goals as goal
 
 pub returns : goal.returns

@@ -4,7 +4,6 @@ use Rattle.parts.specs.declared.Kind.{Kind}
 use lib.ListN.{length}
 use Prim.Native.Nat.{◌≤◌}
 use mathlib.Core.Path.{subst}
-use borrow.Author.Rules.{rules}
 use Rattle.parts.proofs.fine.Goals as goal
 
 pub location_fine-requires : goal.location_fine-requires

@@ -1,30 +1,18 @@
 -- `parts::listed_before` meets its contract. Assumes nothing.
-use borrow.Author.Rules.{rules}
-use mathlib.Core.Path.{◌≡◌, refl, sym, ◌∙◌}
-use Prim.Native.Nat.{◌≤◌}
+use mathlib.Core.Path.{refl, ◌∙◌}
+use Prim.Native.Nat.{◌*◌}
+use lib.Dec.{eqb}
 use native.Mathlib.Omega.{arith}
-use Rattle.model.specs.Reader.{listed}
-use Rattle.parts.specs.Place.{channels_before}
-use Rattle.parts.proofs.EdgeItems.{found, passed_by, not_found}
+use borrow.Author.Rules.{rules}
+use borrow.Author.Tests.{tests}
+use Rattle.std.proofs.lemmas.Iterator.{YieldsList-from_range}
+use Rattle.std.proofs.lemmas.Iterator.Search.{any_from_yields_List}
+use Rattle.model.specs.Reader.{byte}
+use Rattle.parts.proofs.EdgeItems.{any_listed}
 use Rattle.parts.proofs.listed_before.Goals as goal
-
-pub loop-k-init : goal.loop-k-init
-loop-k-init c = (search rules, refl)
-
-pub returns-then-bytes-k : goal.returns-then-bytes-k
-returns-then-bytes-k c =
-    let a = c.args in
-    let l = c.loop-k in
-    sym (found a.bytes.now a.channel l.k (omega arith) c.if-bytes-k.true) ∙ l.invariant.1
-
-pub loop-k-preserved : goal.loop-k-preserved
-loop-k-preserved c =
-    let a = c.args in
-    let l = c.loop-k in
-    (search rules, sym (passed_by a.bytes.now a.channel l.k (omega arith) c.if-bytes-k.false) ∙ l.invariant.1)
 
 pub returns : goal.returns
 returns c =
     let a = c.args in
-    let l = c.loop-k in
-    sym (not_found a.bytes.now a.channel l.k (omega arith)) ∙ l.invariant.1
+    any_from_yields_List (λ k. eqb (byte a.bytes.now (k * 2)) a.channel) _ _ _ c.any.ensures.ran (YieldsList-from_range 0 a.count a.count refl (omega arith)) (λ x b q k. search (rules, tests))
+    ∙ any_listed a.bytes.now a.channel a.count

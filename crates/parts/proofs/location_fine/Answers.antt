@@ -1,5 +1,4 @@
 -- `parts::location_fine` meets its contract. Assumes nothing.
-use borrow.Author.Rules.{rules}
 use Rattle.parts.proofs.location_fine.Goals as goal
 
 pub returns : goal.returns

@@ -1,21 +1,13 @@
 -- `parts::pairs` meets its contract. Assumes nothing.
-use borrow.Author.Rules.{rules}
-use borrow.Author.Tests.{not-true, not-false}
-use mathlib.Core.Path.{◌≡◌, refl, sym, ap, ◌∙◌}
-use mathlib.Core.List.{List, []}
-use Prim.Native.Nat.{ℕ, ◌+◌, ◌*◌, ◌≤◌}
-use native.Mathlib.Omega.{arith}
-use lib.ListN.{length, drop, get_or}
-use Rattle.model.specs.Reader.{pair_fine, read_pairs, listed}
+use mathlib.Core.Path.{◌≡◌}
+use mathlib.Core.List.{[]}
+use Prim.Native.Nat.{◌+◌, ◌-◌, ◌*◌, ◌≤◌}
+use lib.ListN.{length, drop}
+use Rattle.model.specs.Reader.{read_pairs}
 use Rattle.parts.specs.Place.{skim, channels_before}
-use Rattle.parts.proofs.Skim.{tail}
-use Rattle.parts.proofs.EdgeItems.{pairs_short, pairs_bad, pairs_twice, pairs_turn, pairs_done}
 use Rattle.parts.proofs.pairs.Given as goal
 
-abbrev pub invariant-loop-k : goal.invariant-loop-k
-invariant-loop-k l =
-    (l.at ≡ l.from + l.i * 2) × (l.at ≤ length l.component)
-    × (skim (read_pairs l.sizes l.k (channels_before (drop l.from l.component) l.i) (drop l.at l.component)) ≡ skim (read_pairs l.sizes l.count [] (drop l.from l.component)))
-
-abbrev pub decreases-loop-k : goal.decreases-loop-k
-decreases-loop-k l = l.k
+abbrev pub invariant-loop-i : goal.invariant-loop-i
+invariant-loop-i l =
+    (l.from + l.i * 2 ≤ length l.component)
+    × (skim (read_pairs l.sizes (l.count - l.i) (channels_before (drop l.from l.component) l.i) (drop (l.from + l.i * 2) l.component)) ≡ skim (read_pairs l.sizes l.count [] (drop l.from l.component)))

@@ -1,6 +1,5 @@
 -- `parts::word_at` meets its contract. Assumes nothing.
 use native.Mathlib.Numerals.{add-one}
-use borrow.Author.Rules.{rules}
 use Rattle.parts.proofs.word_at.Goals as goal
 
 pub returns : goal.returns

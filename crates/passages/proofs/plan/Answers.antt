@@ -1,14 +1,8 @@
 use mathlib.Core.Path.{◌≡◌}
 use mathlib.Core.List.{List}
 use Prim.Native.Nat.{ℕ}
-use borrow.Author.Rules.{rules}
 use lib.ListN.{length, replicate, length-replicate}
 use Rattle.passages.proofs.Planning.{slice_bytes, plans_refused, plans_short, plans_laid, few_planned, long_planned, small_planned}
-use Rattle.passages.proofs.plan.Reads as reads
-use Rattle.passages.proofs.plan.Lts as lts
-use Rattle.passages.proofs.laid_out.Reads as laid-out-reads
-use Rattle.passages.proofs.refused.Reads as refused-reads
-use Rattle.calls.proofs.schedule.Reads as schedule-reads
 use Rattle.passages.proofs.plan.Goals as goal
 
 -- the numbers before the call

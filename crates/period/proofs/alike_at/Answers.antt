@@ -1,5 +1,5 @@
 -- `period::alike_at` meets its contract. Assumes nothing.
-use mathlib.Core.Path.{◌≡◌, sym, ◌∙◌}
+use mathlib.Core.Path.{sym, ◌∙◌}
 use native.Mathlib.Omega.{arith}
 use Rattle.period.proofs.Joining.{no_state}
 use Rattle.period.proofs.alike_at.Goals as goal

@@ -1,16 +1,13 @@
 -- `period::carry` meets its contract. Assumes nothing.
-use mathlib.Core.Path.{◌≡◌, sym, ap, subst}
-use mathlib.Core.List.{List}
-use Prim.Native.Nat.{ℕ, ◌+◌, ◌-◌, ◌≤◌, ◌<◌}
+use mathlib.Core.Path.{◌≡◌, refl, sym, ap, subst}
+use Prim.Native.Nat.{ℕ, ◌+◌, ◌≤◌, ◌<◌}
 use native.Mathlib.Omega.{arith}
 use lib.ListN.{set}
 use Rattle.model.specs.Lists.{All}
 use Rattle.model.specs.Places.{read_of}
 use Rattle.model.specs.Schedule.{passage_arc}
-use Rattle.window.specs.declared.Entry.{Entry}
 use Rattle.rows.specs.Rows.{num, row_passage}
 use Rattle.replay.specs.Growing.{Grown}
-use Rattle.period.specs.declared.Walker.{Walker}
 use Rattle.period.specs.Walking.{entry_at, On}
 use Rattle.schedule.proofs.Tables.{few_components}
 use Rattle.period.proofs.Walks.{present, known, entered_then, on_next}
@@ -81,12 +78,6 @@ bounds-entries-component-in-loop-row c =
     omega (arith, c.index-component.ensures, present a.table.now a.rows.now a.count e.requires.0 (walker o.row o.entries) o.invariant.0 (omega (arith, c.loop-row-test.true, e.requires.3)), few_components a.table.now c.type_inv.table e.requires.0.placed.valid)) in
     small
 
-pub overflow_add-row : goal.overflow_add-row
-overflow_add-row c = omega (arith, c.loop-row-test.true, c.requires.3, c.requires.0.placed.few)
-
-pub loop-row-smaller : goal.loop-row-smaller
-loop-row-smaller c = omega (arith, c.loop-row-test.true)
-
 pub loop-row-preserved : goal.loop-row-preserved
 loop-row-preserved c =
     let a = c.args in
@@ -104,4 +95,7 @@ loop-row-preserved c =
     )
 
 pub returns : goal.returns
-returns c = (c.loop-row.invariant.0, omega (arith, c.loop-row.invariant.1, c.loop-row-test.false))
+returns c =
+    let l = c.loop-row in
+    let end : l.row ≡ c.args.until = omega (arith, l.invariant.1, c.loop-row-test.false) in
+    (subst (λ (i : ℕ). On c.args.table.now c.args.count (walker i l.entries)) end l.invariant.0, refl)

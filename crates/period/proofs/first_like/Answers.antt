@@ -1,13 +1,12 @@
 -- `period::first_like` meets its contract. Assumes nothing.
-use mathlib.Core.Path.{◌≡◌, refl, sym, ap, ◌∙◌}
-use mathlib.Core.Bool.{true}
-use Prim.Native.Nat.{ℕ, ◌+◌, ◌-◌, ◌≤◌, ◌<◌}
+use mathlib.Core.Path.{sym, ap, ◌∙◌}
+use Prim.Native.Nat.{ℕ, ◌+◌, ◌≤◌}
 use native.Mathlib.Omega.{arith}
 use Rattle.model.proofs.Basics.Bools.{clash}
 use Rattle.schedule.proofs.Tables.{some_components, few_components}
 use Rattle.rows.specs.Rows.{num}
-use Rattle.period.specs.Walking.{On, Joins}
-use Rattle.period.proofs.Searches.{not_beyond, Tried, tried_start, tried_late, is_early, tried_early, tried_all}
+use Rattle.std.specs.Prelude.{Some}
+use Rattle.period.proofs.Searches.{not_beyond, tried_start, tried_late, is_early, tried_early, tried_all}
 use Rattle.period.proofs.first_like.Goals as goal
 
 pub loop-late-init : goal.loop-late-init
@@ -82,9 +81,7 @@ returns-then-alike_at c =
       j = l.late.row;
       apart = record { early = l.invariant.2; late = l.invariant.3 c.loop-late-test.true; distant = q.0 ∙ ap (λ (x : ℕ). x + a.distance) c.number-from.ensures; alike = q.1 };
       first = l.invariant.5.never;
-      found = refl;
-      from = c.number-from.ensures;
-      to = ap (λ (x : ℕ). x + a.distance) c.number-from.ensures;
+      told = ap (λ (x : ℕ). Some (record { from = x; to = x + a.distance })) c.number-from.ensures;
     }
 
 pub next_joint-early-requires : goal.next_joint-early-requires

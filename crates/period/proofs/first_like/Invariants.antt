@@ -1,13 +1,7 @@
 -- `period::first_like` meets its contract. Assumes nothing.
-use mathlib.Core.Path.{◌≡◌, refl, sym, ap, ◌∙◌}
-use mathlib.Core.Bool.{true}
-use Prim.Native.Nat.{ℕ, ◌+◌, ◌-◌, ◌≤◌, ◌<◌}
-use native.Mathlib.Omega.{arith}
-use Rattle.model.proofs.Basics.Bools.{clash}
-use Rattle.schedule.proofs.Tables.{some_components, few_components}
-use Rattle.rows.specs.Rows.{num}
+use Prim.Native.Nat.{◌+◌, ◌-◌, ◌≤◌, ◌<◌}
 use Rattle.period.specs.Walking.{On, Joins}
-use Rattle.period.proofs.Searches.{not_beyond, Tried, tried_start, tried_late, is_early, tried_early, tried_all}
+use Rattle.period.proofs.Searches.{Tried}
 use Rattle.period.proofs.first_like.Given as goal
 
 abbrev pub invariant-loop-late : goal.invariant-loop-late

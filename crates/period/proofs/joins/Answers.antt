@@ -1,8 +1,7 @@
 -- `period::joins` meets its contract. Assumes nothing.
 use mathlib.Core.Path.{◌≡◌, sym, ◌∙◌}
-use Prim.Native.Nat.{ℕ, ◌+◌, ◌-◌, ◌≤◌, ◌<◌}
+use Prim.Native.Nat.{ℕ, ◌+◌}
 use native.Mathlib.Omega.{arith}
-use borrow.Author.Rules.{rules}
 use Rattle.rows.specs.Rows.{num}
 use Rattle.period.proofs.Joining.{too_few, not_joined, joined, one_more}
 use Rattle.period.proofs.joins.Goals as goal
@@ -44,12 +43,6 @@ returns-then-number-tick c =
     let e = c in
     let l = c.loop-c in
     not_joined e.args.rows.now e.args.count e.args.components e.args.row e.requires.2 l.c c.loop-c-test.true (λ q. c.if-number-tick.true (c.number.ensures ∙ q.1 ∙ sym l.invariant.2))
-
-pub overflow_add-c : goal.overflow_add-c
-overflow_add-c c = let p = c.requires in omega (arith, p.3, c.loop-c-test.true)
-
-pub loop-c-smaller : goal.loop-c-smaller
-loop-c-smaller c = omega (arith, c.loop-c-test.true)
 
 pub loop-c-preserved : goal.loop-c-preserved
 loop-c-preserved c =

@@ -1,14 +1,7 @@
 -- `period::last_joint` meets its contract. Assumes nothing.
-use mathlib.Core.Path.{◌≡◌, sym, subst, ◌∙◌}
-use Prim.Native.Nat.{ℕ, ◌-◌, ◌<◌}
-use native.Mathlib.Omega.{arith}
-use Rattle.model.proofs.Basics.Bools.{clash}
+use Prim.Native.Nat.{ℕ, ◌≤◌, ◌<◌}
 use Rattle.period.specs.Walking.{Joins}
-use Rattle.period.proofs.Joining.{none_above}
 use Rattle.period.proofs.last_joint.Given as goal
 
 abbrev pub invariant-loop-row : goal.invariant-loop-row
-invariant-loop-row l = (l.row < l.count) × ((j : ℕ) → l.row < j → j < l.count → Joins l.rows l.count l.components j → ⊥)
-
-abbrev pub decreases-loop-row : goal.decreases-loop-row
-decreases-loop-row l = l.row
+invariant-loop-row l = (1 ≤ l.row) × (l.row ≤ l.count) × ((j : ℕ) → l.row ≤ j → j < l.count → Joins l.rows l.count l.components j → ⊥)

@@ -1,15 +1,12 @@
 -- `period::last_like` meets its contract. Assumes nothing.
-use mathlib.Core.Path.{◌≡◌, refl, sym, subst, ◌∙◌}
-use mathlib.Core.Bool.{true}
-use mathlib.Core.Logic.{⊎_elim}
-use Prim.Native.Nat.{ℕ, ◌+◌, ◌-◌, ◌≤◌, ◌<◌}
+use mathlib.Core.Path.{◌≡◌, sym, subst, ◌∙◌}
+use Prim.Native.Nat.{ℕ, ◌≤◌, ◌<◌}
 use native.Mathlib.Omega.{arith}
 use Rattle.model.proofs.Basics.Bools.{clash}
 use Rattle.schedule.proofs.Tables.{some_components, few_components}
-use Rattle.recurrence.proofs.Joint.{RowsAlike}
-use Rattle.period.specs.Walking.{schedule_in, On, Joins}
 use Rattle.period.proofs.Likeness.{room}
-use Rattle.period.proofs.Searches.{not_beyond, SoFar, so_far_start, so_far_kept, so_far_found, so_far_all}
+use Rattle.period.proofs.Searches.{not_beyond, none_before, last_kept, last_found}
+use Rattle.period.specs.Searching.{LastBefore, Like}
 use Rattle.period.proofs.last_like.Goals as goal
 use Rattle.period.proofs.last_like.Goals.{then-alike, else-alike}
 
@@ -18,7 +15,7 @@ loop-here-init c =
     let e = c in
     let a = e.args in
     let p = e.requires in
-    (p.4, omega (arith, p.8), p.6, so_far_start a.table.now a.rows.now a.count a.components a.last.row a.first.row p.8)
+    (p.4, omega (arith, p.8), p.6, none_before (Like a.table.now a.rows.now a.count a.components a.last.row) a.first.row p.8)
 
 pub alike-requires : goal.alike-requires
 alike-requires c =
@@ -56,15 +53,16 @@ loop-here-preserved c =
     let a = e.args in
     let p = e.requires in
     let l = c.loop-here in
+    let like = Like a.table.now a.rows.now a.count a.components a.last.row in
     let within = not_beyond a.rows.now a.count a.components l.here.row c.next_joint-here.result.row a.last.row c.next_joint-here.ensures.1 c.loop-here-test.true p.7 in (
       c.next_joint-here.ensures.0,
       within,
       c.next_joint-here.ensures.1.there (omega (arith, within, last-there.0)),
       elim c.if-alike.branch [
-        | then-alike w ↦ subst (SoFar a.table.now a.rows.now a.count a.components a.last.row c.next_joint-here.result.row) (sym w.like-is)
-            (so_far_found a.table.now a.rows.now a.count a.components a.last.row l.here.row c.next_joint-here.result.row l.like c.next_joint-here.ensures.1 c.loop-here-test.true l.invariant.2 (c.alike.ensures.0 w.if-alike.true))
-        | else-alike w ↦ subst (SoFar a.table.now a.rows.now a.count a.components a.last.row c.next_joint-here.result.row) (sym w.like-is)
-            (so_far_kept a.table.now a.rows.now a.count a.components a.last.row l.here.row c.next_joint-here.result.row l.like c.next_joint-here.ensures.1 l.invariant.3 (λ z. clash (sym w.if-alike.false ∙ c.alike.ensures.1 z)))
+        | then-alike w ↦ subst (LastBefore like c.next_joint-here.result.row) (sym w.like-is)
+            (last_found a.rows.now a.count a.components like (λ j p. p.0) l.here.row c.next_joint-here.result.row c.next_joint-here.ensures.1 (l.invariant.2, c.alike.ensures.0 w.if-alike.true))
+        | else-alike w ↦ subst (LastBefore like c.next_joint-here.result.row) (sym w.like-is)
+            (last_kept a.rows.now a.count a.components like (λ j p. p.0) l.here.row c.next_joint-here.result.row c.next_joint-here.ensures.1 (λ z. clash (sym w.if-alike.false ∙ c.alike.ensures.1 z.1)) l.like l.invariant.3)
       ],
     )
 
@@ -72,4 +70,5 @@ pub returns : goal.returns
 returns c =
     let a = c.args in
     let l = c.loop-here in
-    so_far_all a.table.now a.rows.now a.count a.components a.last.row l.here.row l.like (omega (arith, c.loop-here-test.false)) l.invariant.3
+    let end : l.here.row ≡ a.last.row = omega (arith, l.invariant.1, c.loop-here-test.false) in
+    subst (λ (h : ℕ). LastBefore (Like a.table.now a.rows.now a.count a.components a.last.row) h l.like) end l.invariant.3

@@ -1,5 +1,4 @@
 -- `period::pair` meets its contract. Assumes nothing.
-use borrow.Author.Rules.{rules}
 use Rattle.table.proofs.Answered.{was_valid, its_starts, read_refused}
 use Rattle.recurrence.proofs.Calls.{pair_true}
 use Rattle.period.proofs.Telling.{not_read}

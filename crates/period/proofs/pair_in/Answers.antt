@@ -1,8 +1,7 @@
 -- `period::pair_in` meets its contract. Assumes nothing.
-use mathlib.Core.Path.{◌≡◌, refl, sym, ap₂, subst, ◌∙◌}
-use Prim.Native.Nat.{ℕ, ◌-◌, ◌≤◌, ◌<◌}
+use mathlib.Core.Path.{◌≡◌, sym, ap₂, subst, ◌∙◌}
+use Prim.Native.Nat.{ℕ, ◌-◌, ◌≤◌}
 use native.Mathlib.Omega.{arith}
-use borrow.Author.Rules.{rules}
 use Rattle.model.specs.Table.{size}
 use Rattle.model.specs.Places.{read_of}
 use Rattle.rows.specs.Rows.{num}
@@ -38,8 +37,8 @@ last_joint-last-requires c =
       starts_joined a.table.now a.rows.now a.count e.requires.0 c.wide-components.result all least,
     )
 
-pub like_before-like-requires : goal.like_before-like-requires
-like_before-like-requires c =
+pub like_before-requires : goal.like_before-requires
+like_before-requires c =
     let all : c.wide-components.result ≡ size (read_of c.args.table.now).table =
     (let e = c in c.wide-components.ensures.0 ∙ counted e.args.table.now c.type_inv.table e.requires.0.placed.valid) in
     let least : 1 ≤ c.wide-components.result =
@@ -51,29 +50,27 @@ like_before-like-requires c =
     let p = c.requires in
     (p.0, p.1, all, c.budgeted-budgets.ensures, c.start-first.ensures.0, first-row, c.last_joint-last.ensures.joins, c.start-first.ensures.1)
 
-pub returns-then-like-last : goal.returns-then-like-last
-returns-then-like-last c =
+pub returns-in_err-like : goal.returns-in_err-like
+returns-in_err-like c =
     let all : c.wide-components.result ≡ size (read_of c.args.table.now).table =
     (let e = c in c.wide-components.ensures.0 ∙ counted e.args.table.now c.type_inv.table e.requires.0.placed.valid) in
     let least : 1 ≤ c.wide-components.result =
     (let e = c in omega (arith, all, some_components e.args.table.now c.type_inv.table e.requires.0.placed.valid)) in
     let e = c in
     let a = e.args in
-    no_pair a.table.now a.rows.now a.count e.requires.0 c.wide-components.result all least (least-horizon a.table.now c.type_inv.table e.requires.0.placed.valid) c.last_joint-last.result c.like_before-like.result
-    c.last_joint-last.ensures c.like_before-like.ensures c.if-like-last.true _ refl refl refl
+    rw c.from_residual.ensures (no_pair a.table.now a.rows.now a.count e.requires.0 c.wide-components.result all least (least-horizon a.table.now c.type_inv.table e.requires.0.placed.valid) c.last_joint-last.result
+    c.last_joint-last.ensures c.in_err-like.ensures)
 
 pub number-requires : goal.number-requires
 number-requires c = omega (arith, c.requires.0.placed.fits, c.last_joint-last.ensures.there)
 
 pub number-requires-2 : goal.number-requires-2
-number-requires-2 c = omega (arith, c.requires.0.placed.fits, c.last_joint-last.ensures.there, c.like_before-like.ensures.among)
+number-requires-2 c = omega (arith, c.requires.0.placed.fits, c.last_joint-last.ensures.there, c.in_ok-like.ensures.0)
 
 pub overflow_sub-distance : goal.overflow_sub-distance
 overflow_sub-distance c =
-    let before : c.like_before-like.result < c.last_joint-last.result =
-    (omega (arith, c.like_before-like.ensures.among, c.if-like-last.false)) in
     let p = c.requires in
-    omega (arith, c.number-2.ensures, c.number.ensures, p.0.placed.order c.like_before-like.result c.last_joint-last.result (omega (arith, before)) c.last_joint-last.ensures.there)
+    omega (arith, c.number-2.ensures, c.number.ensures, p.0.placed.order c.in_ok-like.like c.last_joint-last.result (omega (arith, c.in_ok-like.ensures.0)) c.last_joint-last.ensures.there)
 
 pub first_like-requires : goal.first_like-requires
 first_like-requires c =
@@ -85,14 +82,12 @@ first_like-requires c =
     (let e = c in
     let a = e.args in
     subst (Joins a.rows.now a.count c.wide-components.result) (sym c.start-first.ensures.1) (starts_joined a.table.now a.rows.now a.count e.requires.0 c.wide-components.result all least)) in
-    let before : c.like_before-like.result < c.last_joint-last.result =
-    (omega (arith, c.like_before-like.ensures.among, c.if-like-last.false)) in
-    let apart-is : c.number.result - c.number-2.result ≡ num c.args.rows.now c.last_joint-last.result 3 - num c.args.rows.now c.like_before-like.result 3 =
+    let apart-is : c.number.result - c.number-2.result ≡ num c.args.rows.now c.last_joint-last.result 3 - num c.args.rows.now c.in_ok-like.like 3 =
     (ap₂ (λ (x y : ℕ). x - y) c.number.ensures c.number-2.ensures) in
     let e = c in
     let a = e.args in
     let p = e.requires in
-    let d = distant a.table.now a.rows.now a.count p.0 c.wide-components.result all least (least-horizon a.table.now c.type_inv.table p.0.placed.valid) c.last_joint-last.result c.like_before-like.result c.last_joint-last.ensures c.like_before-like.ensures before (c.number.result - c.number-2.result) apart-is in
+    let d = distant a.table.now a.rows.now a.count p.0 c.wide-components.result all least (least-horizon a.table.now c.type_inv.table p.0.placed.valid) c.last_joint-last.result c.last_joint-last.ensures c.in_ok-like.like c.in_ok-like.ensures (c.number.result - c.number-2.result) apart-is in
     let r = p.0.placed.row c.last_joint-last.result c.last_joint-last.ensures.there in (
       p.0,
       p.1,
@@ -103,7 +98,7 @@ first_like-requires c =
       c.start-first.ensures.1,
       d.0,
       omega (arith, c.number.ensures, r.early, r.window, r.small),
-      (c.like_before-like.result, c.last_joint-last.result, d.1),
+      (c.in_ok-like.like, c.last_joint-last.result, d.1),
     )
 
 pub returns : goal.returns
@@ -112,13 +107,11 @@ returns c =
     (let e = c in c.wide-components.ensures.0 ∙ counted e.args.table.now c.type_inv.table e.requires.0.placed.valid) in
     let least : 1 ≤ c.wide-components.result =
     (let e = c in omega (arith, all, some_components e.args.table.now c.type_inv.table e.requires.0.placed.valid)) in
-    let before : c.like_before-like.result < c.last_joint-last.result =
-    (omega (arith, c.like_before-like.ensures.among, c.if-like-last.false)) in
-    let apart-is : c.number.result - c.number-2.result ≡ num c.args.rows.now c.last_joint-last.result 3 - num c.args.rows.now c.like_before-like.result 3 =
+    let apart-is : c.number.result - c.number-2.result ≡ num c.args.rows.now c.last_joint-last.result 3 - num c.args.rows.now c.in_ok-like.like 3 =
     (ap₂ (λ (x y : ℕ). x - y) c.number.ensures c.number-2.ensures) in
     let n = c in
     let e = c in
     let a = e.args in
     let p = e.requires in
-    one-pair a.table.now a.rows.now a.count p.0 c.wide-components.result all least (least-horizon a.table.now c.type_inv.table p.0.placed.valid) c.last_joint-last.result c.like_before-like.result c.last_joint-last.ensures c.like_before-like.ensures before
+    one-pair a.table.now a.rows.now a.count p.0 c.wide-components.result all least (least-horizon a.table.now c.type_inv.table p.0.placed.valid) c.last_joint-last.result c.last_joint-last.ensures c.in_ok-like.like c.in_ok-like.ensures
     (c.number.result - c.number-2.result) apart-is c.first_like.result c.first_like.ensures

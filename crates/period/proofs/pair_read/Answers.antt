@@ -1,6 +1,5 @@
 -- `period::pair_read` meets its contract. Assumes nothing.
-use mathlib.Core.Path.{◌≡◌, refl, sym, ◌∙◌}
-use borrow.Author.Rules.{rules}
+use mathlib.Core.Path.{refl, sym, ◌∙◌}
 use Rattle.table.proofs.Answered.{verdict_refused}
 use Rattle.schedule.proofs.Accepted.{accepted_rows}
 use Rattle.period.proofs.Telling.{not_planned, pair_told}
@@ -19,4 +18,4 @@ returns-in-Refused c =
 pub returns-in-Accepted : goal.returns-in-Accepted
 returns-in-Accepted c =
     let s = c in
-    pair_told s.args.table.now _ _ (accepted_rows s.args.table.now _ c.plan_rows-planned.result c.plan_rows-planned.ensures c.in-Accepted.is) c.pair_in-pair.result c.pair_in-pair.ensures _ refl refl refl refl
+    pair_told s.args.table.now _ _ (accepted_rows s.args.table.now _ c.plan_rows-planned.result c.plan_rows-planned.ensures c.in-Accepted.is) c.pair_in-pair.result c.pair_in-pair.ensures _ refl refl

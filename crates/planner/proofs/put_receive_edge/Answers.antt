@@ -3,7 +3,6 @@ use Rattle.planner.proofs.Pieces.{hearing_bytes}
 use native.Mathlib.Omega.{arith}
 use lib.ListN.{length-set}
 use Rattle.planner.proofs.Runs.{put_is, put_join, put_two}
-use borrow.Author.Rules.{rules}
 use Rattle.planner.proofs.put_receive_edge.Goals as goal
 
 pub bounds-out-item-2 : goal.bounds-out-item-2

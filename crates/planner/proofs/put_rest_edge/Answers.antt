@@ -1,9 +1,7 @@
 -- `planner::put_rest_edge` meets its contract. Assumes nothing.
-use mathlib.Core.Path.{refl}
 use Rattle.model.specs.Lists.{each}
 use Rattle.model.specs.Bytes.{item_bytes, arc_bytes}
 use Rattle.planner.proofs.Runs.{put_join}
-use borrow.Author.Rules.{rules}
 use Rattle.planner.proofs.put_rest_edge.Goals as goal
 
 pub returns : goal.returns

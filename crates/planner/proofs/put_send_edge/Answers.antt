@@ -4,7 +4,6 @@ use Rattle.model.specs.Bytes.{item_bytes, arc_bytes}
 use native.Mathlib.Omega.{arith}
 use lib.ListN.{length-set}
 use Rattle.planner.proofs.Runs.{put_join, put_one}
-use borrow.Author.Rules.{rules}
 use Rattle.planner.proofs.put_send_edge.Goals as goal
 
 pub shape_of-out : goal.shape_of-out

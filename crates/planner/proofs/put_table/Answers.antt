@@ -2,7 +2,6 @@
 use native.Mathlib.Omega.{arith}
 use Rattle.planner.proofs.Runs.{put_is, put_join, put_long}
 use Rattle.planner.proofs.Pieces.{probes_long, table-bytes}
-use borrow.Author.Rules.{rules}
 use Rattle.planner.proofs.put_table.Goals as goal
 
 pub put_hub-requires : goal.put_hub-requires

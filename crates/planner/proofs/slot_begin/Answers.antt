@@ -2,7 +2,6 @@
 use mathlib.Core.Path.{refl}
 use native.Mathlib.Omega.{arith}
 use Rattle.planner.proofs.Ranges.{slot_inside}
-use borrow.Author.Rules.{rules}
 use Rattle.planner.proofs.slot_begin.Goals as goal
 
 pub overflow_mul-result-2 : goal.overflow_mul-result-2

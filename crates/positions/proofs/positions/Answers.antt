@@ -3,7 +3,6 @@ use native.Mathlib.Omega.{arith}
 use Rattle.model.proofs.Schedule.Batched.{batch_true}
 use Rattle.table.proofs.Answered.{was_valid, its_starts, read_refused}
 use Rattle.positions.proofs.Calling.{not_read}
-use borrow.Author.Rules.{rules}
 use Rattle.positions.proofs.positions.Goals as goal
 
 pub positions_read-requires : goal.positions_read-requires

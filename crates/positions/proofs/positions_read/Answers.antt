@@ -1,10 +1,9 @@
 -- `positions::positions_read` meets its contract. Assumes nothing.
-use mathlib.Core.Path.{◌≡◌, sym, ◌∙◌}
+use mathlib.Core.Path.{sym, ◌∙◌}
 use native.Mathlib.Omega.{arith}
 use Rattle.table.proofs.Answered.{verdict_refused}
 use Rattle.schedule.proofs.Accepted.{accepted_rows}
 use Rattle.positions.proofs.Calling.{not_planned}
-use borrow.Author.Rules.{rules}
 use Rattle.positions.proofs.positions_read.Goals as goal
 
 pub answer-requires : goal.answer-requires

@@ -1,12 +1,11 @@
 -- `positions::put_answers` meets its contract. Assumes nothing.
-use mathlib.Core.Path.{◌≡◌, refl, sym, ap, ◌∙◌}
-use Prim.Native.Nat.{◌+◌, ◌*◌, ◌-◌, ◌/◌, ◌<◌}
+use mathlib.Core.Path.{refl, sym, ap, ◌∙◌}
+use Prim.Native.Nat.{◌+◌, ◌*◌, ◌<◌}
 use native.Mathlib.Omega.{arith}
-use lib.ListN.{length, get_or}
+use lib.ListN.{get_or}
 use Rattle.model.specs.Positions.{window_byte}
 use Rattle.rows.specs.Rows.{num}
-use Rattle.positions.proofs.Answering.{Going, start, small_component, read_further, has_room, row_within, turn, read_all, all_laid}
-use borrow.Author.Rules.{rules}
+use Rattle.positions.proofs.Answering.{start, small_component, read_further, has_room, row_within, turn, read_all, all_laid}
 use Rattle.positions.proofs.put_answers.Goals as goal
 
 pub loop-k-init : goal.loop-k-init

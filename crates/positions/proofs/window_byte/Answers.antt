@@ -1,5 +1,4 @@
 -- `positions::window_byte` meets its contract. Assumes nothing.
-use mathlib.Core.Path.{◌≡◌, refl}
 use borrow.Author.Tests.{lt-ltb, le-ltb}
 use Rattle.positions.proofs.window_byte.Goals as goal
 

@@ -10,7 +10,6 @@ use Rattle.text.proofs.Appended.{next, same_words}
 use Rattle.reason_text.specs.ReasonText.{reason_words}
 use Rattle.reason_text.proofs.Wording.{bound_there}
 use Rattle.reason_text.proofs.Lining.{line_here, line_elsewhere}
-use borrow.Author.Rules.{rules}
 use Rattle.reason_text.proofs.put_edge.Goals as goal
 
 pub returns-then-elsewhere : goal.returns-then-elsewhere

@@ -1,21 +1,19 @@
 -- `reason_text::put_edges` meets its contract. Assumes nothing.
-use mathlib.Core.Path.{◌≡◌, refl, sym, ap, ◌∙◌}
-use Prim.Native.Nat.{◌+◌, ◌-◌, ◌*◌, ◌≤◌, ◌<◌}
+use mathlib.Core.Path.{◌≡◌, refl, ap, ◌∙◌}
+use Prim.Native.Nat.{◌+◌, ◌*◌, ◌≤◌, ◌<◌}
 use native.Mathlib.Omega.{arith}
 use lib.ListN.{length}
 use Rattle.model.specs.Lists.{each}
 use Rattle.model.specs.Table.{location_of}
 use Rattle.model.specs.Reader.{location_at}
-use Rattle.model.specs.Places.{arc_place, component_in, location_place}
+use Rattle.model.specs.Places.{component_in, location_place}
 use Rattle.decoder.proofs.Found.{found}
 use Rattle.window.specs.Views.{entry_of}
 use Rattle.window.proofs.Rests.{tail_long}
 use Rattle.window.proofs.Ready.{Entered, entered, first_place, first_within, edge_in, arc-head, arc_asked, arc_is, next_place, next_within}
-use Rattle.text.specs.Words.{Added}
 use Rattle.text.proofs.Appended.{nothing, same_words}
 use Rattle.reason_text.specs.Lines.{lines_at}
 use Rattle.reason_text.proofs.Lining.{lines_before, turn}
-use borrow.Author.Rules.{rules}
 use Rattle.reason_text.proofs.put_edges.Goals as goal
 
 pub overflow_add-start : goal.overflow_add-start
@@ -198,17 +196,6 @@ overflow_add-place-in-loop-e c =
     let a = c.args in
     let l = c.loop-e in
     omega (arith, next_within a.table.now a.c a.start known l.place l.e l.invariant.1 inside a.budgets c.requires.6 c.arc_length-place.result c.arc_length-place.ensures)
-
-pub overflow_add-e : goal.overflow_add-e
-overflow_add-e c =
-    let known : Entered c.args.table.now c.args.c c.args.start =
-    (let s = c in entered s.args.table.now s.args.c s.args.start (λ i. (c.type_inv.table i).fits) s.requires.1 s.requires.2 s.requires.3) in
-    let inside : c.loop-e.e < length (component_in c.args.table.now c.args.c).arcs =
-    (let a = c.args in
-    edge_in a.table.now a.c a.start known c.loop-e.e (omega (arith, c.loop-e-test.true, c.wide-count.ensures.0))) in
-    let small : c.loop-e.e < 32 =
-    (omega (arith, inside, known.most_arcs)) in
-    omega (arith, small)
 
 pub loop-e-preserved : goal.loop-e-preserved
 loop-e-preserved c =

@@ -1,7 +1,6 @@
 -- `reason_text::put_head` meets its contract. Assumes nothing.
 use native.Mathlib.Omega.{arith}
 use Rattle.text.proofs.Appended.{next}
-use borrow.Author.Rules.{rules}
 use Rattle.reason_text.proofs.put_head.Goals as goal
 
 pub returns : goal.returns

@@ -8,7 +8,6 @@ use Rattle.reasons.specs.Stays.{named_by}
 use Rattle.text.proofs.Appended.{next, same_words}
 use Rattle.reason_text.specs.ReasonText.{edge_line, passage_head}
 use Rattle.reason_text.proofs.Lining.{all_lines, head_is}
-use borrow.Author.Rules.{rules}
 use Rattle.reason_text.proofs.put_reasons_text.Goals as goal
 
 pub budgeted-budgets-requires : goal.budgeted-budgets-requires

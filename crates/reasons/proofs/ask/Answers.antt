@@ -1,7 +1,6 @@
 -- `reasons::ask` meets its contract. Assumes nothing.
 use Rattle.table.proofs.Answered.{was_valid, its_starts, read_refused}
 use Rattle.reasons.proofs.Naming.{not_read}
-use borrow.Author.Rules.{rules}
 use Rattle.reasons.proofs.ask.Goals as goal
 
 pub ask_read-requires : goal.ask_read-requires

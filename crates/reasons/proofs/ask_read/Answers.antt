@@ -1,6 +1,6 @@
 -- `reasons::ask_read` meets its contract. Assumes nothing.
-use mathlib.Core.Path.{◌≡◌, sym, ap, ◌∙◌}
-use Prim.Native.Nat.{◌<◌, ◌≤◌}
+use mathlib.Core.Path.{sym, ap, ◌∙◌}
+use Prim.Native.Nat.{◌<◌}
 use native.Mathlib.Omega.{arith}
 use lib.ListN.{get_or}
 use Rattle.model.specs.Table.{size}
@@ -8,7 +8,6 @@ use Rattle.model.specs.Places.{read_of}
 use Rattle.table.proofs.Answered.{verdict_refused}
 use Rattle.schedule.proofs.Tables.{counted, few_components, header, horizon_is, start_read}
 use Rattle.reasons.proofs.Naming.{not_planned, no-component, no_tick, S, is-accepted, walked}
-use borrow.Author.Rules.{rules}
 use Rattle.reasons.proofs.ask_read.Goals as goal
 
 pub bounds-table-3 : goal.bounds-table-3

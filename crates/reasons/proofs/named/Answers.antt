@@ -2,7 +2,6 @@
 use mathlib.Core.Path.{refl}
 use native.Mathlib.Omega.{arith}
 use Rattle.reasons.proofs.Naming.{edge_small, row_fits, names}
-use borrow.Author.Rules.{rules}
 use Rattle.reasons.proofs.named.Goals as goal
 
 pub number-requires : goal.number-requires

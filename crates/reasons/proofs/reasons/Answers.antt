@@ -4,7 +4,6 @@ use Rattle.model.specs.Reasons.{asked}
 use Rattle.model.proofs.Schedule.Answered.{reasons_true}
 use Rattle.rows.proofs.Placed.{known_bytes}
 use Rattle.reasons.proofs.Laying.{was_refused, was_named, call_refused, call_told}
-use borrow.Author.Rules.{rules}
 use Rattle.reasons.proofs.reasons.Goals as goal
 
 pub tell-requires : goal.tell-requires

@@ -1,8 +1,7 @@
 -- `reasons::stay_in` meets its contract. Assumes nothing.
-use mathlib.Core.Path.{◌≡◌, refl, ap}
+use mathlib.Core.Path.{refl, ap}
 use Rattle.window.specs.Views.{entry_of}
 use Rattle.replay.specs.Growing.{relocated}
-use borrow.Author.Rules.{rules}
 use Rattle.reasons.proofs.stay_in.Goals as goal
 
 pub returns : goal.returns

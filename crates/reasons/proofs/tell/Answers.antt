@@ -1,9 +1,7 @@
 -- `reasons::tell` meets its contract. Assumes nothing.
 use native.Mathlib.Omega.{arith}
-use lib.ListN.{length}
 use Rattle.schedule.proofs.Tables.{header}
 use Rattle.reasons.proofs.Laying.{too_few, laid}
-use borrow.Author.Rules.{rules}
 use Rattle.reasons.proofs.tell.Goals as goal
 
 pub budgeted-budgets-requires : goal.budgeted-budgets-requires

@@ -1,6 +1,5 @@
 -- `refusal_place::body` meets its contract. Assumes nothing.
 use Rattle.refusal_place.specs.Walk.{body_from}
-use borrow.Author.Rules.{rules}
 use Rattle.refusal_place.proofs.body.Goals as goal
 
 pub returns : goal.returns

@@ -4,7 +4,6 @@ use native.Mathlib.Omega.{arith}
 use Prim.Native.Nat.{◌+◌}
 use Rattle.refusal_place.specs.Walk.{end_from}
 use Rattle.refusal_place.proofs.Sequence.{component_is}
-use borrow.Author.Rules.{rules}
 use Rattle.refusal_place.proofs.component_from.Goals as goal
 
 pub returns : goal.returns

@@ -1,7 +1,6 @@
 -- `refusal_place::length_stated` meets its contract. Assumes nothing.
 use mathlib.Core.Path.{refl, ◌∙◌}
 use Rattle.refusal_place.proofs.Sequence.{stated_is}
-use borrow.Author.Rules.{rules}
 use Rattle.refusal_place.proofs.length_stated.Goals as goal
 
 pub returns : goal.returns

@@ -1,5 +1,4 @@
 -- `refusal_place::sizes_from` meets its contract. Assumes nothing.
-use borrow.Author.Rules.{rules}
 use Rattle.refusal_place.proofs.sizes_from.Goals as goal
 
 pub returns : goal.returns

@@ -2,7 +2,6 @@
 use mathlib.Core.Path.{◌∙◌}
 use Rattle.table.proofs.Answered.{was_valid, its_starts, read_refused}
 use Rattle.refused_opening.proofs.Telling.{told_read, told_unread}
-use borrow.Author.Rules.{rules}
 use Rattle.refused_opening.proofs.locate.Goals as goal
 
 pub locate_read-requires : goal.locate_read-requires

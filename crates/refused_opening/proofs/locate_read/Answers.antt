@@ -5,7 +5,6 @@ use lib.ListN.{get_or}
 use Rattle.opening_place.specs.Opening.{opening_told}
 use Rattle.schedule.proofs.Tables.{few_components, start_read}
 use Rattle.refused_opening.proofs.Telling.{nothing_told}
-use borrow.Author.Rules.{rules}
 use Rattle.refused_opening.proofs.locate_read.Goals as goal
 
 pub bounds-starts-wide : goal.bounds-starts-wide

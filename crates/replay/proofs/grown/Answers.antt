@@ -1,5 +1,5 @@
 -- `replay::grown` meets its contract. Assumes nothing.
-use mathlib.Core.Path.{◌≡◌, refl, sym, ap, ◌∙◌}
+use mathlib.Core.Path.{refl, ap, ◌∙◌}
 use Prim.Native.Nat.{◌-◌}
 use native.Mathlib.Omega.{arith}
 use Rattle.model.specs.declared.Edge.{Edge}
@@ -10,7 +10,6 @@ use Rattle.window.specs.Views.{entry_of}
 use Rattle.window.proofs.Leaving.{aged_young, all_up, kept_else, leaves_to}
 use Rattle.rows.proofs.Placed.{at_within, at_arc}
 use Rattle.replay.proofs.Placing.{at_ready}
-use borrow.Author.Rules.{rules}
 use Rattle.replay.proofs.grown.Goals as goal
 
 pub slice_bounds-edge_update-count : goal.slice_bounds-edge_update-count
@@ -19,8 +18,8 @@ slice_bounds-edge_update-count c = omega (arith, at_within c.args.table.now c.ar
 pub slice_bounds-edge_update-start : goal.slice_bounds-edge_update-start
 slice_bounds-edge_update-start c = omega (arith, at_within c.args.table.now c.args.rows.now c.args.i c.index-place.result c.type_inv.table c.requires.0 c.index-place.ensures)
 
-pub edge_update-after-requires : goal.edge_update-after-requires
-edge_update-after-requires c = at_ready c.args.table.now c.args.rows.now c.args.i c.index-place.result c.type_inv.table c.requires.0 c.index-place.ensures c.args.budgets c.requires.3
+pub edge_update-requires : goal.edge_update-requires
+edge_update-requires c = at_ready c.args.table.now c.args.rows.now c.args.i c.index-place.result c.type_inv.table c.requires.0 c.index-place.ensures c.args.budgets c.requires.3
 
 pub slice_bounds-edge_at-count : goal.slice_bounds-edge_at-count
 slice_bounds-edge_at-count c = omega (arith, at_within c.args.table.now c.args.rows.now c.args.i c.index-place.result c.type_inv.table c.requires.0 c.index-place.ensures)
@@ -44,7 +43,7 @@ returns c =
     let a = s.args in
     let arc = at_arc a.table.now a.rows.now a.i c.index-place.result c.type_inv.table s.requires.0 c.index-place.ensures a.budgets s.requires.3 in
     let clocks = c.age-clocks.ensures ∙ ap (λ (e : Edge). aged e.mask (c.number-end.result - a.at.tick) 0 a.at.clocks) c.edge_at-edge.ensures ∙ ap (λ (x : Arc). aged x.edge.mask (c.number-end.result - a.at.tick) 0 a.at.clocks) arc in
-    let values = c.kept_values-values.ensures ∙ kept_else c.edge_update-after.result.fits c.edge_update-after.result.values a.at.values ∙ ap (λ o. or_else o a.at.values) c.edge_update-after.ensures ∙ ap (λ (x : Arc). or_else (updated x.updates a.at.values) a.at.values) arc in
+    let values = c.unwrap_or-values.ensures ∙ kept_else c.edge_update.result a.at.values ∙ ap (λ o. or_else o a.at.values) c.edge_update.ensures ∙ ap (λ (x : Arc). or_else (updated x.updates a.at.values) a.at.values) arc in
     rw (← c.number-end.ensures)
     (record {
       leads = λ m. leaves_to _ m c.number-end.result (entry_of a.at) refl clocks values;

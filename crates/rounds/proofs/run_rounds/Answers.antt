@@ -1,16 +1,11 @@
 -- `rounds::run_rounds` meets its contract. Assumes nothing.
 use mathlib.Core.Path.{◌≡◌, refl}
 use mathlib.Core.Logic.{⊎_elim}
-use Prim.Native.Nat.{ℕ, ◌-◌, ◌≤◌, ◌<◌}
+use Prim.Native.Nat.{◌≤◌}
 use native.Mathlib.Omega.{arith}
-use borrow.Author.Tests.{leb-true, leb-false}
-use lib.ListN.{length, get_or}
-use Rattle.model.specs.Places.{read_of}
+use borrow.Author.Tests.{leb-false}
+use Rattle.model.specs.declared.End.TheVariants.{Horizon}
 use Rattle.translator.proofs.Standing.{slice_bytes}
-use Rattle.rows.specs.Rows.{rows_of}
-use Rattle.period.specs.Walking.{schedule_in}
-use Rattle.turning.specs.Turned.{between}
-use Rattle.rounds.proofs.InPart.{InPart}
 use Rattle.rounds.proofs.Begins.{few_rows, may_count, begins}
 use Rattle.rounds.proofs.Turns.{begun, carried, used_few, may_turn, turn_goes, each_turned, turned_part}
 use Rattle.rounds.proofs.Ending.{part_returns}
@@ -42,26 +37,26 @@ slice_bounds-carry_out-start c = omega (arith, c.loop-round.invariant.0.used_mos
 pub carry_out-part-requires : goal.carry_out-part-requires
 carry_out-part-requires c =
     let i = c.loop-round.invariant.0 in
-    (i.s, c.args.out.now, begun i c.lesser-bound.result c.lesser-bound.ensures.0 c.lesser-bound.ensures.1 c.lesser-bound.ensures.2)
+    (i.s, c.args.out.now, begun i c.min-bound.result (omega (arith, c.min-bound.ensures)) (omega (arith, c.min-bound.ensures)) (λ m a b. omega (arith, c.min-bound.ensures)))
 
 pub overflow_add-used : goal.overflow_add-used
 overflow_add-used c =
     let i = c.loop-round.invariant.0 in
-    let p = carried i c.lesser-bound.result c.lesser-bound.ensures.0 c.lesser-bound.ensures.1 c.lesser-bound.ensures.2 c.carry_out-part.ensures in
-    omega (arith, used_few i c.lesser-bound.result c.lesser-bound.ensures.0 c.lesser-bound.ensures.1 c.lesser-bound.ensures.2 p)
+    let p = carried i c.min-bound.result (omega (arith, c.min-bound.ensures)) (omega (arith, c.min-bound.ensures)) (λ m a b. omega (arith, c.min-bound.ensures)) c.carry_out-part.ensures in
+    omega (arith, used_few i c.min-bound.result (omega (arith, c.min-bound.ensures)) (omega (arith, c.min-bound.ensures)) (λ m a b. omega (arith, c.min-bound.ensures)) p)
 
-pub returns-then-part-ne0 : goal.returns-then-part-ne0
-returns-then-part-ne0 c =
+pub returns-then-not-arrives : goal.returns-then-not-arrives
+returns-then-not-arrives c =
     let i = c.loop-round.invariant.0 in
-    let p = carried i c.lesser-bound.result c.lesser-bound.ensures.0 c.lesser-bound.ensures.1 c.lesser-bound.ensures.2 c.carry_out-part.ensures in
-    let far : c.carry_out-part.result.end ≡ 0 → c.args.horizon ≤ c.loop-round.until = λ z. ⊎_elim (λ w. absurd (w z)) (λ w. w.1) c.then-part-ne0.either in
-    part_returns i c.lesser-bound.result c.lesser-bound.ensures.0 c.lesser-bound.ensures.1 c.lesser-bound.ensures.2 c.carry_out-part.result c.end_of.result p far c.end_of.ensures
+    let p = carried i c.min-bound.result (omega (arith, c.min-bound.ensures)) (omega (arith, c.min-bound.ensures)) (λ m a b. omega (arith, c.min-bound.ensures)) c.carry_out-part.ensures in
+    let far : c.carry_out-part.result.end ≡ Horizon → c.args.horizon ≤ c.loop-round.until = λ z. ⊎_elim (λ w. absurd (c.arrives.ensures.1 w z)) (λ w. w.1) c.then-not-arrives.either in
+    part_returns i c.min-bound.result (omega (arith, c.min-bound.ensures)) (omega (arith, c.min-bound.ensures)) (λ m a b. omega (arith, c.min-bound.ensures)) c.carry_out-part.result c.end_of.result p far c.end_of.ensures
 
 pub turn-requires : goal.turn-requires
 turn-requires c =
     let i = c.loop-round.invariant.0 in
-    let p = carried i c.lesser-bound.result c.lesser-bound.ensures.0 c.lesser-bound.ensures.1 c.lesser-bound.ensures.2 c.carry_out-part.ensures in
-    may_turn i c.lesser-bound.result c.lesser-bound.ensures.0 c.lesser-bound.ensures.1 c.lesser-bound.ensures.2 p (leb-false c.args.horizon c.loop-round.until c.if-last-until.false-raw) c.if-part-ne0.false c.rows_of_each-fewer.result c.loop-round.invariant.5
+    let p = carried i c.min-bound.result (omega (arith, c.min-bound.ensures)) (omega (arith, c.min-bound.ensures)) (λ m a b. omega (arith, c.min-bound.ensures)) c.carry_out-part.ensures in
+    may_turn i c.min-bound.result (omega (arith, c.min-bound.ensures)) (omega (arith, c.min-bound.ensures)) (λ m a b. omega (arith, c.min-bound.ensures)) p (leb-false c.args.horizon c.loop-round.until c.if-last-until.false-raw) (c.arrives.ensures.0 c.if-not-arrives.false) c.rows_of_each-fewer.result c.loop-round.invariant.5
 
 pub overflow_cast-until-in-loop-round : goal.overflow_cast-until-in-loop-round
 overflow_cast-until-in-loop-round c = omega (arith, c.loop-round.invariant.0.basis.pair.recurs.below, c.loop-round.invariant.0.basis.beyond, c.loop-round.invariant.0.basis.small)
@@ -75,15 +70,15 @@ loop-round-smaller c = omega (arith, c.loop-round.invariant.0.basis.pair.longer,
 pub loop-round-preserved : goal.loop-round-preserved
 loop-round-preserved c =
     let i = c.loop-round.invariant.0 in
-    let p = carried i c.lesser-bound.result c.lesser-bound.ensures.0 c.lesser-bound.ensures.1 c.lesser-bound.ensures.2 c.carry_out-part.ensures in
+    let p = carried i c.min-bound.result (omega (arith, c.min-bound.ensures)) (omega (arith, c.min-bound.ensures)) (λ m a b. omega (arith, c.min-bound.ensures)) c.carry_out-part.ensures in
     let near = leb-false c.args.horizon c.loop-round.until c.if-last-until.false-raw in
     let each = c.loop-round.invariant.5 in
-    let u = c.turn.ensures _ _ _ (turn_goes i c.lesser-bound.result c.lesser-bound.ensures.0 c.lesser-bound.ensures.1 c.lesser-bound.ensures.2 p near c.if-part-ne0.false c.rows_of_each-fewer.result each) in
+    let u = c.turn.ensures _ _ _ (turn_goes i c.min-bound.result (omega (arith, c.min-bound.ensures)) (omega (arith, c.min-bound.ensures)) (λ m a b. omega (arith, c.min-bound.ensures)) p near (c.arrives.ensures.0 c.if-not-arrives.false) c.rows_of_each-fewer.result each) in
     let lengths = c.loop-round.invariant in (
-      turned_part i c.lesser-bound.result c.lesser-bound.ensures.0 c.lesser-bound.ensures.1 c.lesser-bound.ensures.2 p near c.if-part-ne0.false u,
+      turned_part i c.min-bound.result (omega (arith, c.min-bound.ensures)) (omega (arith, c.min-bound.ensures)) (λ m a b. omega (arith, c.min-bound.ensures)) p near (c.arrives.ensures.0 c.if-not-arrives.false) u,
       search rules,
       search rules,
       search rules,
       search rules,
-      each_turned i c.lesser-bound.result c.lesser-bound.ensures.0 c.lesser-bound.ensures.1 c.lesser-bound.ensures.2 p near c.if-part-ne0.false c.rows_of_each-fewer.result each u,
+      each_turned i c.min-bound.result (omega (arith, c.min-bound.ensures)) (omega (arith, c.min-bound.ensures)) (λ m a b. omega (arith, c.min-bound.ensures)) p near (c.arrives.ensures.0 c.if-not-arrives.false) c.rows_of_each-fewer.result each u,
     )

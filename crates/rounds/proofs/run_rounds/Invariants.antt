@@ -1,20 +1,12 @@
 -- `rounds::run_rounds` meets its contract. Assumes nothing.
-use mathlib.Core.Path.{◌≡◌, refl}
-use mathlib.Core.Logic.{⊎_elim}
-use Prim.Native.Nat.{ℕ, ◌-◌, ◌≤◌, ◌<◌}
-use native.Mathlib.Omega.{arith}
-use borrow.Author.Tests.{leb-true, leb-false}
+use mathlib.Core.Path.{◌≡◌}
+use Prim.Native.Nat.{ℕ, ◌-◌, ◌<◌}
 use lib.ListN.{length, get_or}
 use Rattle.model.specs.Places.{read_of}
-use Rattle.translator.proofs.Standing.{slice_bytes}
 use Rattle.rows.specs.Rows.{rows_of}
 use Rattle.period.specs.Walking.{schedule_in}
 use Rattle.turning.specs.Turned.{between}
 use Rattle.rounds.proofs.InPart.{InPart}
-use Rattle.rounds.proofs.Begins.{few_rows, may_count, begins}
-use Rattle.rounds.proofs.Turns.{begun, carried, used_few, may_turn, turn_goes, each_turned, turned_part}
-use Rattle.rounds.proofs.Ending.{part_returns}
-use borrow.Author.Rules.{rules}
 use Rattle.rounds.proofs.run_rounds.Given as goal
 
 abbrev pub invariant-loop-round : goal.invariant-loop-round

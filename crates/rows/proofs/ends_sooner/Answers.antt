@@ -1,5 +1,4 @@
 -- `rows::ends_sooner` meets its contract. Assumes nothing.
-use borrow.Author.Rules.{rules}
 use Rattle.rows.proofs.Sought.{ends_sooner_is}
 use Rattle.rows.proofs.ends_sooner.Goals as goal
 

@@ -1,6 +1,5 @@
 -- `rows::in_time` meets its contract. Assumes nothing.
 use native.Mathlib.Omega.{arith}
-use borrow.Author.Rules.{rules}
 use Rattle.rows.proofs.Sought.{ends-late, in_time_is}
 use Rattle.rows.proofs.in_time.Goals as goal
 

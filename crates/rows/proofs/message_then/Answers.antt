@@ -2,7 +2,6 @@
 use mathlib.Core.Path.{ap, ◌∙◌}
 use native.Mathlib.Omega.{arith}
 use Rattle.rows.specs.Rows.{message_of}
-use borrow.Author.Rules.{rules}
 use Rattle.rows.proofs.message_then.Goals as goal
 
 pub returns-then-number-horizon : goal.returns-then-number-horizon

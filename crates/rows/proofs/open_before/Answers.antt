@@ -1,8 +1,6 @@
 -- `rows::open_before` meets its contract. Assumes nothing.
-use Prim.Native.Nat.{ℕ, ◌+◌, ◌-◌, ◌≤◌, ◌<◌}
+use Prim.Native.Nat.{◌-◌, ◌<◌}
 use native.Mathlib.Omega.{arith}
-use borrow.Author.Rules.{rules}
-use Rattle.rows.specs.Rows.{num}
 use Rattle.rows.proofs.Sought.{passed_over}
 use Rattle.rows.proofs.open_before.Goals as goal
 

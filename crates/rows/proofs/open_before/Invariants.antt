@@ -1,9 +1,6 @@
 -- `rows::open_before` meets its contract. Assumes nothing.
-use Prim.Native.Nat.{ℕ, ◌+◌, ◌-◌, ◌≤◌, ◌<◌}
-use native.Mathlib.Omega.{arith}
-use borrow.Author.Rules.{rules}
+use Prim.Native.Nat.{ℕ, ◌≤◌, ◌<◌}
 use Rattle.rows.specs.Rows.{num}
-use Rattle.rows.proofs.Sought.{passed_over}
 use Rattle.rows.proofs.open_before.Given as goal
 
 abbrev pub invariant-loop-k : goal.invariant-loop-k

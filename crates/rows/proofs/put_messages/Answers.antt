@@ -1,8 +1,6 @@
 -- `rows::put_messages` meets its contract. Assumes nothing.
-use Prim.Native.Nat.{◌-◌, ◌≤◌}
 use native.Mathlib.Omega.{arith}
-use borrow.Author.Rules.{rules}
-use Rattle.rows.proofs.Relabelled.{PutBelow, put_none, still_placed, still_told, put_within, put_turn, put_all}
+use Rattle.rows.proofs.Relabelled.{put_none, still_placed, still_told, put_within, put_turn, put_all}
 use Rattle.rows.proofs.put_messages.Goals as goal
 
 pub loop-i-init : goal.loop-i-init
@@ -10,8 +8,8 @@ loop-i-init c =
     let a = c.args in
     (omega arith, put_none a.table.now a.horizon a.count a.rows.now)
 
-pub message_then-m-requires : goal.message_then-m-requires
-message_then-m-requires c =
+pub message_then-requires : goal.message_then-requires
+message_then-requires c =
     let e = c in
     let a = e.args in
     let l = c.loop-i in
@@ -37,15 +35,12 @@ bounds-rows-i c =
     let l = c.loop-i in
     put_within a.table.now a.horizon a.count a.rows.now l.rows l.i e.requires.0 l.invariant.1 c.loop-i-test.true
 
-pub overflow_add-i : goal.overflow_add-i
-overflow_add-i c = omega (arith, c.requires.0.few)
-
 pub loop-i-preserved : goal.loop-i-preserved
 loop-i-preserved c =
     let e = c in
     let a = e.args in
     let l = c.loop-i in
-    (omega arith, put_turn a.table.now a.horizon a.count a.rows.now l.rows l.i e.requires.0 l.invariant.1 c.message_then-m.result c.loop-i-test.true c.message_then-m.ensures)
+    (omega arith, put_turn a.table.now a.horizon a.count a.rows.now l.rows l.i e.requires.0 l.invariant.1 c.message_then.result c.loop-i-test.true c.message_then.ensures)
 
 pub shape_of-rows : goal.shape_of-rows
 shape_of-rows c = c.loop-i.invariant.1.same

@@ -1,7 +1,6 @@
 -- `rows::put_row` meets its contract. Assumes nothing.
 use native.Mathlib.Numerals.{towards_suc}
 use native.Mathlib.Omega.{arith}
-use borrow.Author.Rules.{rules}
 use lib.ListN.{length-set}
 use Rattle.rows.proofs.put_row.Goals as goal
 

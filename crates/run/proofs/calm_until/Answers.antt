@@ -1,7 +1,5 @@
 -- `run::calm_until` meets its contract. Assumes nothing.
-use Prim.Native.Nat.{ℕ, ◌-◌, ◌≤◌, ◌<◌}
 use native.Mathlib.Omega.{arith}
-use borrow.Author.Rules.{rules}
 use Rattle.registers.specs.Words.{word_in}
 use Rattle.run.proofs.InARow.{least_more}
 use Rattle.run.proofs.calm_until.Goals as goal
@@ -17,9 +15,9 @@ loop-c-preserved c =
     let l = c.loop-c in
     let w = c.args.words.now in (
       omega (arith, c.loop-c-test.true),
-      least_more (λ i. word_in w i 26) l.c l.calm c.lesser-calm.result c.lesser-calm.ensures.0 (omega (arith, c.lesser-calm.ensures.1, c.lesser.ensures.0, c.word-due.ensures)) l.invariant.1,
-      least_more (λ i. word_in w i 27) l.c l.calm c.lesser-calm.result c.lesser-calm.ensures.0 (omega (arith, c.lesser-calm.ensures.1, c.lesser.ensures.1, c.word-last.ensures)) l.invariant.2,
-      omega (arith, c.lesser-calm.ensures.0, l.invariant.3),
+      least_more (λ i. word_in w i 26) l.c l.calm c.min-calm.result (omega (arith, c.min-calm.ensures)) (omega (arith, c.min-calm.ensures, c.min.ensures, c.word-due.ensures)) l.invariant.1,
+      least_more (λ i. word_in w i 27) l.c l.calm c.min-calm.result (omega (arith, c.min-calm.ensures)) (omega (arith, c.min-calm.ensures, c.min.ensures, c.word-last.ensures)) l.invariant.2,
+      omega (arith, c.min-calm.ensures, l.invariant.3),
     )
 
 pub returns : goal.returns

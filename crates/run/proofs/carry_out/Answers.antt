@@ -1,16 +1,10 @@
 -- `run::carry_out` meets its contract. Assumes nothing.
-use mathlib.Core.Path.{◌≡◌, refl, sym, ◌∙◌}
-use Prim.Native.Nat.{◌-◌, ◌≤◌, ◌<◌}
+use mathlib.Core.Path.{refl, sym, ◌∙◌}
+use Prim.Native.Nat.{◌<◌}
 use native.Mathlib.Omega.{arith}
 use borrow.Author.Rules.{rules}
-use borrow.Author.Tests.{not-true, not-false}
-use mathlib.Core.List.{List}
-use Prim.Native.Nat.{ℕ}
-use lib.ListN.{length, get_or}
-use Rattle.model.specs.Run.{Run}
-use Rattle.registers.specs.Words.{Eight}
-use Rattle.run.specs.Ends.{Begun}
-use Rattle.run.proofs.Stages.{Stage, first_stage, used-up, few_used, standing, tick_forbidden, tick_late, tick_horizon, tick_stage, room, node_forbidden, node_stage}
+use lib.ListN.{get_or}
+use Rattle.run.proofs.Stages.{first_stage, used-up, few_used, standing, tick_forbidden, tick_late, tick_horizon, tick_stage, room, node_forbidden, node_stage}
 use Rattle.run.proofs.Bulk.{ticks_stage}
 use Rattle.run.proofs.carry_out.Goals as goal
 
@@ -51,25 +45,25 @@ overflow_add-tick-else-tick-calm c =
     let St = c.loop-used.invariant.0 w.0 w.1 w.2 in
     omega (arith, St.early, few_used St w.2.brief)
 
-pub returns-then-c-count : goal.returns-then-c-count
-returns-then-c-count c =
+pub returns-in-Some : goal.returns-in-Some
+returns-in-Some c =
     let e = c in
     let i = c.loop-used in
-    λ s lent b. tick_late (i.invariant.0 s lent b) c.loop-used-test.true b.brief c.if-choice.true (sym c.some_due.ensures ∙ c.if-some_due.false) c.first_late-c.ensures c.if-c-count.true
-    c.end_of-then-c-count.ensures
+    λ s lent b. tick_late (i.invariant.0 s lent b) c.loop-used-test.true b.brief c.if-choice.true (sym c.some_due.ensures ∙ c.if-some_due.false) c.in-Some.ensures.first (c.in-Some.ensures.node c.in-Some.c refl)
+    c.end_of-in-Some.ensures
 
 pub returns-then-tick-horizon : goal.returns-then-tick-horizon
 returns-then-tick-horizon c =
     let e = c in
     let i = c.loop-used in
-    λ s lent b. tick_horizon (i.invariant.0 s lent b) c.loop-used-test.true b.brief c.if-choice.true (sym c.some_due.ensures ∙ c.if-some_due.false) c.first_late-c.ensures c.if-c-count.false
+    λ s lent b. tick_horizon (i.invariant.0 s lent b) c.loop-used-test.true b.brief c.if-choice.true (sym c.some_due.ensures ∙ c.if-some_due.false) c.in_default.ensures.first (omega arith)
     c.if-tick-horizon.true c.end_of-then-tick-horizon.ensures
 
 pub loop-used-preserved-else-tick-horizon : goal.loop-used-preserved-else-tick-horizon
 loop-used-preserved-else-tick-horizon c =
     let e = c in
     let i = c.loop-used in (
-      λ s lent b. tick_stage (i.invariant.0 s lent b) c.loop-used-test.true b.brief c.if-choice.true (sym c.some_due.ensures ∙ c.if-some_due.false) c.first_late-c.ensures c.if-c-count.false
+      λ s lent b. tick_stage (i.invariant.0 s lent b) c.loop-used-test.true b.brief c.if-choice.true (sym c.some_due.ensures ∙ c.if-some_due.false) c.in_default.ensures.first (omega arith)
           c.if-tick-horizon.false,
       search rules,
       i.invariant.2,
@@ -79,8 +73,8 @@ loop-used-preserved-else-tick-horizon c =
       i.invariant.6,
     )
 
-pub choose_node-moved-requires : goal.choose_node-moved-requires
-choose_node-moved-requires c =
+pub choose_node-requires : goal.choose_node-requires
+choose_node-requires c =
     let t = c in
     let e = t in
     let i = t.loop-used in
@@ -90,12 +84,12 @@ choose_node-moved-requires c =
     let brief = w.2.brief in
     (standing St brief, small, room St t.loop-used-test.true brief w.2.roomy c.if-choice.false, omega (arith, St.few, few_used St brief))
 
-pub returns-then-not-moved : goal.returns-then-not-moved
-returns-then-not-moved c =
+pub returns-in_default-choose_node : goal.returns-in_default-choose_node
+returns-in_default-choose_node c =
     let t = c in
     let e = t in
     let i = t.loop-used in
-    λ s lent b. node_forbidden (i.invariant.0 s lent b) t.loop-used-test.true b.brief (c.choose_node-moved.ensures e.args.horizon) (not-true _ c.if-not-moved.true) c.end_of-then-not-moved.ensures
+    λ s lent b. node_forbidden (i.invariant.0 s lent b) t.loop-used-test.true b.brief (c.choose_node.ensures e.args.horizon) c.in_default-choose_node.is c.end_of-in_default-choose_node.ensures
 
 pub loop-used-preserved : goal.loop-used-preserved
 loop-used-preserved c =
@@ -103,8 +97,8 @@ loop-used-preserved c =
     let e = t in
     let i = t.loop-used in
     let w = e.requires in
-    let New = node_stage (i.invariant.0 w.0 w.1 w.2) t.loop-used-test.true w.2.brief (c.choose_node-moved.ensures e.args.horizon) (not-false _ c.if-not-moved.false) w.2.roomy in
-    (λ s lent b. node_stage (i.invariant.0 s lent b) t.loop-used-test.true b.brief (c.choose_node-moved.ensures e.args.horizon) (not-false _ c.if-not-moved.false) b.roomy, search rules, search rules, search rules, search rules, New.running.eight, New.running.most)
+    let New = node_stage (i.invariant.0 w.0 w.1 w.2) t.loop-used-test.true w.2.brief (c.choose_node.ensures e.args.horizon) c.in-Some-choose_node.is w.2.roomy in
+    (λ s lent b. node_stage (i.invariant.0 s lent b) t.loop-used-test.true b.brief (c.choose_node.ensures e.args.horizon) c.in-Some-choose_node.is b.roomy, search rules, search rules, search rules, search rules, New.running.eight, New.running.most)
 
 pub returns : goal.returns
 returns c = λ s lent b. used-up (c.loop-used.invariant.0 s lent b) c.loop-used-test.false c.end_of-2.ensures

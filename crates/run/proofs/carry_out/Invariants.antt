@@ -1,17 +1,13 @@
 -- `run::carry_out` meets its contract. Assumes nothing.
-use mathlib.Core.Path.{◌≡◌, refl, sym, ◌∙◌}
-use Prim.Native.Nat.{◌-◌, ◌≤◌, ◌<◌}
-use native.Mathlib.Omega.{arith}
-use borrow.Author.Rules.{rules}
-use borrow.Author.Tests.{not-true, not-false}
+use mathlib.Core.Path.{◌≡◌}
+use Prim.Native.Nat.{◌-◌, ◌≤◌}
 use mathlib.Core.List.{List}
 use Prim.Native.Nat.{ℕ}
-use lib.ListN.{length, get_or}
+use lib.ListN.{length}
 use Rattle.model.specs.Run.{Run}
 use Rattle.registers.specs.Words.{Eight}
 use Rattle.run.specs.Ends.{Begun}
-use Rattle.run.proofs.Stages.{Stage, first_stage, used-up, few_used, standing, tick_forbidden, tick_late, tick_horizon, tick_stage, room, node_forbidden, node_stage}
-use Rattle.run.proofs.Bulk.{ticks_stage}
+use Rattle.run.proofs.Stages.{Stage}
 use Rattle.run.proofs.carry_out.Given as goal
 
 abbrev pub invariant-loop-used : goal.invariant-loop-used

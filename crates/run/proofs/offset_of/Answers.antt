@@ -1,7 +1,6 @@
 -- `run::offset_of` meets its contract. Assumes nothing.
 use mathlib.Core.Path.{sym}
 use lib.ListN.{get_or-eq_default}
-use borrow.Author.Rules.{rules}
 use Rattle.run.proofs.offset_of.Goals as goal
 
 pub returns-else-c-offsets : goal.returns-else-c-offsets

@@ -1,5 +1,4 @@
 -- `run::put_fixed` meets its contract. Assumes nothing.
-use borrow.Author.Rules.{rules}
 use Rattle.run.proofs.Beginning.{words_put}
 use Rattle.run.proofs.put_fixed.Goals as goal
 

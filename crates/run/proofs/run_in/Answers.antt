@@ -1,5 +1,4 @@
 -- `run::run_in` meets its contract. Assumes nothing.
-use borrow.Author.Rules.{rules}
 use mathlib.Core.Path.{sym, ap, ◌∙◌}
 use lib.ListN.{length}
 use Rattle.model.specs.Places.{read_of}

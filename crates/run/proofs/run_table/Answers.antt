@@ -1,6 +1,5 @@
 -- `run::run_table` meets its contract. Assumes nothing.
 use native.Mathlib.Omega.{arith}
-use borrow.Author.Rules.{rules}
 use Rattle.run.proofs.run_table.Goals as goal
 
 pub run_in-requires-2 : goal.run_in-requires-2

@@ -1,13 +1,7 @@
 -- `run::some_due` meets its contract. Assumes nothing.
-use mathlib.Core.Path.{◌≡◌, sym, ◌∙◌}
-use mathlib.Core.Bool.{Bool}
-use mathlib.Core.List.{List}
-use Prim.Native.Nat.{ℕ, ◌-◌, ◌≤◌}
+use mathlib.Core.Path.{sym, ◌∙◌}
 use borrow.Author.Rules.{rules}
 use borrow.Author.Tests.{eq-eqb, ne_eqb}
-use lib.Dec.{eqb}
-use Rattle.model.specs.Lists.{any, from, below}
-use Rattle.registers.specs.Words.{word_in}
 use Rattle.run.proofs.Looked.{looked_on, looked_found, looked_all, looked_none}
 use Rattle.run.proofs.some_due.Invariants.{is_due}
 use Rattle.run.proofs.some_due.Goals as goal

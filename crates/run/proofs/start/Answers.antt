@@ -1,11 +1,11 @@
 -- `run::start` meets its contract. Assumes nothing.
-use borrow.Author.Rules.{rules}
-use mathlib.Core.Path.{◌≡◌, refl, ◌∙◌}
-use Prim.Native.Nat.{◌-◌, ◌≤◌}
+use mathlib.Core.Path.{refl, ◌∙◌}
+use Prim.Native.Nat.{◌<◌}
 use native.Mathlib.Omega.{arith}
-use lib.ListN.{length, get_or}
+use lib.ListN.{get_or}
+use Rattle.model.specs.Reader.{byte}
 use Rattle.translator.proofs.Standing.{slice_bytes, few_nodes, found, valid_long}
-use Rattle.run.proofs.Beginnings.{StartedTo, none_started, start_inside, few-clocks, few_variables, one_started, all_started}
+use Rattle.run.proofs.Beginnings.{none_started, start_inside, few-clocks, few_variables, one_started, all_started}
 use Rattle.run.proofs.start.Goals as goal
 
 pub bounds-table-3 : goal.bounds-table-3
@@ -14,13 +14,6 @@ bounds-table-3 c =
     let table = s.args.table.now in
     let bytes = slice_bytes table c.type_inv.table in
     omega (arith, valid_long table bytes s.requires.0)
-
-pub overflow_cast-count : goal.overflow_cast-count
-overflow_cast-count c =
-    let s = c in
-    let table = s.args.table.now in
-    let bytes = slice_bytes table c.type_inv.table in
-    omega (arith, few_nodes table bytes s.requires.0)
 
 pub loop-c-init : goal.loop-c-init
 loop-c-init c = (omega arith, refl, refl, none_started c.requires.2)
@@ -45,7 +38,7 @@ start_node-requires c =
     let table = s.args.table.now in
     let bytes = slice_bytes table c.type_inv.table in
     let loop = c.loop-c in
-    let taken = c.loop-c-test.true in
+    let taken : loop.c < byte table 3 = omega (arith, c.from-count.ensures, c.loop-c-test.true) in
     let start = get_or s.args.starts loop.c 0 in
     let at = found table bytes s.requires.0 s.args.starts s.requires.1 loop.c taken in (
       loop.invariant.3.eight,
@@ -57,20 +50,13 @@ start_node-requires c =
       omega (arith, c.offset_of.ensures, s.requires.4 loop.c taken),
     )
 
-pub overflow_add-c : goal.overflow_add-c
-overflow_add-c c =
-    let s = c in
-    let table = s.args.table.now in
-    let bytes = slice_bytes table c.type_inv.table in
-    omega (arith, few_nodes table bytes s.requires.0)
-
 pub loop-c-preserved : goal.loop-c-preserved
 loop-c-preserved c =
     let s = c in
     let table = s.args.table.now in
     let bytes = slice_bytes table c.type_inv.table in
     let loop = c.loop-c in
-    let taken = c.loop-c-test.true in
+    let taken : loop.c < byte table 3 = omega (arith, c.from-count.ensures, c.loop-c-test.true) in
     let start = get_or s.args.starts loop.c 0 in
     let at = found table bytes s.requires.0 s.args.starts s.requires.1 loop.c taken in (
       omega arith,
@@ -90,4 +76,4 @@ returns c =
     let s = c in
     let table = s.args.table.now in
     let bytes = slice_bytes table c.type_inv.table in
-    all_started table bytes s.requires.0 s.requires.3 c.loop-c.invariant.3 c.loop-c-test.false
+    all_started table bytes s.requires.0 s.requires.3 c.loop-c.invariant.3 (omega (arith, c.from-count.ensures, c.loop-c-test.false))

@@ -1,5 +1,4 @@
 -- `run::start_node` meets its contract. Assumes nothing.
-use borrow.Author.Rules.{rules}
 use Rattle.run.proofs.Beginning.{put_eight, put_inside, put_wake, begun_within, node_started}
 use Rattle.run.proofs.start_node.Goals as goal
 

@@ -1,7 +1,5 @@
 -- `run::sum_of_four` meets its contract. Assumes nothing.
-use Prim.Native.Nat.{◌+◌}
 use native.Mathlib.Omega.{arith}
-use borrow.Author.Rules.{rules}
 use Rattle.run.proofs.InARow.{ticks_four}
 use Rattle.run.proofs.sum_of_four.Goals as goal
 

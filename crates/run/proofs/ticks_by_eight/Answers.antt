@@ -1,8 +1,7 @@
 -- `run::ticks_by_eight` meets its contract. Assumes nothing.
-use Prim.Native.Nat.{◌+◌, ◌-◌, ◌≤◌, ◌<◌}
+use Prim.Native.Nat.{◌+◌}
 use native.Mathlib.Omega.{arith}
 use borrow.Author.Rules.{rules}
-use Rattle.run.specs.Ends.{Ticks}
 use Rattle.run.proofs.InARow.{ticks_none, ticks_join, ticks_eight}
 use Rattle.run.proofs.ticks_by_eight.Goals as goal
 

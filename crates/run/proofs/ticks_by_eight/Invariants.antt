@@ -1,9 +1,6 @@
 -- `run::ticks_by_eight` meets its contract. Assumes nothing.
-use Prim.Native.Nat.{◌+◌, ◌-◌, ◌≤◌, ◌<◌}
-use native.Mathlib.Omega.{arith}
-use borrow.Author.Rules.{rules}
+use Prim.Native.Nat.{◌-◌, ◌≤◌}
 use Rattle.run.specs.Ends.{Ticks}
-use Rattle.run.proofs.InARow.{ticks_none, ticks_join, ticks_eight}
 use Rattle.run.proofs.ticks_by_eight.Given as goal
 
 abbrev pub invariant-loop-at : goal.invariant-loop-at

@@ -1,8 +1,7 @@
 -- `run::ticks_by_one` meets its contract. Assumes nothing.
-use Prim.Native.Nat.{◌+◌, ◌-◌, ◌≤◌, ◌<◌}
+use Prim.Native.Nat.{◌+◌}
 use native.Mathlib.Omega.{arith}
 use borrow.Author.Rules.{rules}
-use Rattle.run.specs.Ends.{Ticks}
 use Rattle.run.proofs.InARow.{ticks_none, ticks_one, ticks_join}
 use Rattle.run.proofs.ticks_by_one.Goals as goal
 
@@ -19,4 +18,4 @@ loop-at-preserved c =
     (search rules, search rules, ticks_join a.choices.now a.from l.at (l.at + 1) l.invariant.2 (ticks_one a.choices.now l.at (search rules)))
 
 pub returns : goal.returns
-returns c = c.loop-at.invariant
+returns c = (omega arith, omega arith, λ i from to. c.loop-at.invariant.2 i from (omega arith))

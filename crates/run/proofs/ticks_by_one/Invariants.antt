@@ -1,13 +1,7 @@
 -- `run::ticks_by_one` meets its contract. Assumes nothing.
-use Prim.Native.Nat.{◌+◌, ◌-◌, ◌≤◌, ◌<◌}
-use native.Mathlib.Omega.{arith}
-use borrow.Author.Rules.{rules}
+use Prim.Native.Nat.{◌≤◌}
 use Rattle.run.specs.Ends.{Ticks}
-use Rattle.run.proofs.InARow.{ticks_none, ticks_one, ticks_join}
 use Rattle.run.proofs.ticks_by_one.Given as goal
 
 abbrev pub invariant-loop-at : goal.invariant-loop-at
 invariant-loop-at l = (l.from ≤ l.at) × (l.at ≤ l.end) × Ticks l.choices l.from l.at
-
-abbrev pub decreases-loop-at : goal.decreases-loop-at
-decreases-loop-at l = l.end - l.at

@@ -18,6 +18,3 @@ abbrev pub invariant-loop-i : goal.invariant-loop-i
 invariant-loop-i l =
     (l.i ≤ l.n) × (l.at + l.n * 220 ≤ length l.initial.out) × (l.n * 36 ≤ length l.bytes) × (length l.out ≡ length l.initial.out) × (l.end ≤ l.at + l.i * 220)
     × (take l.end l.out ++ lines l.bytes l.n l.i ≡ take l.at l.initial.out ++ observation_lines l.bytes l.n)
-
-abbrev pub decreases-loop-i : goal.decreases-loop-i
-decreases-loop-i l = l.n - l.i

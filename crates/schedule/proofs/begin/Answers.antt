@@ -1,9 +1,8 @@
 -- `schedule::begin` meets its contract. Assumes nothing.
 use mathlib.Core.Path.{◌≡◌, refl, sym, ap, subst, ◌∙◌}
-use Prim.Native.Nat.{ℕ, ◌+◌, ◌-◌, ◌≤◌, ◌<◌}
+use Prim.Native.Nat.{ℕ, ◌+◌, ◌<◌}
 use native.Mathlib.Omega.{arith}
-use borrow.Author.Rules.{rules}
-use lib.ListN.{length, set, length-set}
+use lib.ListN.{set, length-set}
 use Rattle.model.specs.Table.{size}
 use Rattle.model.specs.Places.{start_of, read_of, component_in}
 use Rattle.model.specs.Calls.{verdict_of}
@@ -24,12 +23,12 @@ loop-component-init c =
     let e = c in
     let s = e.args.table.now in
     let n : c.wide-count.result ≡ size (read_of s).table = c.wide-count.ensures.0 ∙ counted s c.type_inv.table e.requires.0 in
-    (omega arith, n, omega (arith, n, few_components s c.type_inv.table e.requires.0), refl, refl, refl, begin_first s e.args.rows.now _ _ e.requires.0)
+    (n, omega (arith, n, few_components s c.type_inv.table e.requires.0), refl, refl, refl, begin_first s e.args.rows.now _ _ e.requires.0)
 
 pub start_entry-at-requires : goal.start_entry-at-requires
 start_entry-at-requires c =
     let there : c.loop-component.component < size (read_of c.args.table.now).table =
-    (omega (arith, c.loop-component-test.true, c.loop-component.invariant.1)) in
+    (omega (arith, c.loop-component-test.true, c.loop-component.invariant.0)) in
     let start_is : c.word_place-start.result ≡ start_of c.args.table.now c.loop-component.component =
     (let e = c in
     start_read e.args.table.now c.type_inv.table e.requires.0 e.args.starts c.loop-component.component c.word_place-start.result
@@ -40,7 +39,7 @@ start_entry-at-requires c =
 pub open-opening-requires : goal.open-opening-requires
 open-opening-requires c =
     let there : c.loop-component.component < size (read_of c.args.table.now).table =
-    (omega (arith, c.loop-component-test.true, c.loop-component.invariant.1)) in
+    (omega (arith, c.loop-component-test.true, c.loop-component.invariant.0)) in
     let start_is : c.word_place-start.result ≡ start_of c.args.table.now c.loop-component.component =
     (let e = c in
     start_read e.args.table.now c.type_inv.table e.requires.0 e.args.starts c.loop-component.component c.word_place-start.result
@@ -54,18 +53,18 @@ open-opening-requires c =
       e.requires.0,
       there,
       start_is,
-      begin_location e.args.table.now l.rows c.type_inv.table l.component l.nodes l.ends l.invariant.6 there c.start_entry-at.result location-is c.start_entry-at.ensures.1 c.start_entry-at.ensures.2 c.start_entry-at.ensures.3,
+      begin_location e.args.table.now l.rows c.type_inv.table l.component l.nodes l.ends l.invariant.5 there c.start_entry-at.result location-is c.start_entry-at.ensures.1 c.start_entry-at.ensures.2 c.start_entry-at.ensures.3,
       subst (λ k. Indexed e.args.table.now e.args.index.now l.component k) (sym start_is) (e.requires.3 l.component there),
       e.requires.4,
     )
 
-pub shape_of-rows-in-Fails : goal.shape_of-rows-in-Fails
-shape_of-rows-in-Fails c = c.loop-component.invariant.5
+pub shape_of-rows-in-Err : goal.shape_of-rows-in-Err
+shape_of-rows-in-Err c = c.loop-component.invariant.4
 
-pub returns-in-Fails : goal.returns-in-Fails
-returns-in-Fails c =
+pub returns-in-Err : goal.returns-in-Err
+returns-in-Err c =
     let there : c.loop-component.component < size (read_of c.args.table.now).table =
-    (omega (arith, c.loop-component-test.true, c.loop-component.invariant.1)) in
+    (omega (arith, c.loop-component-test.true, c.loop-component.invariant.0)) in
     let start_is : c.word_place-start.result ≡ start_of c.args.table.now c.loop-component.component =
     (let e = c in
     start_read e.args.table.now c.type_inv.table e.requires.0 e.args.starts c.loop-component.component c.word_place-start.result
@@ -77,10 +76,10 @@ returns-in-Fails c =
     let e = c in
     let l = c.loop-component in
     let p = c in
-    let r = begin_refused e.args.table.now l.rows c.type_inv.table l.component l.nodes l.ends l.invariant.6 there p.start_entry-at.result location-is p.start_entry-at.ensures.1 p.start_entry-at.ensures.2 p.start_entry-at.ensures.3
-    c.open-opening.result c.open-opening.ensures.opens c.in-Fails.is in
-    let s = begin_stops e.args.table.now l.rows c.type_inv.table l.component l.nodes l.ends l.invariant.6 there p.start_entry-at.result location-is p.start_entry-at.ensures.1 p.start_entry-at.ensures.2 p.start_entry-at.ensures.3
-    c.open-opening.result c.open-opening.ensures.opens c.in-Fails.is in
+    let r = begin_refused e.args.table.now l.rows c.type_inv.table l.component l.nodes l.ends l.invariant.5 there p.start_entry-at.result location-is p.start_entry-at.ensures.1 p.start_entry-at.ensures.2 p.start_entry-at.ensures.3
+    c.open-opening.result c.open-opening.ensures.opens c.number.ensures c.in-Err.is in
+    let s = begin_stops e.args.table.now l.rows c.type_inv.table l.component l.nodes l.ends l.invariant.5 there p.start_entry-at.result location-is p.start_entry-at.ensures.1 p.start_entry-at.ensures.2 p.start_entry-at.ensures.3
+    c.open-opening.result c.open-opening.ensures.opens c.number.ensures c.in-Err.is in
     record {
       verdict = sym (ap verdict_of r);
       started = λ q. (let z : ◌≡◌ {A = ℕ} 0 1 = cc in absurd (omega arith));
@@ -90,7 +89,7 @@ returns-in-Fails c =
 pub put_opened-requires : goal.put_opened-requires
 put_opened-requires c =
     let there : c.loop-component.component < size (read_of c.args.table.now).table =
-    (omega (arith, c.loop-component-test.true, c.loop-component.invariant.1)) in
+    (omega (arith, c.loop-component-test.true, c.loop-component.invariant.0)) in
     let start_is : c.word_place-start.result ≡ start_of c.args.table.now c.loop-component.component =
     (let e = c in
     start_read e.args.table.now c.type_inv.table e.requires.0 e.args.starts c.loop-component.component c.word_place-start.result
@@ -98,7 +97,7 @@ put_opened-requires c =
     let e = c in
     let l = c.loop-component in
     let p = c in
-    let z = edge_small e.args.table.now c.type_inv.table e.requires.0 l.component p.word_place-start.result c.in-Opens.is there start_is c.open-opening.ensures.placed in
+    let z = edge_small e.args.table.now c.type_inv.table e.requires.0 l.component p.word_place-start.result c.in-Ok.is there start_is c.open-opening.ensures.placed in
     (omega (arith, l.invariant, e.requires), omega (arith, l.invariant), z.0, omega arith, omega (arith, p.start_entry-at.ensures.1), z.1, z.2)
 
 pub offset_bounds-ends-component : goal.offset_bounds-ends-component
@@ -107,13 +106,10 @@ offset_bounds-ends-component c = omega (arith, c.loop-component.invariant, c.loo
 pub bounds-ends-component : goal.bounds-ends-component
 bounds-ends-component c = omega (arith, c.loop-component.invariant, c.loop-component-test)
 
-pub overflow_add-component : goal.overflow_add-component
-overflow_add-component c = omega (arith, c.loop-component.invariant, c.loop-component-test)
-
 pub loop-component-preserved : goal.loop-component-preserved
 loop-component-preserved c =
     let there : c.loop-component.component < size (read_of c.args.table.now).table =
-    (omega (arith, c.loop-component-test.true, c.loop-component.invariant.1)) in
+    (omega (arith, c.loop-component-test.true, c.loop-component.invariant.0)) in
     let start_is : c.word_place-start.result ≡ start_of c.args.table.now c.loop-component.component =
     (let e = c in
     start_read e.args.table.now c.type_inv.table e.requires.0 e.args.starts c.loop-component.component c.word_place-start.result
@@ -126,24 +122,23 @@ loop-component-preserved c =
     let l = c.loop-component in
     let p = c in
     let s = e.args.table.now in (
-      omega arith,
+      l.invariant.0,
       l.invariant.1,
-      l.invariant.2,
+      simp length-set l.invariant.2,
       simp length-set l.invariant.3,
-      simp length-set l.invariant.4,
-      c.put_opened.auto.rows ∙ l.invariant.5,
-      subst (λ k. Beginning s c.put_opened.new.rows (l.component + 1) (set l.nodes l.component k) (until l.ends l.component p.start_entry-at.result c.in-Opens.taken)) (sym c.kept.ensures)
-          (begin_on s l.rows c.type_inv.table l.component l.nodes l.ends l.invariant.6 there p.start_entry-at.result location-is p.start_entry-at.ensures.1 p.start_entry-at.ensures.2 p.start_entry-at.ensures.3
-          c.open-opening.result c.open-opening.ensures.opens c.in-Opens.is
+      c.put_opened.auto.rows ∙ l.invariant.4,
+      subst (λ k. Beginning s c.put_opened.new.rows (l.component + 1) (set l.nodes l.component k) (until l.ends l.component p.start_entry-at.result c.in-Ok.taken)) (sym c.kept.ensures)
+          (begin_on s l.rows c.type_inv.table l.component l.nodes l.ends l.invariant.5 there p.start_entry-at.result location-is p.start_entry-at.ensures.1 p.start_entry-at.ensures.2 p.start_entry-at.ensures.3
+          c.open-opening.result c.open-opening.ensures.opens c.in-Ok.is
           (subst (λ k. Placed s k l.component c.open-opening.result) start_is c.open-opening.ensures.placed) (omega arith) c.put_opened.new.rows c.put_opened.ensures (omega arith) (omega arith)),
     )
 
 pub shape_of-rows : goal.shape_of-rows
-shape_of-rows c = c.loop-component.invariant.5
+shape_of-rows c = c.loop-component.invariant.4
 
 pub returns : goal.returns
 returns c =
     let e = c in
     let l = c.loop-component in
-    let s = begin_all e.args.table.now l.rows c.type_inv.table l.component l.nodes l.ends l.invariant.6 (omega arith) (omega arith) in
+    let s = begin_all e.args.table.now l.rows c.type_inv.table l.component l.nodes l.ends l.invariant.5 (omega arith) (omega arith) in
     record { verdict = sym (ap verdict_of s.begins); started = λ q. s; stops = λ k d q. (let z : ◌≡◌ {A = ℕ} 0 1 = cc in absurd (omega arith)) }

@@ -1,12 +1,12 @@
 -- `schedule::go_on` meets its contract. Assumes nothing.
 use mathlib.Core.Path.{◌≡◌, refl, sym, subst, ◌∙◌}
-use Prim.Native.Nat.{◌+◌, ◌-◌, ◌≤◌, ◌<◌}
+use Prim.Native.Nat.{◌+◌, ◌≤◌, ◌<◌}
 use native.Mathlib.Omega.{arith}
 use borrow.Author.Rules.{rules}
-use lib.ListN.{length, get_or, set, length-set}
+use lib.ListN.{get_or, set, length-set}
 use Rattle.model.specs.Table.{size}
 use Rattle.model.specs.Places.{start_of, read_of}
-use Rattle.window.specs.declared.Opening.TheVariants.{Opens}
+use Rattle.std.specs.Prelude.{Ok}
 use Rattle.window.specs.declared.TakenEdge.{TakenEdge}
 use Rattle.rows.proofs.Sought.{linked_below}
 use Rattle.schedule.specs.declared.Scheduled.{Scheduled}
@@ -92,11 +92,11 @@ next_turn-turn-requires c =
       e.requires.5,
     )
 
-pub shape_of-rows-in-Fails : goal.shape_of-rows-in-Fails
-shape_of-rows-in-Fails c = c.loop-starts.invariant.9
+pub shape_of-rows-in-Err : goal.shape_of-rows-in-Err
+shape_of-rows-in-Err c = c.loop-starts.invariant.9
 
-pub returns-in-Fails : goal.returns-in-Fails
-returns-in-Fails c =
+pub returns-in-Err : goal.returns-in-Err
+returns-in-Err c =
     let closes : Soonest c.loop-starts.ends (size (read_of c.args.table.now).table) c.soonest-component.result =
     (subst (λ k. Soonest c.loop-starts.ends k c.soonest-component.result) c.loop-starts.invariant.3 c.soonest-component.ensures) in
     let turned : Turned c.args.table.now c.loop-starts.rows c.loop-starts.filled c.soonest-component.result (read_of c.args.table.now).horizon (get_or c.loop-starts.nodes c.soonest-component.result blank)
@@ -109,9 +109,9 @@ returns-in-Fails c =
     let below : get_or l.ends k.soonest-component.result 0 < (read_of s).horizon = omega (arith, c.if-horizon-end.false, l.invariant.4) in
     let room : l.filled < 1024 = omega (arith, c.if-filled-ge1024.false) in
     let t = c in record {
-      lists = loop_fails s l.rows c.type_inv.table l.filled l.nodes l.ends l.invariant.10 k.soonest-component.result closes below t.next_turn-turn.result turned room c.in-Fails.is c.refused_at-in-Fails.result.scheduled c.refused_at-in-Fails.ensures.0 c.refused_at-in-Fails.ensures.1;
-      stops = told_stop s c.refused_at-in-Fails.result c.refused_at-in-Fails.ensures.0 c.refused_at-in-Fails.ensures.2 c.refused_at-in-Fails.ensures.3
-          (loop_fails_at s l.rows c.type_inv.table l.filled l.nodes l.ends l.invariant.10 k.soonest-component.result closes below t.next_turn-turn.result turned room c.in-Fails.is);
+      lists = loop_fails s l.rows c.type_inv.table l.filled l.nodes l.ends l.invariant.10 k.soonest-component.result closes below t.next_turn-turn.result turned room c.number.ensures c.in-Err.is c.refused_at-in-Err.result.scheduled c.refused_at-in-Err.ensures.0 c.refused_at-in-Err.ensures.1;
+      stops = told_stop s c.refused_at-in-Err.result c.refused_at-in-Err.ensures.0 c.refused_at-in-Err.ensures.2 c.refused_at-in-Err.ensures.3
+          (loop_fails_at s l.rows c.type_inv.table l.filled l.nodes l.ends l.invariant.10 k.soonest-component.result closes below t.next_turn-turn.result turned room c.number.ensures c.in-Err.is);
     }
 
 pub overflow_add-at : goal.overflow_add-at
@@ -122,37 +122,37 @@ overflow_add-at c =
     (get_or c.loop-starts.ends c.soonest-component.result 0) c.next_turn-turn.result =
     (let l = c.loop-starts in
     subst (λ h. Turned c.args.table.now l.rows l.filled c.soonest-component.result h (get_or l.nodes c.soonest-component.result blank) (get_or l.ends c.soonest-component.result 0) c.next_turn-turn.result) l.invariant.4 c.next_turn-turn.ensures) in
-    let edge-is : (t : TakenEdge) → c.next_turn-turn.result.opening ≡ Opens t
+    let edge-is : (t : TakenEdge) → c.next_turn-turn.result.opening ≡ Ok t
     → (c.next_turn-turn.result.at.tick ≤ 60000) × (t.place < 65536) × (t.ready ≤ 65535) × (t.end ≤ 65535) =
     (λ t q. let l = c.loop-starts in
     let s = c.args.table.now in
     let z = edge_small s c.type_inv.table c.requires.0 c.soonest-component.result (start_of s c.soonest-component.result) q closes.there refl turned.placed in
     let m = turned_tick s l.rows l.filled c.soonest-component.result (read_of s).horizon (get_or l.nodes c.soonest-component.result blank) (get_or l.ends c.soonest-component.result 0) c.next_turn-turn.result turned in
     (omega (arith, m, c.if-horizon-end.false, l.invariant.5), z.0, z.1, z.2)) in
-    let z = edge-is _ c.in-Opens.is in omega (arith, z)
+    let z = edge-is _ c.in-Ok.is in omega (arith, z)
 
-pub overflow_add-at-in-Opens : goal.overflow_add-at-in-Opens
-overflow_add-at-in-Opens c =
+pub overflow_add-at-in-Ok : goal.overflow_add-at-in-Ok
+overflow_add-at-in-Ok c =
     let closes : Soonest c.loop-starts.ends (size (read_of c.args.table.now).table) c.soonest-component.result =
     (subst (λ k. Soonest c.loop-starts.ends k c.soonest-component.result) c.loop-starts.invariant.3 c.soonest-component.ensures) in
     let turned : Turned c.args.table.now c.loop-starts.rows c.loop-starts.filled c.soonest-component.result (read_of c.args.table.now).horizon (get_or c.loop-starts.nodes c.soonest-component.result blank)
     (get_or c.loop-starts.ends c.soonest-component.result 0) c.next_turn-turn.result =
     (let l = c.loop-starts in
     subst (λ h. Turned c.args.table.now l.rows l.filled c.soonest-component.result h (get_or l.nodes c.soonest-component.result blank) (get_or l.ends c.soonest-component.result 0) c.next_turn-turn.result) l.invariant.4 c.next_turn-turn.ensures) in
-    let edge-is : (t : TakenEdge) → c.next_turn-turn.result.opening ≡ Opens t
+    let edge-is : (t : TakenEdge) → c.next_turn-turn.result.opening ≡ Ok t
     → (c.next_turn-turn.result.at.tick ≤ 60000) × (t.place < 65536) × (t.ready ≤ 65535) × (t.end ≤ 65535) =
     (λ t q. let l = c.loop-starts in
     let s = c.args.table.now in
     let z = edge_small s c.type_inv.table c.requires.0 c.soonest-component.result (start_of s c.soonest-component.result) q closes.there refl turned.placed in
     let m = turned_tick s l.rows l.filled c.soonest-component.result (read_of s).horizon (get_or l.nodes c.soonest-component.result blank) (get_or l.ends c.soonest-component.result 0) c.next_turn-turn.result turned in
     (omega (arith, m, c.if-horizon-end.false, l.invariant.5), z.0, z.1, z.2)) in
-    let z = edge-is _ c.in-Opens.is in omega (arith, z)
+    let z = edge-is _ c.in-Ok.is in omega (arith, z)
 
 pub open_before-back-requires : goal.open_before-back-requires
 open_before-back-requires c = let l = c.loop-starts in linked_below l.invariant.10.going.placed l.filled (omega arith)
 
-pub overflow_cast-component-in-Opens : goal.overflow_cast-component-in-Opens
-overflow_cast-component-in-Opens c =
+pub overflow_cast-component-in-Ok : goal.overflow_cast-component-in-Ok
+overflow_cast-component-in-Ok c =
     let small : c.soonest-component.result < 8 =
     (omega (arith, c.soonest-component.ensures.there, c.loop-starts.invariant.2)) in
     omega (arith, small)
@@ -165,7 +165,7 @@ put_opened-requires c =
     (get_or c.loop-starts.ends c.soonest-component.result 0) c.next_turn-turn.result =
     (let l = c.loop-starts in
     subst (λ h. Turned c.args.table.now l.rows l.filled c.soonest-component.result h (get_or l.nodes c.soonest-component.result blank) (get_or l.ends c.soonest-component.result 0) c.next_turn-turn.result) l.invariant.4 c.next_turn-turn.ensures) in
-    let edge-is : (t : TakenEdge) → c.next_turn-turn.result.opening ≡ Opens t
+    let edge-is : (t : TakenEdge) → c.next_turn-turn.result.opening ≡ Ok t
     → (c.next_turn-turn.result.at.tick ≤ 60000) × (t.place < 65536) × (t.ready ≤ 65535) × (t.end ≤ 65535) =
     (λ t q. let l = c.loop-starts in
     let s = c.args.table.now in
@@ -174,7 +174,7 @@ put_opened-requires c =
     (omega (arith, m, c.if-horizon-end.false, l.invariant.5), z.0, z.1, z.2)) in
     let e = c in
     let l = c.loop-starts in
-    let z = edge-is _ c.in-Opens.is in
+    let z = edge-is _ c.in-Ok.is in
     (omega (arith, l.invariant.8, c.if-filled-ge1024.false), omega (arith, c.if-filled-ge1024.false), z.1, omega (arith, c.open_before-back.ensures.0, l.invariant.0), z.0, z.2, z.3)
 
 pub put_message-requires : goal.put_message-requires
@@ -186,14 +186,14 @@ put_message-requires c =
     let z = (node_stands c.args.table.now l.rows c.type_inv.table l.filled l.nodes l.ends l.invariant.10 k.soonest-component.result closes).row in
     (omega (arith, z, l.invariant.0, l.invariant.8, c.put_opened.auto.rows), omega (arith, z, l.invariant.0))
 
-pub offset_bounds-nodes-component-in-Opens : goal.offset_bounds-nodes-component-in-Opens
-offset_bounds-nodes-component-in-Opens c =
+pub offset_bounds-nodes-component-in-Ok : goal.offset_bounds-nodes-component-in-Ok
+offset_bounds-nodes-component-in-Ok c =
     let small : c.soonest-component.result < 8 =
     (omega (arith, c.soonest-component.ensures.there, c.loop-starts.invariant.2)) in
     omega (arith, small)
 
-pub bounds-nodes-component-in-Opens : goal.bounds-nodes-component-in-Opens
-bounds-nodes-component-in-Opens c =
+pub bounds-nodes-component-in-Ok : goal.bounds-nodes-component-in-Ok
+bounds-nodes-component-in-Ok c =
     let small : c.soonest-component.result < 8 =
     (omega (arith, c.soonest-component.ensures.there, c.loop-starts.invariant.2)) in
     omega (arith, small)
@@ -206,23 +206,23 @@ overflow_add-ends c =
     (get_or c.loop-starts.ends c.soonest-component.result 0) c.next_turn-turn.result =
     (let l = c.loop-starts in
     subst (λ h. Turned c.args.table.now l.rows l.filled c.soonest-component.result h (get_or l.nodes c.soonest-component.result blank) (get_or l.ends c.soonest-component.result 0) c.next_turn-turn.result) l.invariant.4 c.next_turn-turn.ensures) in
-    let edge-is : (t : TakenEdge) → c.next_turn-turn.result.opening ≡ Opens t
+    let edge-is : (t : TakenEdge) → c.next_turn-turn.result.opening ≡ Ok t
     → (c.next_turn-turn.result.at.tick ≤ 60000) × (t.place < 65536) × (t.ready ≤ 65535) × (t.end ≤ 65535) =
     (λ t q. let l = c.loop-starts in
     let s = c.args.table.now in
     let z = edge_small s c.type_inv.table c.requires.0 c.soonest-component.result (start_of s c.soonest-component.result) q closes.there refl turned.placed in
     let m = turned_tick s l.rows l.filled c.soonest-component.result (read_of s).horizon (get_or l.nodes c.soonest-component.result blank) (get_or l.ends c.soonest-component.result 0) c.next_turn-turn.result turned in
     (omega (arith, m, c.if-horizon-end.false, l.invariant.5), z.0, z.1, z.2)) in
-    let z = edge-is _ c.in-Opens.is in omega (arith, z)
+    let z = edge-is _ c.in-Ok.is in omega (arith, z)
 
-pub offset_bounds-ends-component-in-Opens : goal.offset_bounds-ends-component-in-Opens
-offset_bounds-ends-component-in-Opens c =
+pub offset_bounds-ends-component-in-Ok : goal.offset_bounds-ends-component-in-Ok
+offset_bounds-ends-component-in-Ok c =
     let small : c.soonest-component.result < 8 =
     (omega (arith, c.soonest-component.ensures.there, c.loop-starts.invariant.2)) in
     omega (arith, small)
 
-pub bounds-ends-component-in-Opens : goal.bounds-ends-component-in-Opens
-bounds-ends-component-in-Opens c =
+pub bounds-ends-component-in-Ok : goal.bounds-ends-component-in-Ok
+bounds-ends-component-in-Ok c =
     let small : c.soonest-component.result < 8 =
     (omega (arith, c.soonest-component.ensures.there, c.loop-starts.invariant.2)) in
     omega (arith, small)
@@ -257,8 +257,8 @@ loop-starts-preserved c =
       simp length-set l.invariant.7,
       omega (arith, c.put_message.auto.rows, c.put_opened.auto.rows, l.invariant.8),
       c.put_message.auto.rows ∙ c.put_opened.auto.rows ∙ l.invariant.9,
-      subst (λ m. Progress s c.put_message.new.rows (l.filled + 1) (set l.nodes c.soonest-component.result m) (until l.ends c.soonest-component.result c.next_turn-turn.result.at c.in-Opens.next)) (sym c.kept.ensures)
-          (subst (λ x. Progress s x (l.filled + 1) (keeps l.nodes l.filled c.soonest-component.result c.next_turn-turn.result.at c.in-Opens.next) (until l.ends c.soonest-component.result c.next_turn-turn.result.at c.in-Opens.next)) (sym c.put_message.ensures) (loop_on s l.rows c.type_inv.table l.filled l.nodes l.ends l.invariant.10 c.soonest-component.result closes (omega (arith, c.if-horizon-end.false, l.invariant.4)) c.next_turn-turn.result turned n
-          c.in-Opens.is (omega (arith, l.invariant.8)) c.open_before-back.result c.open_before-back.ensures.0 (λ i x y. omega (arith, c.open_before-back.ensures.1 i x y)) c.put_opened.new.rows c.put_opened.ensures
+      subst (λ m. Progress s c.put_message.new.rows (l.filled + 1) (set l.nodes c.soonest-component.result m) (until l.ends c.soonest-component.result c.next_turn-turn.result.at c.in-Ok.next)) (sym c.kept.ensures)
+          (subst (λ x. Progress s x (l.filled + 1) (keeps l.nodes l.filled c.soonest-component.result c.next_turn-turn.result.at c.in-Ok.next) (until l.ends c.soonest-component.result c.next_turn-turn.result.at c.in-Ok.next)) (sym c.put_message.ensures) (loop_on s l.rows c.type_inv.table l.filled l.nodes l.ends l.invariant.10 c.soonest-component.result closes (omega (arith, c.if-horizon-end.false, l.invariant.4)) c.next_turn-turn.result turned n
+          c.in-Ok.is (omega (arith, l.invariant.8)) c.open_before-back.result c.open_before-back.ensures.0 (λ i x y. omega (arith, c.open_before-back.ensures.1 i x y)) c.put_opened.new.rows c.put_opened.ensures
           (omega (arith, small, l.invariant.6)) (omega (arith, small, l.invariant.7)))),
     )

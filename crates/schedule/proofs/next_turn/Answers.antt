@@ -1,7 +1,6 @@
 -- `schedule::next_turn` meets its contract. Assumes nothing.
 use mathlib.Core.Path.{subst}
 use native.Mathlib.Omega.{arith}
-use borrow.Author.Rules.{rules}
 use Rattle.window.specs.Views.{Placed}
 use Rattle.schedule.proofs.Leads.{place_within, place_ready, its_present, its_tick, location_there, leaves_row}
 use Rattle.schedule.proofs.next_turn.Goals as goal

@@ -3,7 +3,6 @@ use mathlib.Core.Path.{◌∙◌}
 use native.Mathlib.Omega.{arith}
 use Rattle.schedule.proofs.Tables.{header, horizon_is}
 use Rattle.schedule.proofs.Whole.{rows_placed, plan_refused, plan_faulty, plan_accepted}
-use borrow.Author.Rules.{rules}
 use Rattle.schedule.proofs.plan_rows.Goals as goal
 
 pub word_at-requires : goal.word_at-requires

@@ -1,5 +1,4 @@
 use native.Mathlib.Omega.{arith}
-use borrow.Author.Rules.{rules}
 use lib.ListN.{length-set}
 use Rattle.schedule.proofs.Fields.{seven_stored}
 use Rattle.schedule.proofs.put_seven.Goals as goal

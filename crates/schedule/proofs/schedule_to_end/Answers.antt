@@ -7,7 +7,6 @@ use Rattle.schedule.proofs.Tables.{header, horizon_is}
 use Rattle.model.specs.declared.Verdict.TheVariants.{Refused}
 use Rattle.schedule.proofs.Stopping.{told_stop, first-stop}
 use Rattle.schedule.proofs.Whole.{begun_refused, told_at, filled_put}
-use borrow.Author.Rules.{rules}
 use Rattle.schedule.proofs.schedule_to_end.Goals as goal
 
 pub budgeted-budgets-requires : goal.budgeted-budgets-requires

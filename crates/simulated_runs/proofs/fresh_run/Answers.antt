@@ -2,9 +2,10 @@
 use native.Mathlib.Omega.{arith}
 use borrow.Author.Rules.{rules}
 use Rattle.translator.proofs.Standing.{slice_bytes, few_nodes, valid_long}
+use Rattle.simulation.specs.Simulated.{Span}
 use Rattle.run.proofs.Handed.{small_offsets}
 use Rattle.simulator.proofs.Looping.{zero_at}
-use Rattle.simulated_runs.proofs.Calling.{together, tried_so}
+use Rattle.simulated_runs.proofs.Calling.{together, tried_so, late_among}
 use Rattle.simulated_runs.proofs.fresh_run.Goals as goal
 
 pub start-requires : goal.start-requires
@@ -33,4 +34,10 @@ returns c =
     let s = c in
     let table = s.args.table.now in
     let bytes = slice_bytes table c.type_inv.table in
-    tried_so table bytes s.requires.0 s.requires.2 s.requires.3 c.start.ensures c.word_at-horizon.ensures (record { lo = s.args.lo; hi = s.args.hi }) s.args.seed c.one_run.ensures
+    let w : Span = record { lo = s.args.lo; hi = s.args.hi } in
+    let plan = s.requires.3 in
+    record {
+      run = tried_so table bytes s.requires.0 s.requires.2 plan c.start.ensures c.word_at-horizon.ensures w s.args.seed c.one_run.ensures;
+      node = late_among table s.requires.0 plan.passages plan.accepted_schedule w s.args.seed
+          (tried_so table bytes s.requires.0 s.requires.2 plan c.start.ensures c.word_at-horizon.ensures w s.args.seed c.one_run.ensures plan.passages plan.accepted_schedule);
+    }

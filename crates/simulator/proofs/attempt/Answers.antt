@@ -2,7 +2,6 @@
 use mathlib.Core.Path.{sym, subst, ◌∙◌}
 use Prim.Native.Nat.{ℕ}
 use native.Mathlib.Omega.{arith}
-use borrow.Author.Rules.{rules}
 use borrow.Author.Tests.{not-true, not-false}
 use Rattle.simulator.specs.Tries.{StillBy}
 use Rattle.simulator.proofs.Still.{told_working}
@@ -59,8 +58,8 @@ returns-then-op_of-eq-LISTEN c H =
     then_listens a.program.now a.rows.now a.passages H a.count a.tick a.c a.lo a.hi a.state a.words.now a.values.now a.until.now s.requires.1 (c.move_node-allowed.ensures H).chosen s.requires.0 ((c.move_node-allowed.ensures H).may ∙ not-false c.move_node-allowed.result c.if-not-allowed.false-raw)
     (c.op_of-op.ensures a.values.now) (sym c.waits_at.ensures ∙ c.if-waits_at.false) s.requires.2 c.if-op-ne-SLEEP.false (c.op_of.ensures a.values.now) c.if-op_of-eq-LISTEN.true
 
-pub draw_work-drawn-requires : goal.draw_work-drawn-requires
-draw_work-drawn-requires c =
+pub draw_work-requires : goal.draw_work-requires
+draw_work-requires c =
     let s = c in
     (s.requires.2, omega (arith, s.requires.0.running.most, s.requires.1), s.requires.3, s.requires.4, s.requires.5)
 
@@ -70,4 +69,4 @@ returns c H =
     let s = c in
     let a = s.args in
     then_draws a.program.now a.rows.now a.passages H a.count a.tick a.c a.lo a.hi a.state a.words.now a.values.now a.until.now s.requires.1 (c.move_node-allowed.ensures H).chosen s.requires.0 ((c.move_node-allowed.ensures H).may ∙ not-false c.move_node-allowed.result c.if-not-allowed.false-raw)
-    (c.op_of-op.ensures a.values.now) (sym c.waits_at.ensures ∙ c.if-waits_at.false) s.requires.2 c.if-op-ne-SLEEP.false (c.op_of.ensures a.values.now) c.if-op_of-eq-LISTEN.false c.draw_work-drawn.ensures.0 c.draw_work-drawn.ensures.1
+    (c.op_of-op.ensures a.values.now) (sym c.waits_at.ensures ∙ c.if-waits_at.false) s.requires.2 c.if-op-ne-SLEEP.false (c.op_of.ensures a.values.now) c.if-op_of-eq-LISTEN.false c.draw_work.ensures.0 c.draw_work.ensures.1

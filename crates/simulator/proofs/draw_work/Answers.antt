@@ -2,7 +2,6 @@
 use mathlib.Core.Path.{◌≡◌, ap, ◌∙◌}
 use Prim.Native.Nat.{ℕ, ◌+◌}
 use lib.ListN.{set}
-use borrow.Author.Rules.{rules}
 use Rattle.generator.specs.Xorshift.{next_of}
 use Rattle.simulation.specs.Simulated.{work_ticks}
 use Rattle.simulator.proofs.draw_work.Goals as goal

@@ -1,7 +1,6 @@
 -- `simulator::one_turn` meets its contract. Assumes nothing.
 use mathlib.Core.Path.{◌≡◌, ap, ◌∙◌}
 use native.Mathlib.Omega.{arith}
-use borrow.Author.Rules.{rules}
 use Rattle.simulator.specs.declared.Turn.{Turn}
 use Rattle.simulator.proofs.Still.{placed}
 use Rattle.simulator.proofs.Turning.{turned_is, begun_anew}

@@ -1,5 +1,4 @@
 -- `simulator::op_of` meets its contract. Assumes nothing.
-use borrow.Author.Rules.{rules}
 use Rattle.machine.proofs.Loads.{op_read}
 use Rattle.simulator.proofs.op_of.Goals as goal
 

@@ -1,7 +1,6 @@
 -- `simulator::take_turn` meets its contract. Assumes nothing.
 use native.Mathlib.Omega.{arith}
 use Rattle.simulator.proofs.Passing.{holds_ready, passed_turned, few_passed}
-use borrow.Author.Rules.{rules}
 use Rattle.simulator.proofs.take_turn.Goals as goal
 
 pub overflow_sub-passed : goal.overflow_sub-passed

@@ -1,7 +1,7 @@
 -- `simulator::tick_turn` meets its contract. Assumes nothing.
-use mathlib.Core.Path.{sym, ap, ◌∙◌}
+use mathlib.Core.Path.{refl, sym, ap, ◌∙◌}
 use native.Mathlib.Omega.{arith}
-use borrow.Author.Rules.{rules}
+use Rattle.std.specs.Prelude.{None, Some}
 use Rattle.simulator.specs.declared.Turn.{Turn}
 use Rattle.simulator.proofs.Ticking.{due_ends, late-ends, horizon_ends}
 use Rattle.simulator.proofs.Turning.{turned_is, is_over, ticked_on}
@@ -13,20 +13,20 @@ returns-then-some_due c =
     let s = c in
     let a = s.args in (
       (λ program rows n lo hi v until y h all none. turned_is c.over_at.ensures
-          (is_over 255 a.tick a.turn a.state (due_ends program a.horizon rows n a.words.now v a.count lo hi a.tick a.turn a.state until h all none s.requires.2 (sym c.some_due.ensures ∙ c.if-some_due.true)))),
+          (is_over None a.tick a.turn a.state (due_ends program a.horizon rows n a.words.now v a.count lo hi a.tick a.turn a.state until h all none s.requires.2 (sym c.some_due.ensures ∙ c.if-some_due.true)))),
       ap (λ (x : Turn). x.turns) c.over_at.ensures,
       omega (arith, ap (λ (x : Turn). x.tick) c.over_at.ensures),
     )
 
 -- a node is late
-pub returns-then-c-count : goal.returns-then-c-count
-returns-then-c-count c =
+pub returns-in-Some : goal.returns-in-Some
+returns-in-Some c =
     let s = c in
     let a = s.args in (
-      (λ program rows n lo hi v until y h all none. turned_is c.over_at-then-c-count.ensures
-          (is_over c.first_late-c.result a.tick a.turn a.state (late-ends program a.horizon rows n a.words.now v a.count lo hi a.tick a.turn a.state until h all none s.requires.2 (sym c.some_due.ensures ∙ c.if-some_due.false) c.first_late-c.ensures c.if-c-count.true))),
-      ap (λ (x : Turn). x.turns) c.over_at-then-c-count.ensures,
-      omega (arith, ap (λ (x : Turn). x.tick) c.over_at-then-c-count.ensures),
+      (λ program rows n lo hi v until y h all none. turned_is c.over_at-in-Some.ensures
+          (is_over (Some c.in-Some.c) a.tick a.turn a.state (late-ends program a.horizon rows n a.words.now v a.count lo hi a.tick a.turn a.state until h all none s.requires.2 (sym c.some_due.ensures ∙ c.if-some_due.false) c.in-Some.ensures.first (c.in-Some.ensures.node c.in-Some.c refl)))),
+      ap (λ (x : Turn). x.turns) c.over_at-in-Some.ensures,
+      omega (arith, ap (λ (x : Turn). x.tick) c.over_at-in-Some.ensures),
     )
 
 -- the horizon is reached
@@ -35,7 +35,7 @@ returns-then-tick-horizon c =
     let s = c in
     let a = s.args in (
       (λ program rows n lo hi v until y h all none. turned_is c.over_at-then-tick-horizon.ensures
-          (is_over 255 a.tick a.turn a.state (horizon_ends program a.horizon rows n a.words.now v a.count lo hi a.tick a.turn a.state until h all none s.requires.2 (sym c.some_due.ensures ∙ c.if-some_due.false) c.first_late-c.ensures c.if-c-count.false c.if-tick-horizon.true))),
+          (is_over None a.tick a.turn a.state (horizon_ends program a.horizon rows n a.words.now v a.count lo hi a.tick a.turn a.state until h all none s.requires.2 (sym c.some_due.ensures ∙ c.if-some_due.false) c.in_default.ensures.first (omega arith) c.if-tick-horizon.true))),
       ap (λ (x : Turn). x.turns) c.over_at-then-tick-horizon.ensures,
       omega (arith, ap (λ (x : Turn). x.tick) c.over_at-then-tick-horizon.ensures),
     )
@@ -46,7 +46,7 @@ returns c =
     let s = c in
     let a = s.args in (
       (λ program rows n lo hi v until y h all none. turned_is c.anew_at.ensures
-          (ticked_on program rows n a.horizon a.count a.tick a.turn lo hi a.state a.words.now v until h all none s.requires.2 (sym c.some_due.ensures ∙ c.if-some_due.false) c.first_late-c.ensures c.if-c-count.false c.if-tick-horizon.false)),
+          (ticked_on program rows n a.horizon a.count a.tick a.turn lo hi a.state a.words.now v until h all none s.requires.2 (sym c.some_due.ensures ∙ c.if-some_due.false) c.in_default.ensures.first (omega arith) c.if-tick-horizon.false)),
       ap (λ (x : Turn). x.turns) c.anew_at.ensures,
       omega (arith, ap (λ (x : Turn). x.tick) c.anew_at.ensures),
     )

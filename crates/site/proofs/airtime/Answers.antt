@@ -1,9 +1,7 @@
 -- `site::airtime` meets its contract. Assumes nothing.
-use mathlib.Core.Path.{◌≡◌, ◌∙◌}
 use Rattle.table.proofs.Answered.{was_valid, its_starts, read_refused}
 use Rattle.model.specs.Lists.{refused}
 use Rattle.site.proofs.Loading.{load_of, load_unread}
-use borrow.Author.Rules.{rules}
 use Rattle.site.proofs.airtime.Goals as goal
 
 pub airtime_read-requires : goal.airtime_read-requires

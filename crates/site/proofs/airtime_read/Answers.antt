@@ -1,5 +1,5 @@
 -- `site::airtime_read` meets its contract. Assumes nothing.
-use mathlib.Core.Path.{◌≡◌, ap, ◌∙◌}
+use mathlib.Core.Path.{ap, ◌∙◌}
 use Prim.Native.Nat.{ℕ}
 use native.Mathlib.Omega.{arith}
 use Rattle.schedule.proofs.Tables.{horizon_is, header}
@@ -8,7 +8,6 @@ use Rattle.model.specs.Lists.{refused}
 use Rattle.model.specs.Places.{read_of}
 use Rattle.rows.specs.Rows.{rows_of}
 use Rattle.site.specs.Airtime.{airtime}
-use borrow.Author.Rules.{rules}
 use Rattle.site.proofs.airtime_read.Goals as goal
 
 pub word_at-horizon-requires : goal.word_at-horizon-requires

@@ -1,10 +1,9 @@
 -- `site::one_horizon` meets its contract. Assumes nothing.
-use mathlib.Core.Path.{◌≡◌, ap₂, ◌∙◌}
+use mathlib.Core.Path.{ap₂, ◌∙◌}
 use mathlib.Core.Bool.{Bool, ◌&&◌}
 use Rattle.site.specs.Airtime.{shares_horizon}
 use Rattle.site.specs.Lent.{place_in}
 use Rattle.site.proofs.Keeping.{four_all}
-use borrow.Author.Rules.{rules}
 use Rattle.site.proofs.one_horizon.Goals as goal
 
 pub returns : goal.returns

@@ -1,7 +1,6 @@
 -- `site::put` meets its contract. Assumes nothing.
-use mathlib.Core.Path.{◌≡◌, ◌∙◌}
+use mathlib.Core.Path.{◌∙◌}
 use Rattle.site.proofs.Loading.{put_refused, put_accepted, load_least}
-use borrow.Author.Rules.{rules}
 use Rattle.site.proofs.put.Goals as goal
 
 pub put_load-requires : goal.put_load-requires

@@ -1,7 +1,6 @@
 -- `site::refuse` meets its contract. Assumes nothing.
 use mathlib.Core.Path.{ap}
 use Prim.Native.Nat.{ℕ}
-use borrow.Author.Rules.{rules}
 use Rattle.site.proofs.refuse.Goals as goal
 
 pub returns : goal.returns

@@ -1,6 +1,4 @@
 -- `site::row_airtime` meets its contract. Assumes nothing.
-use native.Mathlib.Omega.{arith}
-use borrow.Author.Rules.{rules}
 use Rattle.site.proofs.Rowing.{row_counts, row_not}
 use Rattle.site.proofs.row_airtime.Goals as goal
 

@@ -1,8 +1,7 @@
 -- `site::rows_airtime` meets its contract. Assumes nothing.
 use mathlib.Core.Path.{◌≡◌, sym, ap, ap₂, ◌∙◌}
-use Prim.Native.Nat.{ℕ, suc, ◌+◌, ◌-◌, ◌*◌, ◌≤◌}
+use Prim.Native.Nat.{ℕ, suc, ◌+◌, ◌-◌}
 use native.Mathlib.Omega.{arith}
-use borrow.Author.Rules.{rules}
 use Rattle.rows.proofs.Placed.{row_known}
 use Rattle.site.proofs.Rowing.{airtime_from, none_left, one_more}
 use Rattle.site.proofs.rows_airtime.Goals as goal

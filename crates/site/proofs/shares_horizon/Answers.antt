@@ -2,7 +2,6 @@
 use mathlib.Core.Path.{◌∙◌}
 use lib.ListN.{get_or}
 use Rattle.site.proofs.Keeping.{shares_is}
-use borrow.Author.Rules.{rules}
 use Rattle.site.proofs.shares_horizon.Goals as goal
 
 pub returns : goal.returns

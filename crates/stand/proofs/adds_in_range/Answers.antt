@@ -1,7 +1,7 @@
 -- `stand::adds_in_range` meets its contract. Assumes nothing.
 use mathlib.Core.Path.{◌∙◌}
 use Rattle.node.proofs.Sums.{wide_fits, wide_back}
-use borrow.Author.Rules.{rules, sfits_of}
+use borrow.Author.Rules.{sfits_of}
 use Rattle.stand.proofs.adds_in_range.Goals as goal
 
 pub overflow_add-sum : goal.overflow_add-sum

@@ -5,7 +5,6 @@ use Rattle.stand.specs.Stands.{last_tick}
 use Rattle.node.specs.Views.{node_of}
 use mathlib.Core.Path.{◌≡◌, sym, ap, ◌∙◌}
 use native.Mathlib.Omega.{arith}
-use borrow.Author.Rules.{rules}
 use Rattle.stand.proofs.last_by.Goals as goal
 
 pub returns-then-op-gt-LISTEN : goal.returns-then-op-gt-LISTEN

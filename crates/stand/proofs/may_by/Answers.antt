@@ -5,7 +5,6 @@ use Rattle.stand.proofs.ByOp.{sort_is, stand-at, kept_some, unbound}
 use Rattle.stand.specs.Stands.{may_finish}
 use Rattle.node.specs.Views.{node_of}
 use mathlib.Core.Path.{◌≡◌, sym, ap, ◌∙◌}
-use borrow.Author.Rules.{rules}
 use Rattle.stand.proofs.may_by.Goals as goal
 
 pub returns-then-op-eq-SLEEP : goal.returns-then-op-eq-SLEEP

@@ -1,5 +1,4 @@
 -- `stand::start_node` meets its contract. Assumes nothing.
-use borrow.Author.Rules.{rules}
 use Rattle.stand.proofs.start_node.Goals as goal
 
 pub returns : goal.returns

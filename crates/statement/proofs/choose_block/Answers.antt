@@ -1,7 +1,6 @@
 -- `statement::choose_block` meets its contract. Assumes nothing.
 use Rattle.statement.proofs.Carries.{finished_chosen}
 use mathlib.Core.Path.{◌∙◌}
-use borrow.Author.Rules.{rules}
 use Rattle.statement.proofs.choose_block.Goals as goal
 
 pub returns : goal.returns

@@ -8,7 +8,6 @@ use Prim.Native.Nat.{◌<◌, ◌+◌, ◌%◌}
 use Rattle.registers.specs.Words.{word_in, clocks_in, node_in, held_in}
 use native.Mathlib.Omega.{arith}
 use mathlib.Core.Path.{◌≡◌, refl, ◌∙◌}
-use borrow.Author.Rules.{rules}
 use Rattle.statement.proofs.clock_statement.Goals as goal
 
 pub returns-then-small-a : goal.returns-then-small-a

@@ -6,7 +6,6 @@ use borrow.Author.Tests.{eq-eqb, ne_eqb}
 use Prim.Native.Nat.{◌%◌}
 use Rattle.registers.specs.Words.{word_in, node_in, held_in}
 use mathlib.Core.Path.{◌≡◌, sym, ◌∙◌}
-use borrow.Author.Rules.{rules}
 use Rattle.statement.proofs.enter_statement.Goals as goal
 
 pub returns-then-word-eq1 : goal.returns-then-word-eq1

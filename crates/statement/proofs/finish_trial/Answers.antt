@@ -40,8 +40,8 @@ overflow_add-to c =
     omega (arith, c.word-at.ensures, inside a.part.now (word_in a.words.now a.c 0) a.op opened)) in
     omega (arith, placed)
 
-pub try_on-requires : goal.try_on-requires
-try_on-requires c =
+pub try_statement-requires : goal.try_statement-requires
+try_statement-requires c =
     let opened : let a = c.args in Opens (drop (word_in a.words.now a.c 0) a.part.now) a.op =
     (let s = c in opens _ _ (sym s.requires.4) (not-above s.args.op 255 s.requires.6 (omega arith) (λ q. absurd (omega (arith, q))))) in
     let there : let a = c.args in take (length a.part.now - c.word-at.result) (drop c.word-at.result a.part.now) ≡ drop (word_in a.words.now a.c 0) a.part.now =
@@ -83,4 +83,4 @@ returns c =
     finished_on a.words.now a.values.now a.c to c.put_place.new.words st a.part.now _ there a.op (sym s.requires.4)
     o.low (not-above a.op 16 s.requires.6 (omega arith) (λ q. absurd (omega (arith, q)))) (not-above a.op 17 s.requires.6 (omega arith) (λ q. absurd (omega (arith, q)))) 4 (four_bytes bytes (omega (arith, o.first, s.requires.5)))
     (ap (λ (i : ℕ). i + 4) e.word-at.ensures)
-    c.try_on.ensures
+    c.try_statement.ensures

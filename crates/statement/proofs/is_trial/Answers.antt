@@ -2,7 +2,6 @@
 use native.Mathlib.Omega.{arith}
 use Rattle.model.proofs.Basics.Bools.{clash}
 use borrow.Author.Tests.{ltb-true}
-use borrow.Author.Rules.{rules}
 use Rattle.statement.proofs.is_trial.Goals as goal
 
 pub returns-then-op-lt-TRIAL : goal.returns-then-op-lt-TRIAL

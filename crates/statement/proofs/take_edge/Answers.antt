@@ -4,7 +4,6 @@ use borrow.Author.Tests.{not-true, not-false}
 use Rattle.statement.proofs.Carries.{finished_nowhere, finished_taken}
 use native.Mathlib.Omega.{arith}
 use mathlib.Core.Path.{◌∙◌}
-use borrow.Author.Rules.{rules}
 use Rattle.statement.proofs.take_edge.Goals as goal
 
 pub returns-then-not-kept : goal.returns-then-not-kept

@@ -12,11 +12,11 @@ use Rattle.node.proofs.Effects.{clock_tries, value_tries}
 use Rattle.statement.proofs.Carries.{carried_kept, carried_trial}
 use Rattle.registers.specs.Words.{node_in, held_in}
 use mathlib.Core.Path.{ap, ap₂, ◌∙◌}
-use borrow.Author.Rules.{rules, sfits_of}
+use borrow.Author.Rules.{sfits_of}
 use Rattle.statement.proofs.try_statement.Goals as goal
 
 pub returns-then-op-eq-KEEP : goal.returns-then-op-eq-KEEP
-returns-then-op-eq-KEEP c =
+returns-then-op-eq-KEEP g c =
     let s = c in
     let a = s.args in
     let p = s.requires in
@@ -25,7 +25,7 @@ returns-then-op-eq-KEEP c =
     (c.put_kept.ensures a.values.now)
 
 pub returns-then-op-eq-TRIAL : goal.returns-then-op-eq-TRIAL
-returns-then-op-eq-TRIAL c =
+returns-then-op-eq-TRIAL g c =
     let s = c in
     let a = s.args in
     let p = s.requires in
@@ -34,7 +34,7 @@ returns-then-op-eq-TRIAL c =
     (c.put_trial.ensures a.values.now)
 
 pub returns-then-op-lt-DATA_LOW : goal.returns-then-op-lt-DATA_LOW
-returns-then-op-lt-DATA_LOW c =
+returns-then-op-lt-DATA_LOW g c =
     let s = c in
     let a = s.args in
     let p = s.requires in
@@ -43,7 +43,7 @@ returns-then-op-lt-DATA_LOW c =
     (c.put_trial-then-op-lt-DATA_LOW.ensures a.values.now)
 
 pub returns-then-op-eq-BUDGET : goal.returns-then-op-eq-BUDGET
-returns-then-op-eq-BUDGET c =
+returns-then-op-eq-BUDGET g c =
     let s = c in
     let a = s.args in
     let p = s.requires in
@@ -54,10 +54,10 @@ returns-then-op-eq-BUDGET c =
     (c.put_trial-then-op-eq-BUDGET.ensures a.values.now)
 
 pub by_value-next-requires : goal.by_value-next-requires
-by_value-next-requires c = let s = c in (s.requires.0, omega (arith, c.if-op-lt-DATA_LOW.false), below_keep _ s.requires.2 c.if-op-eq-KEEP.false c.if-op-eq-BUDGET.false)
+by_value-next-requires g c = let s = c in (s.requires.0, omega (arith, c.if-op-lt-DATA_LOW.false), below_keep _ s.requires.2 c.if-op-eq-KEEP.false c.if-op-eq-BUDGET.false)
 
 pub returns : goal.returns
-returns c =
+returns g c =
     let s = c in
     let a = s.args in
     let p = s.requires in

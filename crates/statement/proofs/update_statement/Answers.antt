@@ -8,11 +8,11 @@ use Rattle.model.specs.Reader.{byte, word, complement}
 use lib.Seq.{get_or-take}
 use lib.ListN.{set, get_or}
 use lib.IntN.{pos, ◌+ℤ◌}
-use Prim.Native.Nat.{◌<◌, ◌+◌}
+use Prim.Native.Nat.{◌<◌}
 use Rattle.registers.specs.Words.{values_in, node_in, held_in}
 use native.Mathlib.Omega.{arith}
 use mathlib.Core.Path.{◌≡◌, refl, ◌∙◌}
-use borrow.Author.Rules.{rules, sfits_of}
+use borrow.Author.Rules.{sfits_of}
 use Rattle.statement.proofs.update_statement.Goals as goal
 
 pub returns-then-small-a : goal.returns-then-small-a

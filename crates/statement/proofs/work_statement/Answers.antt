@@ -1,7 +1,6 @@
 -- `statement::work_statement` meets its contract. Assumes nothing.
 use Rattle.statement.proofs.Carries.{carried_slept, carried_idle}
 use native.Mathlib.Omega.{arith}
-use borrow.Author.Rules.{rules}
 use Rattle.statement.proofs.work_statement.Goals as goal
 
 pub returns-then-op-eq-ENTER : goal.returns-then-op-eq-ENTER

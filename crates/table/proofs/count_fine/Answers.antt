@@ -1,5 +1,4 @@
 -- `table::count_fine` meets its contract. Assumes nothing.
-use borrow.Author.Rules.{rules}
 use Rattle.table.proofs.count_fine.Goals as goal
 
 pub returns : goal.returns

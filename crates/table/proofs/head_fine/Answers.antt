@@ -1,5 +1,4 @@
 -- `table::head_fine` meets its contract. Assumes nothing.
-use borrow.Author.Rules.{rules}
 use Rattle.table.proofs.head_fine.Goals as goal
 
 pub returns : goal.returns

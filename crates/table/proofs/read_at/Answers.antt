@@ -1,7 +1,6 @@
 -- `table::read_at` meets its contract. Assumes nothing.
 use mathlib.Core.Path.{◌∙◌}
 use native.Mathlib.Omega.{arith}
-use borrow.Author.Rules.{rules}
 use Rattle.table.proofs.Answered.{at_narrow, at_wide, at_header, at_parts}
 use Rattle.table.proofs.read_at.Goals as goal
 

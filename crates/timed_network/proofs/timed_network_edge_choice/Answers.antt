@@ -2,7 +2,6 @@
 use mathlib.Core.Path.{ap, ◌∙◌}
 use Rattle.model.specs.Calls.{number_of, concerned_of}
 use Rattle.model.specs.EdgeChoice.{EdgeChoiceCall}
-use borrow.Author.Rules.{rules}
 use Rattle.timed_network.proofs.timed_network_edge_choice.Goals as goal
 
 pub returns : goal.returns

@@ -8,7 +8,6 @@ use Rattle.model.specs.Calls.{number_of, concerned_of}
 use Rattle.slot_plan.specs.declared.Slots.{Slots}
 use Rattle.slot_plan.specs.PlanSchedule.{PlanAccepted}
 use Rattle.slot_plan.proofs.Planned.{zero_accepts}
-use borrow.Author.Rules.{rules}
 use Rattle.timed_network.proofs.timed_network_plan.Goals as goal
 
 same_size : (slots : Slots) (bytes : List ℕ) {size told : ℕ} → told ≡ size → PlanAccepted slots (take size bytes) → PlanAccepted slots (take told bytes)

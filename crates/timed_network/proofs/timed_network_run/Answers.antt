@@ -1,20 +1,19 @@
 -- `timed_network::timed_network_run` meets its contract. Assumes nothing.
-use mathlib.Core.Path.{ap}
-use native.Mathlib.Omega.{arith}
+use mathlib.Core.Path.{ap, sym, ◌∙◌}
 use Rattle.model.specs.Calls.{run_call}
 use Rattle.model.proofs.Observations.All.{observations_read}
 use Rattle.model.proofs.Run.Finished.{finishes_together}
 use Rattle.model.proofs.Run.Promise.{promised}
 use Rattle.timed_network.proofs.Header.{no_run}
+use Rattle.table.proofs.Whole.{asks}
 use Rattle.timed_network.proofs.Whole.{whole}
 use Rattle.timed_network.proofs.Numbered.{numbers_by}
-use borrow.Author.Rules.{rules}
 use Rattle.timed_network.proofs.timed_network_run.Goals as goal
 
-pub returns-then-header-ne0 : goal.returns-then-header-ne0
-returns-then-header-ne0 c =
+pub returns-in-Err : goal.returns-in-Err
+returns-in-Err c =
     let a = c.args in (
-      rw (no_run a.table.now c.header-header.result c.header-header.ensures (λ z. omega (arith, z, c.if-header-ne0.true)) a.choices.now a.observations.now) (c.header_run.ensures a.observations.now),
+      rw (no_run a.table.now c.from.result (c.from.ensures ∙ c.in-Err.ensures) (λ z. asks c.in-Err.fault (sym c.from.ensures ∙ z)) a.choices.now a.observations.now) (c.header_run.ensures a.observations.now),
       λ t S e q. promised a.table.now t S e q a.choices.now,
       observations_read a.table.now a.choices.now a.observations.now,
       finishes_together a.table.now a.choices.now,

@@ -1,17 +1,17 @@
 -- `timed_network::timed_network_timing_chart` meets its contract. Assumes nothing.
-use mathlib.Core.Path.{refl, ap, ◌∙◌}
+use mathlib.Core.Path.{refl, ap, ◌∙◌, sym}
 use native.Mathlib.Omega.{arith}
 use Rattle.model.specs.Calls.{Call, number_of, concerned_of}
 use Rattle.model.specs.Chart.{chart_call}
 use Rattle.timed_network.proofs.Header.{no_chart}
+use Rattle.table.proofs.Whole.{asks}
 use Rattle.timed_network.proofs.Whole.{whole}
-use borrow.Author.Rules.{rules}
 use Rattle.timed_network.proofs.timed_network_timing_chart.Goals as goal
 
-pub returns-then-header-ne0 : goal.returns-then-header-ne0
-returns-then-header-ne0 c =
+pub returns-in-Err : goal.returns-in-Err
+returns-in-Err c =
     let a = c.args in
-    rw (no_chart a.table.now c.header-header.result c.header-header.ensures (λ z. omega (arith, z, c.if-header-ne0.true)) a.chart.now) (c.header_numbers.ensures.0, c.header_numbers.ensures.1, c.header_numbers.ensures.2, refl)
+    rw (no_chart a.table.now c.from.result (c.from.ensures ∙ c.in-Err.ensures) (λ z. asks c.in-Err.fault (sym c.from.ensures ∙ z)) a.chart.now) (c.header_numbers.ensures.0, c.header_numbers.ensures.1, c.header_numbers.ensures.2, refl)
 
 pub numbers_of-requires : goal.numbers_of-requires
 numbers_of-requires c = omega (arith, c.timing_chart-c.ensures.3)

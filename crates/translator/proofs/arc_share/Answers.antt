@@ -1,5 +1,4 @@
 -- `translator::arc_share` meets its contract. Assumes nothing.
-use borrow.Author.Rules.{rules}
 use Rattle.translator.proofs.Sizes.{shared}
 use Rattle.translator.proofs.arc_share.Goals as goal
 

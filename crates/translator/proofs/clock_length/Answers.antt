@@ -1,5 +1,4 @@
 -- `translator::clock_length` meets its contract. Assumes nothing.
-use borrow.Author.Rules.{rules}
 use Rattle.translator.proofs.Sizes.{one_test, two_tests}
 use native.Mathlib.Omega.{arith}
 use Rattle.translator.proofs.clock_length.Goals as goal

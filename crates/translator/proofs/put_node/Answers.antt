@@ -1,5 +1,4 @@
 -- `translator::put_node` meets its contract. Assumes nothing.
-use borrow.Author.Rules.{rules}
 use Prim.Native.Nat.{◌+◌, ◌*◌}
 use native.Mathlib.Omega.{arith}
 use Rattle.translator.proofs.Laying.{arcs_there}

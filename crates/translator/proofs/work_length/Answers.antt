@@ -1,5 +1,4 @@
 -- `translator::work_length` meets its contract. Assumes nothing.
-use borrow.Author.Rules.{rules}
 use native.Mathlib.Omega.{arith}
 use mathlib.Core.Path.{sym, ◌∙◌}
 use Rattle.translator.proofs.Sizes.{send_length, internal_length, receive_length}

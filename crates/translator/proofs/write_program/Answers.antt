@@ -1,5 +1,4 @@
 -- `translator::write_program` meets its contract. Assumes nothing.
-use borrow.Author.Rules.{rules}
 use native.Mathlib.Omega.{arith}
 use Rattle.translator.proofs.Standing.{slice_bytes, valid_long}
 use Rattle.translator.proofs.Programs.{program_most, nodes_room, ends, head_fits, program_put}

@@ -1,7 +1,6 @@
 -- `turning::counted` meets its contract. Assumes nothing.
 use mathlib.Core.Path.{sym, ◌∙◌}
 use Rattle.turning.proofs.Between.{is-of, not_of}
-use borrow.Author.Rules.{rules}
 use Rattle.turning.proofs.counted.Goals as goal
 
 pub returns-then-index-c : goal.returns-then-index-c

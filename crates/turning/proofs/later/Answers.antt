@@ -1,7 +1,6 @@
 -- `turning::later` meets its contract. Assumes nothing.
 use native.Mathlib.Omega.{arith}
 use Rattle.turning.proofs.Moved.{later_last, later_held}
-use borrow.Author.Rules.{rules}
 use Rattle.turning.proofs.later.Goals as goal
 
 pub returns-then-period-ready : goal.returns-then-period-ready

@@ -1,10 +1,9 @@
 -- `turning::move_rows` meets its contract. Assumes nothing.
 use mathlib.Core.Path.{ap, ◌∙◌}
-use Prim.Native.Nat.{ℕ, ◌+◌, ◌-◌, ◌≤◌}
+use Prim.Native.Nat.{ℕ, ◌+◌}
 use native.Mathlib.Omega.{arith}
 use Rattle.recurrence.proofs.Turned.{capped}
-use Rattle.turning.proofs.Moved.{MovedTo, none_moved, one_moved, all_moved, in_rows}
-use borrow.Author.Rules.{rules}
+use Rattle.turning.proofs.Moved.{none_moved, one_moved, all_moved, in_rows}
 use Rattle.turning.proofs.move_rows.Goals as goal
 
 pub loop-i-init : goal.loop-i-init
@@ -24,9 +23,6 @@ offset_bounds-rows-i c = omega (arith, c.requires.few)
 
 pub bounds-rows-i : goal.bounds-rows-i
 bounds-rows-i c = in_rows c.args.period c.args.rows.now c.loop-i.rows c.loop-i.i c.loop-i.invariant.1 c.args.passages c.requires c.loop-i-test.true
-
-pub overflow_add-i : goal.overflow_add-i
-overflow_add-i c = omega (arith, c.requires.few)
 
 pub loop-i-preserved : goal.loop-i-preserved
 loop-i-preserved c =

@@ -1,11 +1,10 @@
 -- `turning::rows_between` meets its contract. Assumes nothing.
 use mathlib.Core.Path.{◌≡◌, sym, ap, ◌∙◌}
-use Prim.Native.Nat.{ℕ, ◌+◌, ◌-◌, ◌≤◌}
+use Prim.Native.Nat.{ℕ, ◌+◌}
 use native.Mathlib.Omega.{arith}
 use Rattle.rows.specs.Rows.{rows_of}
 use Rattle.turning.specs.Turned.{between, is_of}
 use Rattle.turning.proofs.Between.{none_between, one_between, most_one}
-use borrow.Author.Rules.{rules}
 use Rattle.turning.proofs.rows_between.Goals as goal
 
 pub loop-i-init : goal.loop-i-init

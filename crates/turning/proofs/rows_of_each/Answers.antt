@@ -1,12 +1,10 @@
 -- `turning::rows_of_each` meets its contract. Assumes nothing.
-use mathlib.Core.Path.{◌≡◌, refl, ◌∙◌}
-use Prim.Native.Nat.{ℕ, ◌-◌, ◌≤◌, ◌<◌}
+use mathlib.Core.Path.{refl, ◌∙◌}
 use native.Mathlib.Omega.{arith}
-use lib.ListN.{length, get_or, length-set}
+use lib.ListN.{length-set}
 use Rattle.rows.specs.Rows.{rows_of}
 use Rattle.turning.specs.Turned.{between}
 use Rattle.turning.proofs.Between.{one_counted}
-use borrow.Author.Rules.{rules}
 use Rattle.turning.proofs.rows_of_each.Goals as goal
 
 pub loop-c-init : goal.loop-c-init

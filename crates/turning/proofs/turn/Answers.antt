@@ -1,8 +1,6 @@
 -- `turning::turn` meets its contract. Assumes nothing.
-use Prim.Native.Nat.{◌-◌, ◌≤◌}
 use native.Mathlib.Omega.{arith}
-use Rattle.turning.proofs.Back.{SetBack, none_back, one_back, next_fewer, all_turned}
-use borrow.Author.Rules.{rules}
+use Rattle.turning.proofs.Back.{none_back, one_back, next_fewer, all_turned}
 use Rattle.turning.proofs.turn.Goals as goal
 
 pub move_rows-requires : goal.move_rows-requires
@@ -16,9 +14,6 @@ overflow_add-first c = omega (arith, c.requires.0.few, c.requires.2, c.requires.
 
 pub turn_node-requires : goal.turn_node-requires
 turn_node-requires c = (omega (arith, c.loop-c.invariant.1.long, c.requires.1), omega (arith, c.requires.2, c.loop-c-test.true), next_fewer c.loop-c.invariant.1 (c.requires.4 c.loop-c.c c.loop-c-test.true))
-
-pub overflow_add-c : goal.overflow_add-c
-overflow_add-c c = omega (arith, c.requires.2, c.loop-c-test.true)
 
 pub loop-c-preserved : goal.loop-c-preserved
 loop-c-preserved c =

@@ -1,11 +1,10 @@
 -- `turning::turn_node` meets its contract. Assumes nothing.
-use mathlib.Core.Path.{ap, ap₂, ◌∙◌}
+use mathlib.Core.Path.{ap₂, ◌∙◌}
 use Prim.Native.Nat.{ℕ, ◌+◌, ◌-◌, ◌*◌}
 use native.Mathlib.Omega.{arith}
 use mathlib.Core.List.{List}
 use lib.ListN.{set}
 use Rattle.registers.proofs.Frames.{put_length}
-use borrow.Author.Rules.{rules}
 use Rattle.turning.proofs.turn_node.Goals as goal
 
 pub overflow_sub-sleeps : goal.overflow_sub-sleeps

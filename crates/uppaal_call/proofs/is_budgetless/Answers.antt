@@ -1,81 +1,59 @@
 -- `uppaal_call::is_budgetless` meets its contract. Assumes nothing.
-use mathlib.Core.Path.{◌≡◌, sym, subst, ◌∙◌}
+use mathlib.Core.Path.{◌≡◌, ap, sym, subst, ◌∙◌}
 use mathlib.Core.Bool.{true}
-use Prim.Native.Nat.{ℕ, ◌+◌, ◌*◌, ◌≤◌}
-use lib.ListN.{length, drop}
+use Prim.Native.Nat.{ℕ, ◌+◌, ◌-◌, ◌*◌, ◌<◌}
+use lib.ListN.{drop}
 use Rattle.model.specs.Reader.{byte}
 use Rattle.blocks.specs.FrontEdges.{ArcsFit}
 use Rattle.blocks.proofs.Arcs.{edge-head, edge_on, edges_on}
-use Rattle.translator.specs.Front.{arcs_place, front_component}
-use Rattle.uppaal.specs.UppaalCall.{budgetless}
+use Rattle.translator.specs.Front.{arcs_place}
 use Rattle.uppaal_call.proofs.Working.{resting, resting_all, resting_done, budget_there, resting_not, resting_on}
 use native.Mathlib.Omega.{arith}
-use borrow.Author.Rules.{rules}
 use Rattle.uppaal_call.proofs.is_budgetless.Goals as goal
 
-pub bounds-component-2 : goal.bounds-component-2
-bounds-component-2 c = omega (arith, c.requires.locations)
-
-pub overflow_mul-place : goal.overflow_mul-place
-overflow_mul-place c = omega (arith, c.wide-n.ensures.0, c.wide-n.ensures.1)
-
-pub overflow_add-place : goal.overflow_add-place
-overflow_add-place c = omega (arith, c.wide-n.ensures.0, c.wide-n.ensures.1)
-
-pub bounds-component-6 : goal.bounds-component-6
-bounds-component-6 c = omega (arith, c.requires.locations)
-
-pub loop-k-init : goal.loop-k-init
-loop-k-init c =
+pub loop-init : goal.loop-init
+loop-init c =
     let p = c.args.component.now in
-    let e : 7 + c.wide-n.result * 3 ≡ arcs_place p = omega (arith, c.wide-n.ensures.0) in
-    (omega (arith, e, c.requires.locations), subst (λ (i : ℕ). ArcsFit true (byte p 6) (drop i p)) (sym e) c.requires.arcs, resting_all p (7 + c.wide-n.result * 3) e)
-
-pub overflow_add-place-in-loop-k : goal.overflow_add-place-in-loop-k
-overflow_add-place-in-loop-k c =
-    let l = c.loop-k in
-    omega (arith, budget_there c.args.component.now l.place l.k c.loop-k-test.true l.invariant.0 l.invariant.1)
+    let first = 7 + c.from-locations.result * 3 in
+    let e : first ≡ arcs_place p = omega arith in
+    let all : byte p 6 - 0 ≡ byte p 6 = omega arith in (
+      omega (arith, e, c.requires.locations),
+      subst (λ (n : ℕ). ArcsFit true n (drop first p)) (sym all) (subst (λ (i : ℕ). ArcsFit true (byte p 6) (drop i p)) (sym e) c.requires.arcs),
+      ap (λ (n : ℕ). resting n (drop first p)) all ∙ resting_all p first e,
+    )
 
 pub word_at-requires : goal.word_at-requires
 word_at-requires c =
-    let l = c.loop-k in
-    omega (arith, budget_there c.args.component.now l.place l.k c.loop-k-test.true l.invariant.0 l.invariant.1)
+    let p = c.args.component.now in
+    let l = c.loop in
+    omega (arith, budget_there p l.place (byte p 6 - l.counter) (omega arith) l.invariant.0 l.invariant.1)
 
 pub returns-then-word_at-ne0 : goal.returns-then-word_at-ne0
 returns-then-word_at-ne0 c =
-    let l = c.loop-k in
-    sym (resting_not c.args.component.now l.place l.k c.loop-k-test.true c.word_at.result c.word_at.ensures c.if-word_at-ne0.true) ∙ l.invariant.2
-
-pub slice_bounds-arc_length-count : goal.slice_bounds-arc_length-count
-slice_bounds-arc_length-count c = omega (arith, c.loop-k.invariant.0)
-
-pub slice_bounds-arc_length-start : goal.slice_bounds-arc_length-start
-slice_bounds-arc_length-start c = omega (arith, c.loop-k.invariant.0)
+    let p = c.args.component.now in
+    let l = c.loop in
+    sym (resting_not p l.place (byte p 6 - l.counter) (omega arith) c.word_at.result c.word_at.ensures c.if-word_at-ne0.true) ∙ l.invariant.2
 
 pub arc_length-place-requires : goal.arc_length-place-requires
 arc_length-place-requires c =
-    let l = c.loop-k in
-    edge-head true c.args.component.now l.place l.k c.loop-k-test.true l.invariant.0 l.invariant.1
-
-pub overflow_add-place-in-loop-k-2 : goal.overflow_add-place-in-loop-k-2
-overflow_add-place-in-loop-k-2 c =
-    let l = c.loop-k in
-    omega (arith, edge_on true c.args.component.now l.place l.k c.loop-k-test.true l.invariant.0 l.invariant.1 c.arc_length-place.result c.arc_length-place.ensures)
-
-pub overflow_sub-k : goal.overflow_sub-k
-overflow_sub-k c = omega (arith, c.loop-k-test.true)
-
-pub loop-k-smaller : goal.loop-k-smaller
-loop-k-smaller c = omega (arith, c.loop-k-test.true)
-
-pub loop-k-preserved : goal.loop-k-preserved
-loop-k-preserved c =
     let p = c.args.component.now in
-    let l = c.loop-k in
-    let q = c.loop-k-test.true in
-    (edge_on true p l.place l.k q l.invariant.0 l.invariant.1 c.arc_length-place.result c.arc_length-place.ensures, edges_on true p l.place l.k q l.invariant.0 l.invariant.1 c.arc_length-place.result c.arc_length-place.ensures, sym (resting_on p l.place l.k q c.word_at.result c.word_at.ensures c.if-word_at-ne0.false c.arc_length-place.result c.arc_length-place.ensures) ∙ l.invariant.2)
+    let l = c.loop in
+    edge-head true p l.place (byte p 6 - l.counter) (omega arith) l.invariant.0 l.invariant.1
+
+pub loop-preserved : goal.loop-preserved
+loop-preserved c =
+    let p = c.args.component.now in
+    let l = c.loop in
+    let k = byte p 6 - l.counter in
+    let q : 0 < k = omega arith in
+    let long = c.arc_length-place.result in
+    let is = c.arc_length-place.ensures in
+    let one : byte p 6 - l.counter - 1 ≡ byte p 6 - (l.counter + 1) = omega arith in
+    let rest : resting k (drop l.place p) ≡ resting (byte p 6 - (l.counter + 1)) (drop (l.place + long) p) =
+    resting_on p l.place k q c.word_at.result c.word_at.ensures c.if-word_at-ne0.false long is ∙ ap (λ (n : ℕ). resting n (drop (l.place + long) p)) one in
+    (edge_on true p l.place k q l.invariant.0 l.invariant.1 long is, rw one at (edges_on true p l.place k q l.invariant.0 l.invariant.1 long is), sym rest ∙ l.invariant.2)
 
 pub returns : goal.returns
 returns c =
-    let l = c.loop-k in
-    sym (resting_done l.k (drop l.place c.args.component.now) (omega (arith, c.loop-k-test.false))) ∙ l.invariant.2
+    let p = c.args.component.now in
+    sym (resting_done (byte p 6 - c.loop.counter) (drop c.loop.place p) (omega arith)) ∙ c.loop.invariant.2

@@ -1,7 +1,5 @@
 -- `uppaal_call::planned` meets its contract. Assumes nothing.
 use Rattle.uppaal_call.proofs.Exporting.{checked}
-use native.Mathlib.Omega.{arith}
-use borrow.Author.Rules.{rules}
 use Rattle.uppaal_call.proofs.planned.Goals as goal
 
 pub returns : goal.returns

@@ -7,7 +7,6 @@ use Rattle.uppaal.proofs.DenseTables.{exported_dense}
 use Rattle.uppaal.proofs.Carried.{refused_carries, answer_carries}
 use Rattle.uppaal_call.proofs.Exporting.{call_refused}
 use native.Mathlib.Omega.{arith}
-use borrow.Author.Rules.{rules}
 use Rattle.uppaal_call.proofs.uppaal.Goals as goal
 
 pub uppaal_into-requires : goal.uppaal_into-requires

@@ -1,10 +1,9 @@
 -- `uppaal_call::uppaal_into` meets its contract. Assumes nothing.
-use mathlib.Core.Path.{◌≡◌, sym, ap, ◌∙◌}
+use mathlib.Core.Path.{sym, ap, ◌∙◌}
 use borrow.Author.Tests.{not-true, not-false}
 use Rattle.model.specs.Calls.{Call}
 use Rattle.uppaal_call.proofs.Exporting.{plan_refused, call_refused, works, rests}
 use native.Mathlib.Omega.{arith}
-use borrow.Author.Rules.{rules}
 use Rattle.uppaal_call.proofs.uppaal_into.Goals as goal
 
 pub returns-then-not-are_budgetless : goal.returns-then-not-are_budgetless

@@ -1,11 +1,10 @@
 -- `uppaal_call::write_text` meets its contract. Assumes nothing.
-use mathlib.Core.Path.{◌≡◌, sym, ap, ◌∙◌}
+use mathlib.Core.Path.{sym, ap, ◌∙◌}
 use Prim.Native.Nat.{◌≤◌}
 use lib.ListN.{length}
 use Rattle.model.specs.Calls.{Call}
 use Rattle.uppaal_call.proofs.Exporting.{too_short, written}
 use native.Mathlib.Omega.{arith}
-use borrow.Author.Rules.{rules}
 use Rattle.uppaal_call.proofs.write_text.Goals as goal
 
 pub text_room-requires : goal.text_room-requires

@@ -1,8 +1,7 @@
 -- `uppaal_parts::put_bits` meets its contract. Assumes nothing.
 use Rattle.uppaal_parts.proofs.Marked.{bits_low, bits_high}
 use native.Mathlib.Omega.{arith}
-use Rattle.blocks.proofs.Runs.{put_is, put_join, put_none}
-use borrow.Author.Rules.{rules}
+use Rattle.blocks.proofs.Runs.{put_is}
 use Rattle.uppaal_parts.proofs.put_bits.Goals as goal
 
 pub returns-then-bits-lt32768 : goal.returns-then-bits-lt32768

@@ -1,8 +1,7 @@
 -- `uppaal_parts::put_data` meets its contract. Assumes nothing.
 use Rattle.uppaal_parts.proofs.Marked.{data_told}
 use native.Mathlib.Omega.{arith}
-use Rattle.blocks.proofs.Runs.{put_is, put_join, put_none}
-use borrow.Author.Rules.{rules}
+use Rattle.blocks.proofs.Runs.{put_is, put_join}
 use Rattle.uppaal_parts.proofs.put_data.Goals as goal
 
 pub returns : goal.returns

@@ -2,7 +2,6 @@
 use Rattle.uppaal_parts.proofs.Marked.{low_told}
 use native.Mathlib.Omega.{arith}
 use Rattle.blocks.proofs.Runs.{put_is, put_join}
-use borrow.Author.Rules.{rules}
 use Rattle.uppaal_parts.proofs.put_low.Goals as goal
 
 pub returns : goal.returns

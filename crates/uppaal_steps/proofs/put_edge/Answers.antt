@@ -1,5 +1,5 @@
 -- `uppaal_steps::put_edge` meets its contract. Assumes nothing.
-use mathlib.Core.Path.{◌≡◌, sym, ap, ◌∙◌}
+use mathlib.Core.Path.{sym, ap, ◌∙◌}
 use Prim.Native.Nat.{ℕ}
 use lib.ListN.{drop}
 use Rattle.model.specs.Reader.{byte, pair_at}
@@ -9,8 +9,7 @@ use Rattle.uppaal_parts.proofs.Turns.{lent_long}
 use Rattle.uppaal_steps.specs.Steps.{outcome_told}
 use Rattle.uppaal_steps.proofs.Stepping.{edge_internal, edge_send, edge_receive, pairs_whole}
 use native.Mathlib.Omega.{arith}
-use Rattle.blocks.proofs.Runs.{put_is, put_join, put_none}
-use borrow.Author.Rules.{rules}
+use Rattle.blocks.proofs.Runs.{put_is, put_join}
 use Rattle.uppaal_steps.proofs.put_edge.Goals as goal
 
 pub put_pairs-next-requires : goal.put_pairs-next-requires

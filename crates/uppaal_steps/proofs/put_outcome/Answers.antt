@@ -6,8 +6,7 @@ use Rattle.window.specs.Views.{message_of}
 use Rattle.uppaal_steps.specs.Steps.{outcome_told}
 use Rattle.uppaal_steps.proofs.Stepping.{waiting_told}
 use native.Mathlib.Omega.{arith}
-use Rattle.blocks.proofs.Runs.{put_is, put_join, put_none}
-use borrow.Author.Rules.{rules}
+use Rattle.blocks.proofs.Runs.{put_is, put_join}
 use Rattle.uppaal_steps.proofs.put_outcome.Goals as goal
 
 pub returns-then-steps : goal.returns-then-steps

@@ -11,8 +11,7 @@ use Rattle.uppaal_parts.specs.Marks.{highs_count}
 use Rattle.uppaal_steps.proofs.Guarding.{highs_are}
 use Rattle.uppaal_steps.proofs.Stepping.{transitions_told}
 use native.Mathlib.Omega.{arith}
-use Rattle.blocks.proofs.Runs.{put_is, put_join, put_none}
-use borrow.Author.Rules.{rules}
+use Rattle.blocks.proofs.Runs.{put_is, put_join}
 use Rattle.uppaal_steps.proofs.put_transitions.Goals as goal
 
 pub put_entries-next-requires : goal.put_entries-next-requires
@@ -26,15 +25,10 @@ put_entries-next-requires c =
 pub overflow_add-highs : goal.overflow_add-highs
 overflow_add-highs c = omega (arith, c.highs_count-highs.ensures.1, c.requires.0.clock_guards)
 
-pub put_steps-requires : goal.put_steps-requires
-put_steps-requires c =
-    let p = c.requires in
-    (p.0, p.1, omega arith, omega (arith, c.highs_count-highs.ensures.1, p.0.clock_guards), omega (arith, c.highs_count-highs.ensures.1, p.0.clock_guards, c.put_entries-next.ensures.1))
-
 pub returns : goal.returns
 returns c =
     let a = c.args in
     let o = a.origin in
     let h = a.edge.now in
     let e : c.highs_count-highs.result ≡ length (highs (arc_at o.budgets h).clock_guards) = c.highs_count-highs.ensures.0 ∙ ap (highs_count (byte h 4)) (tail h c.head_length-head.result ∙ ap (λ (k : ℕ). drop k h) c.head_length-head.ensures.0) ∙ highs_are o.budgets h in
-    (put_is (transitions_told o.location o.clocks o.number (arc_at o.budgets h) (message_of a.message) c.highs_count-highs.result e) (put_join c.put_entries-next.ensures.0 c.put_steps.ensures.0), omega (arith, c.highs_count-highs.ensures.1, c.requires.0.clock_guards, c.put_entries-next.ensures.1, c.put_steps.ensures.1))
+    (put_is (transitions_told o.location o.clocks o.number (arc_at o.budgets h) (message_of a.message) c.highs_count-highs.result e) (put_join c.put_entries-next.ensures.0 c.put_steps.ensures.told), omega (arith, c.highs_count-highs.ensures.1, c.requires.0.clock_guards, c.put_entries-next.ensures.1, c.put_steps.ensures.near))

@@ -1,7 +1,6 @@
 -- `uppaal_text::put_head` meets its contract. Assumes nothing.
 use Rattle.uppaal_parts.proofs.Turns.{put_four}
 use native.Mathlib.Omega.{arith}
-use borrow.Author.Rules.{rules}
 use Rattle.uppaal_text.proofs.put_head.Goals as goal
 
 pub returns : goal.returns

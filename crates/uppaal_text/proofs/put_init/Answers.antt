@@ -1,7 +1,6 @@
 -- `uppaal_text::put_init` meets its contract. Assumes nothing.
 use Rattle.blocks.proofs.Runs.{put_join}
 use native.Mathlib.Omega.{arith}
-use borrow.Author.Rules.{rules}
 use Rattle.uppaal_text.proofs.put_init.Goals as goal
 
 pub overflow_cast-initial : goal.overflow_cast-initial

@@ -2,8 +2,7 @@
 use Rattle.uppaal_parts.proofs.Turns.{put_four}
 use Rattle.uppaal_text.proofs.Named.{location_told}
 use native.Mathlib.Omega.{arith}
-use Rattle.blocks.proofs.Runs.{put_is, put_join, put_none}
-use borrow.Author.Rules.{rules}
+use Rattle.blocks.proofs.Runs.{put_is}
 use Rattle.uppaal_text.proofs.put_location.Goals as goal
 
 pub returns : goal.returns

@@ -2,8 +2,7 @@
 use Rattle.uppaal_parts.proofs.Turns.{put_four}
 use Rattle.uppaal_text.proofs.Named.{names_none, names_some, positive}
 use native.Mathlib.Omega.{arith}
-use Rattle.blocks.proofs.Runs.{put_is, put_join, put_none}
-use borrow.Author.Rules.{rules}
+use Rattle.blocks.proofs.Runs.{put_is, put_none}
 use Rattle.uppaal_text.proofs.put_names.Goals as goal
 
 pub returns-then-count-eq0 : goal.returns-then-count-eq0

@@ -2,8 +2,7 @@
 use Rattle.uppaal_parts.proofs.Turns.{put_five}
 use Rattle.uppaal_text.proofs.Processes.{process_told}
 use native.Mathlib.Omega.{arith}
-use Rattle.blocks.proofs.Runs.{put_is, put_join, put_none}
-use borrow.Author.Rules.{rules}
+use Rattle.blocks.proofs.Runs.{put_is}
 use Rattle.uppaal_text.proofs.put_process.Goals as goal
 
 pub put_head-first-requires : goal.put_head-first-requires

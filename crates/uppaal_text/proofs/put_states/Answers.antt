@@ -1,7 +1,6 @@
 -- `uppaal_text::put_states` meets its contract. Assumes nothing.
 use Rattle.uppaal_text.proofs.Processes.{states_put}
 use native.Mathlib.Omega.{arith}
-use borrow.Author.Rules.{rules}
 use Rattle.uppaal_text.proofs.put_states.Goals as goal
 
 pub returns : goal.returns

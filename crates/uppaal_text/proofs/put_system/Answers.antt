@@ -4,8 +4,7 @@ use Rattle.uppaal_parts.proofs.Turns.{put_three}
 use Rattle.translator.proofs.Standing.{slice_bytes, valid_limits, few_nodes, valid_long}
 use Rattle.uppaal_text.proofs.Processes.{system_told}
 use native.Mathlib.Omega.{arith}
-use Rattle.blocks.proofs.Runs.{put_is, put_join, put_none}
-use borrow.Author.Rules.{rules}
+use Rattle.blocks.proofs.Runs.{put_is}
 use Rattle.uppaal_text.proofs.put_system.Goals as goal
 
 pub bounds-table-4 : goal.bounds-table-4

@@ -1,7 +1,6 @@
 -- `uppaal_text::put_transitions` meets its contract. Assumes nothing.
 use Rattle.uppaal_text.proofs.Processes.{transitions_put}
 use native.Mathlib.Omega.{arith}
-use borrow.Author.Rules.{rules}
 use Rattle.uppaal_text.proofs.put_transitions.Goals as goal
 
 pub returns : goal.returns

@@ -1,7 +1,6 @@
 -- `window::aged_clock` meets its contract. Assumes nothing.
 use native.Mathlib.Omega.{arith}
 use borrow.Author.Tests.{eq-eqb, ne_eqb}
-use borrow.Author.Rules.{rules}
 use Rattle.window.proofs.aged_clock.Goals as goal
 
 pub returns-then-bit-eq1 : goal.returns-then-bit-eq1

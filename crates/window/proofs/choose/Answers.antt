@@ -1,7 +1,7 @@
 -- `window::choose` meets its contract. Assumes nothing.
 use mathlib.Core.Path.{◌≡◌, sym, ap, subst, ◌∙◌}
 use mathlib.Core.Option.{none}
-use Prim.Native.Nat.{◌+◌, ◌-◌, ◌*◌, ◌≤◌, ◌<◌}
+use Prim.Native.Nat.{◌+◌, ◌*◌, ◌≤◌, ◌<◌}
 use native.Mathlib.Omega.{arith}
 use borrow.Author.Tests.{eq-eqb, ne_eqb}
 use lib.ListN.{length, get_or}
@@ -15,7 +15,6 @@ use Rattle.window.specs.Indexed.{source_of}
 use Rattle.window.proofs.Rests.{tail_long}
 use Rattle.window.proofs.Looking.{Searching, ready-now, searching_first, searching_next, searching_stop, searching_end}
 use Rattle.window.proofs.Ready.{Entered, entered, edge_in, arc-head, arc_asked, arc_is}
-use borrow.Author.Rules.{rules}
 use Rattle.window.proofs.choose.Goals as goal
 
 pub overflow_add-start : goal.overflow_add-start

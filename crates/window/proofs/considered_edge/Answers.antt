@@ -5,7 +5,6 @@ use Prim.Native.Nat.{◌+◌, ◌-◌, ◌*◌, ◌≤◌}
 use native.Mathlib.Omega.{arith}
 use borrow.Author.Tests.{not-true, not-false}
 use lib.ListN.{length, get_or}
-use Rattle.model.specs.declared.Edge.{Edge}
 use Rattle.model.specs.Places.{arc_head_length, arc_at}
 use Rattle.model.specs.Window.{ready_of, past_of, data_holds, first_failing, long_enough}
 use Rattle.window.specs.declared.Choice.{Choice}
@@ -14,7 +13,6 @@ use Rattle.window.specs.Views.{entry_of, pick_of, SmallDelays, Kept}
 use Rattle.window.proofs.Fronts.{clock_guards_asked, data_guards_asked, data_found, data_count, ready_found, past_found, head_fits, budget_found}
 use Rattle.window.proofs.Narrowing.{past_left}
 use Rattle.window.proofs.Considering.{later_passed, long_by, long_first, unheld, held, shut, candidate_is, by_standing, considered_by, better_candidate, kept_candidate, better_kept}
-use borrow.Author.Rules.{rules}
 use Rattle.window.proofs.considered_edge.Goals as goal
 
 pub bounds-bytes-4 : goal.bounds-bytes-4

@@ -1,5 +1,5 @@
 -- `window::judge` meets its contract. Assumes nothing.
-use mathlib.Core.Path.{◌≡◌, refl, sym, ap, ◌∙◌}
+use mathlib.Core.Path.{◌≡◌, sym, ap, ◌∙◌}
 use mathlib.Core.Bool.{true}
 use Prim.Native.Nat.{◌+◌, ◌*◌, ◌≤◌}
 use native.Mathlib.Omega.{arith}
@@ -11,7 +11,6 @@ use Rattle.model.specs.Window.{ready_of, past_of, data_holds, first_failing, lon
 use Rattle.window.specs.Views.{entry_of}
 use Rattle.window.proofs.Fronts.{clock_guards_asked, data_guards_asked, data_found, data_count, ready_found, past_found, head_fits, budget_found}
 use Rattle.window.proofs.Considering.{long_by, long_first, elsewhere, unheld, held, shut, candidate_is}
-use borrow.Author.Rules.{rules}
 use Rattle.window.proofs.judge.Goals as goal
 
 pub edge_at-edge-requires : goal.edge_at-edge-requires

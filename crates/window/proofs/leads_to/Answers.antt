@@ -9,7 +9,6 @@ use Rattle.decoder.proofs.Found.{found}
 use Rattle.decoder.proofs.ByAction.{receive_pairs}
 use Rattle.window.proofs.Fronts.{pairs_asked}
 use Rattle.window.proofs.Leaving.{leads_without, leads_plain, leads_paired}
-use borrow.Author.Rules.{rules}
 use Rattle.window.proofs.leads_to.Goals as goal
 
 pub returns-then-message-eq255 : goal.returns-then-message-eq255

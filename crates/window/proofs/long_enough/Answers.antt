@@ -1,7 +1,6 @@
 -- `window::long_enough` meets its contract. Assumes nothing.
 use native.Mathlib.Omega.{arith}
 use Rattle.window.proofs.Considering.{by_least}
-use borrow.Author.Rules.{rules}
 use Rattle.window.proofs.long_enough.Goals as goal
 
 pub overflow_add-result : goal.overflow_add-result

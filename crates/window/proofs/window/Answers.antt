@@ -1,7 +1,6 @@
 -- `window::window` meets its contract. Assumes nothing.
 use native.Mathlib.Omega.{arith}
 use Rattle.window.proofs.Narrowing.{past_left}
-use borrow.Author.Rules.{rules}
 use Rattle.window.proofs.window.Goals as goal
 
 pub window_within-requires : goal.window_within-requires

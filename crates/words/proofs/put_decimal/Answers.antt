@@ -1,9 +1,9 @@
 -- `words::put_decimal` meets its contract. Assumes nothing.
 use mathlib.Core.Path.{sym}
-use Prim.Native.Nat.{ℕ, ◌+◌, ◌≤◌}
+use Prim.Native.Nat.{◌+◌}
 use native.Mathlib.Omega.{arith}
 use Rattle.blocks.proofs.Runs.{put_is, put_long}
-use Rattle.words.proofs.Numerals.{decimal_one, Made, none_made, not_first, one_made, still_ten, short_made, all_made}
+use Rattle.words.proofs.Numerals.{decimal_one, none_made, not_first, one_made, still_ten, short_made, all_made}
 use borrow.Author.Rules.{rules}
 use Rattle.words.proofs.put_decimal.Goals as goal
 

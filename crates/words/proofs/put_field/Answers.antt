@@ -1,8 +1,7 @@
 -- `words::put_field` meets its contract. Assumes nothing.
 use native.Mathlib.Omega.{arith}
-use Rattle.blocks.proofs.Runs.{put_is, put_join, put_long}
+use Rattle.blocks.proofs.Runs.{put_join}
 use Rattle.words.proofs.Numerals.{decimal_long}
-use borrow.Author.Rules.{rules}
 use Rattle.words.proofs.put_field.Goals as goal
 
 pub returns : goal.returns

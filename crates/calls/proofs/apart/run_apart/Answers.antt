@@ -1,5 +1,4 @@
 -- `calls::apart::run_apart` meets its contract. Assumes nothing.
-use borrow.Author.Rules.{rules}
 use Rattle.model.proofs.Observations.All.{observations_read_at}
 use Rattle.model.proofs.Run.CallsApart.{demanded_apart}
 use Rattle.model.proofs.Run.Finished.{finishes_apart}

@@ -1,8 +1,6 @@
 -- `calls::apart::run_permitted` meets its contract. Assumes nothing.
-use mathlib.Core.Path.{refl, ap₂, ◌∙◌}
+use mathlib.Core.Path.{refl}
 use native.Mathlib.Omega.{arith}
-use borrow.Author.Rules.{rules}
-use Rattle.model.specs.Calls.{end_of}
 use Rattle.calls.proofs.RunCalls.{used_most, tick_most, seen_most, bytes_done}
 use Rattle.calls.proofs.apart.run_permitted.Goals as goal
 
@@ -28,7 +26,7 @@ returns c G S q =
     let own = c.run_table-e.ensures P.spread P.plan.passages P.plan.accepted_schedule in
     record {
       verdict = refl;
-      end = c.end_of.ensures ∙ ap₂ end_of E.end E.node;
+      end = E.end;
       tick = E.tick;
       used = E.used;
       size = E.written;

@@ -1,7 +1,6 @@
 -- `calls::apart::run_planned` meets its contract. Assumes nothing.
 use mathlib.Core.Path.{◌∙◌}
 use native.Mathlib.Omega.{arith}
-use borrow.Author.Rules.{rules}
 use borrow.Author.Tests.{not-true, not-false}
 use Rattle.translator.proofs.Standing.{slice_bytes, valid_count, valid_long}
 use Rattle.calls.proofs.RunCalls.{fine_as, permitted_by, too_short, too_many, too-late, is_done}

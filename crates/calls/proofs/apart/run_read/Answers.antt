@@ -1,6 +1,5 @@
 -- `calls::apart::run_read` meets its contract. Assumes nothing.
 use mathlib.Core.Path.{sym, ◌∙◌}
-use borrow.Author.Rules.{rules}
 use Rattle.table.proofs.Answered.{verdict_refused}
 use Rattle.schedule.specs.Filled as filled
 use Rattle.calls.proofs.Answering.{is_planned}

@@ -1,12 +1,8 @@
 -- `calls::spread::bisect` meets its contract. Assumes nothing.
-use mathlib.Core.Path.{◌≡◌, ◌∙◌}
+use mathlib.Core.Path.{◌≡◌}
 use Prim.Native.Nat.{◌-◌, ◌≤◌, ◌<◌}
-use native.Mathlib.Omega.{arith}
-use borrow.Author.Rules.{rules}
 use Rattle.model.specs.declared.Verdict.TheVariants.{Accepted}
 use Rattle.model.specs.Calls.{check_call_at}
-use Rattle.schedule.proofs.Tables.{header, horizon_is}
-use Rattle.calls.proofs.Spreading.{wide_not, not_accepted, largest_by}
 use Rattle.calls.proofs.spread.bisect.Given as goal
 
 -- accepted at the one, not at the other

@@ -1,5 +1,4 @@
 -- `calls::spread::check_spread` meets its contract. Assumes nothing.
-use borrow.Author.Rules.{rules}
 use Rattle.model.proofs.Checks.Acceptance.{accepted_at_is}
 use Rattle.translator.proofs.Standing.{slice_bytes}
 use Rattle.table.proofs.Answered.{refused_at, narrow, valid_at, starts_at}

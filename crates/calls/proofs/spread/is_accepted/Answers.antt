@@ -1,5 +1,4 @@
 -- `calls::spread::is_accepted` meets its contract. Assumes nothing.
-use borrow.Author.Rules.{rules}
 use Rattle.calls.proofs.Spreading.{by_rows, told_accepted, told_refused}
 use Rattle.calls.proofs.spread.is_accepted.Goals as goal
 

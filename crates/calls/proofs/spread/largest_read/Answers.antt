@@ -1,7 +1,6 @@
 -- `calls::spread::largest_read` meets its contract. Assumes nothing.
 use mathlib.Core.Path.{◌≡◌, sym, ◌∙◌}
 use native.Mathlib.Omega.{arith}
-use borrow.Author.Rules.{rules}
 use Rattle.model.specs.Calls.{check_call_at}
 use Rattle.model.proofs.Run.CallsApart.{check_together}
 use Rattle.calls.proofs.Spreading.{verdict-at, made_rows, no_spread, this_spread}

@@ -1,6 +1,5 @@
 -- `calls::spread::largest_spread` meets its contract. Assumes nothing.
 use mathlib.Core.Path.{sym, ap}
-use borrow.Author.Rules.{rules}
 use Rattle.model.specs.Calls.{verdict_of, check_call}
 use Rattle.table.proofs.Answered.{was_valid, its_starts, was_refused}
 use Rattle.calls.proofs.Spreading.{no_spread}

@@ -1,5 +1,4 @@
 -- `calls::spread::plan_verdict` meets its contract. Assumes nothing.
-use borrow.Author.Rules.{rules}
 use Rattle.calls.proofs.Spreading.{verdict-at}
 use Rattle.calls.proofs.spread.plan_verdict.Goals as goal
 

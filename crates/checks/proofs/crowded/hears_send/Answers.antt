@@ -1,7 +1,6 @@
 -- `checks::crowded::hears_send` meets its contract. Assumes nothing.
-use borrow.Author.Rules.{rules}
 use Rattle.model.specs.Places.{read_of}
-use Rattle.rows.specs.Rows.{message_of, row_passage}
+use Rattle.rows.specs.Rows.{option_of, row_passage}
 use Rattle.checks.proofs.Questions.{not_asked, no_send_beside, hear_send}
 use Rattle.checks.proofs.crowded.hears_send.Goals as goal
 
@@ -19,4 +18,4 @@ pub returns : goal.returns
 returns c =
     let e = c in
     let a = e.args in
-    hear_send a.spread (read_of a.table.now).table a.horizon (row_passage a.rows.now a.i) (row_passage a.rows.now a.j) c.overlap.result c.is_send.result c.row_lists.result (message_of c.row_sent.result) c.overlap.ensures c.if-not-overlap.false-raw c.is_send.ensures c.if-not-is_send.false-raw e.requires.2 c.row_sent.ensures c.row_lists.ensures
+    hear_send a.spread (read_of a.table.now).table a.horizon (row_passage a.rows.now a.i) (row_passage a.rows.now a.j) c.overlap.result c.is_send.result c.row_lists.result (option_of c.row_sent.result) c.overlap.ensures c.if-not-overlap.false-raw c.is_send.ensures c.if-not-is_send.false-raw e.requires.2 c.row_sent.ensures c.row_lists.ensures

@@ -1,8 +1,7 @@
 -- `checks::crowded::is_crowded` meets its contract. Assumes nothing.
-use mathlib.Core.Logic.{⊎_elim}
 use mathlib.Core.Path.{refl, subst, sym}
 use mathlib.Core.List.{[]}
-use Prim.Native.Nat.{ℕ, ◌+◌, ◌-◌, ◌≤◌}
+use Prim.Native.Nat.{ℕ, ◌+◌}
 use native.Mathlib.Omega.{arith}
 use Rattle.model.specs.Lists.{only}
 use Rattle.model.specs.Places.{read_of}
@@ -48,7 +47,6 @@ loop-j-init c =
     let a = e.args in
     let T = (read_of a.table.now).table in
     let p = heard_send a.spread T a.horizon (row_passage a.rows.now a.i) in (
-      omega (arith, e.requires.1),
       omega (arith, c.if-sends-ge2.false),
       record {
         found = only p (rows_of a.rows.now a.i);
@@ -67,8 +65,8 @@ returns-then-until-tick c =
     let l = c.loop-j in
     let T = (read_of a.table.now).table in
     let v = row_passage a.rows.now a.i in
-    crowded_few a.spread T a.horizon (rows_of a.rows.now a.count) v c.row_receives.result c.row_receives.ensures c.if-not-row_receives.false-raw l.invariant.2.found (omega (arith, l.invariant.2.count))
-    (swept_stop (heard_send a.spread T a.horizon v) a.table.now a.rows.now a.count a.i e.requires.0 e.requires.1 (heard_near a.spread T a.horizon a.rows.now a.i) l.j l.invariant.2.found c.loop-j-test.true (omega (arith, c.put_off-until.ensures, c.tick.ensures)) l.invariant.2.swept)
+    crowded_few a.spread T a.horizon (rows_of a.rows.now a.count) v c.row_receives.result c.row_receives.ensures c.if-not-row_receives.false-raw l.invariant.1.found (omega (arith, l.invariant.1.count))
+    (swept_stop (heard_send a.spread T a.horizon v) a.table.now a.rows.now a.count a.i e.requires.0 e.requires.1 (heard_near a.spread T a.horizon a.rows.now a.i) l.j l.invariant.1.found c.loop-j-test.true (omega (arith, c.put_off-until.ensures, c.tick.ensures)) l.invariant.1.swept)
 
 pub hears_send-requires : goal.hears_send-requires
 hears_send-requires c =
@@ -77,7 +75,7 @@ hears_send-requires c =
     (row_known a.table.now a.rows.now a.count a.i e.requires.0 e.requires.1, row_known a.table.now a.rows.now a.count c.loop-j.j e.requires.0 c.loop-j-test.true, is-receive a.spread (read_of a.table.now).table 0 [] (row_passage a.rows.now a.i) c.row_receives.result c.row_receives.ensures c.if-not-row_receives.false-raw)
 
 pub overflow_add-sends : goal.overflow_add-sends
-overflow_add-sends c = omega (arith, c.loop-j.invariant.1)
+overflow_add-sends c = omega (arith, c.loop-j.invariant.0)
 
 pub returns-then-sends-ge2-2 : goal.returns-then-sends-ge2-2
 returns-then-sends-ge2-2 c =
@@ -85,14 +83,8 @@ returns-then-sends-ge2-2 c =
     let l = c.loop-j in
     let T = (read_of a.table.now).table in
     let v = row_passage a.rows.now a.i in
-    let more = counted_in (heard_send a.spread T a.horizon v) a.rows.now a.count l.j l.sends c.hears_send.result c.loop-j-test.true c.hears_send.ensures l.invariant.2 c.if-hears_send.true in
+    let more = counted_in (heard_send a.spread T a.horizon v) a.rows.now a.count l.j l.sends c.hears_send.result c.loop-j-test.true c.hears_send.ensures l.invariant.1 c.if-hears_send.true in
     crowded_two a.spread T a.horizon (rows_of a.rows.now a.count) v c.row_receives.result c.row_receives.ensures c.if-not-row_receives.false-raw more.found (only (heard_send a.spread T a.horizon v) (rest a.rows.now a.count (l.j + 1))) (omega (arith, more.count, c.if-sends-ge2-2.true)) more.swept
-
-pub overflow_add-j : goal.overflow_add-j
-overflow_add-j c = omega (arith, c.requires.0.few, c.requires.1)
-
-pub loop-j-smaller : goal.loop-j-smaller
-loop-j-smaller c = omega (arith, c.requires.1)
 
 pub loop-j-preserved : goal.loop-j-preserved
 loop-j-preserved c =
@@ -100,8 +92,8 @@ loop-j-preserved c =
     let l = c.loop-j in
     let p = heard_send a.spread (read_of a.table.now).table a.horizon (row_passage a.rows.now a.i) in
     elim c.if-hears_send.branch [
-      | then-hears_send+else-sends-ge2-2 w ↦ (omega (arith, c.requires.1), omega (arith, w.if-sends-ge2-2.false, w.sends-is), subst (λ (k : ℕ). Counted p a.rows.now a.count (l.j + 1) k) (sym w.sends-is) (counted_in p a.rows.now a.count l.j l.sends c.hears_send.result c.loop-j-test.true c.hears_send.ensures l.invariant.2 w.if-hears_send.true))
-      | else-hears_send w ↦ (omega (arith, c.requires.1), omega (arith, l.invariant.1, w.sends-is), subst (λ (k : ℕ). Counted p a.rows.now a.count (l.j + 1) k) (sym w.sends-is) (counted_out p a.rows.now a.count l.j l.sends c.hears_send.result c.loop-j-test.true c.hears_send.ensures l.invariant.2 w.if-hears_send.false))
+      | then-hears_send+else-sends-ge2-2 w ↦ (omega (arith, w.if-sends-ge2-2.false, w.sends-is), subst (λ (k : ℕ). Counted p a.rows.now a.count (l.j + 1) k) (sym w.sends-is) (counted_in p a.rows.now a.count l.j l.sends c.hears_send.result c.loop-j-test.true c.hears_send.ensures l.invariant.1 w.if-hears_send.true))
+      | else-hears_send w ↦ (omega (arith, l.invariant.0, w.sends-is), subst (λ (k : ℕ). Counted p a.rows.now a.count (l.j + 1) k) (sym w.sends-is) (counted_out p a.rows.now a.count l.j l.sends c.hears_send.result c.loop-j-test.true c.hears_send.ensures l.invariant.1 w.if-hears_send.false))
     ]
 
 pub returns : goal.returns
@@ -110,4 +102,4 @@ returns c =
     let l = c.loop-j in
     let T = (read_of a.table.now).table in
     let v = row_passage a.rows.now a.i in
-    crowded_few a.spread T a.horizon (rows_of a.rows.now a.count) v c.row_receives.result c.row_receives.ensures c.if-not-row_receives.false-raw l.invariant.2.found (omega (arith, l.invariant.2.count)) (swept_done (heard_send a.spread T a.horizon v) a.rows.now a.count l.j l.invariant.2.found (omega arith) l.invariant.2.swept)
+    crowded_few a.spread T a.horizon (rows_of a.rows.now a.count) v c.row_receives.result c.row_receives.ensures c.if-not-row_receives.false-raw l.invariant.1.found (omega (arith, l.invariant.1.count)) (swept_done (heard_send a.spread T a.horizon v) a.rows.now a.count l.j l.invariant.1.found (omega arith) l.invariant.1.swept)

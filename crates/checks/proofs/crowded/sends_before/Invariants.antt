@@ -1,16 +1,11 @@
 -- `checks::crowded::sends_before` meets its contract. Assumes nothing.
-use mathlib.Core.Logic.{⊎_elim}
-use mathlib.Core.Path.{◌≡◌, refl, sym, ap, subst, ◌∙◌}
-use Prim.Native.Nat.{ℕ, ◌+◌, ◌-◌, ◌≤◌, ◌<◌}
-use native.Mathlib.Omega.{arith}
+use mathlib.Core.Path.{◌≡◌}
+use Prim.Native.Nat.{◌+◌, ◌-◌, ◌≤◌}
 use lib.ListN.{length}
 use Rattle.model.specs.Lists.{only}
 use Rattle.model.specs.Places.{read_of}
-use Rattle.rows.specs.Rows.{num, row_passage, rows_from}
-use Rattle.rows.proofs.Placed.{row_known}
-use Rattle.rows.proofs.Sought.{linked_below}
-use Rattle.checks.proofs.Questions.{heard_send, heard_near}
-use Rattle.checks.proofs.Swept.{back_start, back_in, back_out, back_done}
+use Rattle.rows.specs.Rows.{row_passage, rows_from}
+use Rattle.checks.proofs.Questions.{heard_send}
 use Rattle.checks.proofs.crowded.sends_before.Given as goal
 
 abbrev pub invariant-loop-j : goal.invariant-loop-j

@@ -1,8 +1,5 @@
 -- `checks::distances::least_before` meets its contract. Assumes nothing.
-use Prim.Native.Nat.{◌-◌, ◌≤◌}
-use native.Mathlib.Omega.{arith}
-use Rattle.rows.proofs.Placed.{row_known}
-use Rattle.rows.proofs.Sought.{linked_below}
+use Prim.Native.Nat.{◌≤◌}
 use Rattle.checks.proofs.distances.least_before.Given as goal
 
 abbrev pub invariant-loop-j : goal.invariant-loop-j

@@ -1,6 +1,5 @@
 -- `checks::listeners::listeners_before` meets its contract. Assumes nothing.
-use mathlib.Core.Logic.{⊎_elim}
-use mathlib.Core.Path.{◌≡◌, refl, sym, subst, ◌∙◌}
+use mathlib.Core.Path.{ap, ◌≡◌, refl, sym, subst, ◌∙◌}
 use mathlib.Core.List.{List, []}
 use Prim.Native.Nat.{ℕ, ◌+◌, ◌-◌, ◌≤◌, ◌<◌}
 use native.Mathlib.Omega.{arith}
@@ -9,6 +8,7 @@ use Rattle.model.specs.Schedule.{Passage}
 use Rattle.rows.specs.Rows.{num, row_passage}
 use Rattle.rows.proofs.Placed.{row_known}
 use Rattle.rows.proofs.Sought.{linked_below}
+use Rattle.checks.specs.declared.listeners.Listeners.{Listeners}
 use Rattle.checks.specs.Listening.{Noted}
 use Rattle.checks.proofs.Questions.{hearing, hear_near}
 use Rattle.checks.proofs.Sending.{row_small}
@@ -49,40 +49,16 @@ may_hear-requires c =
     let a = e.args in
     (row_known a.table.now a.rows.now a.count (c.loop-j.j - 1) e.requires.0 (omega (arith, c.loop-j.invariant.0, e.requires.1)), row_known a.table.now a.rows.now a.count a.i e.requires.0 e.requires.1, e.requires.2)
 
-pub index-component-requires : goal.index-component-requires
-index-component-requires c = omega (arith, c.requires.0.fits, c.loop-j.invariant.0, c.loop-j-test.true, c.requires.1)
+pub index-requires : goal.index-requires
+index-requires c = omega (arith, c.requires.0.fits, c.loop-j.invariant.0, c.loop-j-test.true, c.requires.1)
 
-pub with_repeated-repeated-requires : goal.with_repeated-repeated-requires
-with_repeated-repeated-requires c =
-    let small : c.index-component.result < 8 =
+pub note-requires : goal.note-requires
+note-requires c =
+    let small : c.index.result < 8 =
     (let e = c in
     let a = e.args in
-    omega (arith, c.index-component.ensures, row_small a.table.now a.rows.now a.count (c.loop-j.j - 1) c.type_inv.table e.requires.0 (omega (arith, c.loop-j.invariant.0, e.requires.1)))) in
+    omega (arith, c.index.ensures, row_small a.table.now a.rows.now a.count (c.loop-j.j - 1) c.type_inv.table e.requires.0 (omega (arith, c.loop-j.invariant.0, e.requires.1)))) in
     small
-
-pub with_bit-listening-requires : goal.with_bit-listening-requires
-with_bit-listening-requires c =
-    let small : c.index-component.result < 8 =
-    (let e = c in
-    let a = e.args in
-    omega (arith, c.index-component.ensures, row_small a.table.now a.rows.now a.count (c.loop-j.j - 1) c.type_inv.table e.requires.0 (omega (arith, c.loop-j.invariant.0, e.requires.1)))) in
-    small
-
-pub offset_bounds-row-component : goal.offset_bounds-row-component
-offset_bounds-row-component c =
-    let small : c.index-component.result < 8 =
-    (let e = c in
-    let a = e.args in
-    omega (arith, c.index-component.ensures, row_small a.table.now a.rows.now a.count (c.loop-j.j - 1) c.type_inv.table e.requires.0 (omega (arith, c.loop-j.invariant.0, e.requires.1)))) in
-    omega (arith, small)
-
-pub bounds-row-component : goal.bounds-row-component
-bounds-row-component c =
-    let small : c.index-component.result < 8 =
-    (let e = c in
-    let a = e.args in
-    omega (arith, c.index-component.ensures, row_small a.table.now a.rows.now a.count (c.loop-j.j - 1) c.type_inv.table e.requires.0 (omega (arith, c.loop-j.invariant.0, e.requires.1)))) in
-    omega (arith, small)
 
 pub open_before-j-requires-in-loop-j : goal.open_before-j-requires-in-loop-j
 open_before-j-requires-in-loop-j c = linked_below c.requires.0 (c.loop-j.j - 1) (omega (arith, c.loop-j.invariant.0, c.requires.1))
@@ -100,14 +76,14 @@ loop-j-preserved c =
     let z : l.j ≡ k + 1 = omega (arith, c.loop-j-test.true) in
     let T = (read_of a.table.now).table in
     let p = hearing a.spread T (row_passage a.rows.now a.i) in
-    let q = subst (λ (m : ℕ). ListenedBack p a.rows.now a.count a.i m l.listening l.repeated l.row) z l.invariant.1 in
+    let q = subst (λ (m : ℕ). ListenedBack p a.rows.now a.count a.i m l.listeners.listening l.listeners.repeated l.listeners.row) z l.invariant.1 in
     let below : k < a.i = omega (arith, c.loop-j-test.true, l.invariant.0) in
     let ended : (t : ℕ) → r.result ≤ t → t < k → num a.rows.now t 5 + a.spread < num a.rows.now a.i 4 = λ t x y. omega (arith, r.ensures.1 t x y, c.number.ensures, c.cut_off-from.ensures) in
     let few = row_small a.table.now a.rows.now a.count k c.type_inv.table e.requires.0 (omega (arith, below, e.requires.1)) in (
       omega (arith, r.ensures.0, l.invariant.0),
       elim c.if-may_hear.branch [
-        | then-may_hear w ↦ listened_back_in p a.table.now a.rows.now a.count a.i e.requires.0 e.requires.1 (hear_near a.spread T a.rows.now a.i) r.result k l.listening l.repeated l.row below r.ensures.0 ended c.may_hear.result c.may_hear.ensures q c.if-may_hear.listening c.if-may_hear.repeated c.if-may_hear.row w.if-may_hear.true w.index-component.result w.index-component.ensures (omega (arith, w.index-component.ensures, few)) (w.repeated-is ∙ w.with_repeated-repeated.ensures) (w.listening-is ∙ w.with_bit-listening.ensures) w.row-is
-        | else-may_hear w ↦ listened_back_out p a.table.now a.rows.now a.count a.i e.requires.0 e.requires.1 (hear_near a.spread T a.rows.now a.i) r.result k l.listening l.repeated l.row below r.ensures.0 ended c.may_hear.result c.may_hear.ensures q c.if-may_hear.listening c.if-may_hear.repeated c.if-may_hear.row w.if-may_hear.false w.listening-is w.repeated-is w.row-is
+        | then-may_hear w ↦ listened_back_in p a.table.now a.rows.now a.count a.i e.requires.0 e.requires.1 (hear_near a.spread T a.rows.now a.i) r.result k l.listeners.listening l.listeners.repeated l.listeners.row below r.ensures.0 ended c.may_hear.result c.may_hear.ensures q c.if-may_hear.listeners.listening c.if-may_hear.listeners.repeated c.if-may_hear.listeners.row w.if-may_hear.true w.index.result w.index.ensures (omega (arith, w.index.ensures, few)) (ap (λ (x : Listeners). x.repeated) w.listeners-is ∙ w.note.ensures.repeated) (ap (λ (x : Listeners). x.listening) w.listeners-is ∙ w.note.ensures.listening) (ap (λ (x : Listeners). x.row) w.listeners-is ∙ w.note.ensures.row)
+        | else-may_hear w ↦ listened_back_out p a.table.now a.rows.now a.count a.i e.requires.0 e.requires.1 (hear_near a.spread T a.rows.now a.i) r.result k l.listeners.listening l.listeners.repeated l.listeners.row below r.ensures.0 ended c.may_hear.result c.may_hear.ensures q c.if-may_hear.listeners.listening c.if-may_hear.listeners.repeated c.if-may_hear.listeners.row w.if-may_hear.false (ap (λ (x : Listeners). x.listening) w.listeners-is) (ap (λ (x : Listeners). x.repeated) w.listeners-is) (ap (λ (x : Listeners). x.row) w.listeners-is)
       ],
     )
 
@@ -119,6 +95,6 @@ returns c =
     let T = (read_of a.table.now).table in
     let p = hearing a.spread T (row_passage a.rows.now a.i) in
     subst
-    (λ (vs : List Passage). Noted a.rows.now a.count vs l.listening l.repeated l.row)
+    (λ (vs : List Passage). Noted a.rows.now a.count vs l.listeners.listening l.listeners.repeated l.listeners.row)
     (sym (back_done p a.table.now a.rows.now a.count a.i e.requires.0 e.requires.1 (hear_near a.spread T a.rows.now a.i) l.j l.invariant.1.found (omega (arith, c.loop-j-test.false)) l.invariant.1.back))
     l.invariant.1.noted

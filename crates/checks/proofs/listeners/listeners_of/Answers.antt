@@ -1,5 +1,4 @@
 -- `checks::listeners::listeners_of` meets its contract. Assumes nothing.
-use borrow.Author.Rules.{rules}
 use Rattle.rows.proofs.Placed.{row_known}
 use Rattle.checks.proofs.listeners.listeners_of.Goals as goal
 

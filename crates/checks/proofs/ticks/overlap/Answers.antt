@@ -1,6 +1,5 @@
 -- `checks::ticks::overlap` meets its contract. Assumes nothing.
 use native.Mathlib.Omega.{arith}
-use borrow.Author.Rules.{rules}
 use Rattle.rows.specs.Rows.{row_passage}
 use Rattle.checks.proofs.Questions.{ended_before, beside_is}
 use Rattle.checks.proofs.ticks.overlap.Goals as goal

@@ -1,7 +1,6 @@
 -- `checks::unheard::number_of` meets its contract. Assumes nothing.
 -- It is found without this file too. Written out, it has a wrong number fail here and not in a caller.
 use mathlib.Core.Path.{sym, ap}
-use borrow.Author.Rules.{rules}
 use Rattle.model.specs.Checks.{hearing_number}
 use Rattle.checks.proofs.unheard.number_of.Goals as goal
 

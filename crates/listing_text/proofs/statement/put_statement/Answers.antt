@@ -13,4 +13,4 @@ put-requires c = omega (arith, c.put_column-first.ensures.1, c.put_column-first.
 
 pub returns : goal.returns
 unfolding statement_line
-returns c = let s = c.args in let bytes = s.bytes.now in (next (next (next (next (next c.put_column-first.ensures.0 c.put-four.ensures.0) c.put_four_bytes-behind.ensures.0) c.put-words.ensures.0) (same_fields (get_or bytes s.from 0) (get_or bytes (s.from + 1) 0) (word bytes (s.from + 2)) c.wide-a.ensures.0 c.word_at-k.ensures c.put_words-last.ensures.0)) c.put.ensures.0, omega (arith, c.put_column-first.ensures.1, c.put-four.ensures.1, c.put_four_bytes-behind.ensures.1, c.put-words.ensures.1, c.put_words-last.ensures.1, c.put.ensures.1))
+returns c = let s = c.args in let bytes = s.bytes.now in (next (next (next (next (next c.put_column-first.ensures.0 c.put-four.ensures.0) c.put_four_bytes-behind.ensures.0) c.put-words.ensures.0) (same_fields (get_or bytes s.from 0) (get_or bytes (s.from + 1) 0) (word bytes (s.from + 2)) c.from-a.ensures c.word_at-k.ensures c.put_words-last.ensures.0)) c.put.ensures.0, omega (arith, c.put_column-first.ensures.1, c.put-four.ensures.1, c.put_four_bytes-behind.ensures.1, c.put-words.ensures.1, c.put_words-last.ensures.1, c.put.ensures.1))

@@ -1,5 +1,4 @@
 -- `long_run::steps::run_below` meets its contract. Assumes nothing.
-use mathlib.Core.Path.{◌∙◌}
 use native.Mathlib.Omega.{arith}
 use Rattle.translator.proofs.Standing.{slice_bytes, few_nodes, valid_long}
 use Rattle.run.proofs.Carried.{ends_whole}

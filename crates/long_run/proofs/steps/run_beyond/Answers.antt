@@ -1,7 +1,7 @@
 -- `long_run::steps::run_beyond` meets its contract. Assumes nothing.
 use mathlib.Core.Path.{◌∙◌}
 use native.Mathlib.Omega.{arith}
-use Rattle.schedule.proofs.Tables.{horizon_small}
+use Rattle.schedule.proofs.Tables.{horizon_is, horizon_small}
 use Rattle.translator.proofs.Standing.{slice_bytes, valid_long}
 use Rattle.long_run.proofs.Round.{round_stands}
 use borrow.Author.Rules.{rules}
@@ -12,10 +12,16 @@ bounds-table-3 c =
     let s = c.args in
     omega (arith, valid_long s.table.now (slice_bytes s.table.now c.type_inv.table) c.requires.0)
 
+pub word_at-requires : goal.word_at-requires
+word_at-requires c =
+    let s = c.args in
+    omega (arith, valid_long s.table.now (slice_bytes s.table.now c.type_inv.table) c.requires.0)
+
 pub longest_round-round-requires : goal.longest_round-round-requires
 longest_round-round-requires c =
     let p = c.requires in
-    (p.3, p.4, p.5, p.6, omega (arith, p.6, horizon_small c.args.table.now c.type_inv.table p.0))
+    let own = c.word32-own.ensures.0 ∙ c.word_at.ensures ∙ horizon_is c.args.table.now c.type_inv.table p.0 in
+    (p.3, p.4, own, omega (arith, own, horizon_small c.args.table.now c.type_inv.table p.0))
 
 pub overflow_add-round : goal.overflow_add-round
 overflow_add-round c =
@@ -35,4 +41,4 @@ pub run_rounds-requires : goal.run_rounds-requires
 run_rounds-requires c =
     let a = c.args in
     let p = c.requires in
-    (p.0, p.2, (a.count, p.3), c.longest_round-round.ensures, c.wide-nodes.ensures.0, c.start.ensures, omega (arith, p.6, p.7), p.8)
+    (p.0, p.2, (a.count, p.3), c.longest_round-round.ensures, c.wide-nodes.ensures.0, c.start.ensures, omega (arith, p.5), p.6)

@@ -4,7 +4,6 @@ use lib.ListN.{length}
 use Rattle.model.specs.Places.{read_of}
 use Rattle.model.specs.Program.{program_bytes}
 use Rattle.run.proofs.Handed.{front_fits, front_is}
-use borrow.Author.Rules.{rules}
 use Rattle.long_run.proofs.steps.run_in.Goals as goal
 
 pub write_program-long-requires : goal.write_program-long-requires

@@ -3,4 +3,4 @@ use borrow.Author.Rules.{rules}
 use Rattle.node.proofs.candidate.lowest.Goals as goal
 
 pub returns-then-trial : goal.returns-then-trial
-returns-then-trial c = rw c.if-trial.true c.lesser.ensures
+returns-then-trial c = rw c.if-trial.true c.min.ensures

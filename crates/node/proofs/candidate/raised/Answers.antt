@@ -3,4 +3,4 @@ use borrow.Author.Rules.{rules}
 use Rattle.node.proofs.candidate.raised.Goals as goal
 
 pub returns : goal.returns
-returns c = rw (c.greater.ensures, c.left_of.ensures)
+returns c = rw (c.max.ensures, c.left_of.ensures)

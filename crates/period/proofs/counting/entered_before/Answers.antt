@@ -1,6 +1,5 @@
 -- `period::counting::entered_before` meets its contract. Assumes nothing.
-use mathlib.Core.Path.{◌≡◌}
-use Prim.Native.Nat.{ℕ, ◌+◌, ◌-◌, ◌≤◌, ◌<◌}
+use Prim.Native.Nat.{ℕ, ◌<◌}
 use native.Mathlib.Omega.{arith}
 use Rattle.rows.specs.Rows.{num}
 use Rattle.period.proofs.Joining.{one_more}
@@ -20,12 +19,6 @@ returns-then-tick-number c =
     let l = c.loop-i in
     let there = c.loop-i-test.true in
     (first-late a.table.now a.rows.now a.count e.requires a.tick l.i there l.invariant.1 (omega (arith, c.if-tick-number.true, c.number.ensures)), omega (arith, e.requires.placed.few, there))
-
-pub overflow_add-i : goal.overflow_add-i
-overflow_add-i c = omega (arith, c.requires.placed.few, c.loop-i-test.true)
-
-pub loop-i-smaller : goal.loop-i-smaller
-loop-i-smaller c = omega (arith, c.loop-i-test.true)
 
 pub loop-i-preserved : goal.loop-i-preserved
 loop-i-preserved c =

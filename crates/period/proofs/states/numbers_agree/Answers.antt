@@ -1,17 +1,13 @@
 -- `period::states::numbers_agree` meets its contract. Assumes nothing.
 use mathlib.Core.Path.{◌≡◌, sym, subst, subst₂, ◌∙◌}
-use mathlib.Core.Bool.{true}
-use mathlib.Core.Logic.{◌↔◌}
-use Prim.Native.Nat.{ℕ, ◌+◌, ◌-◌, ◌≤◌, ◌<◌}
+use Prim.Native.Nat.{ℕ, ◌<◌}
 use native.Mathlib.Omega.{arith}
-use borrow.Author.Rules.{rules}
 use borrow.Author.Tests.{not-true, not-false}
-use lib.ListN.{length, get_or}
 use Rattle.model.specs.Table.{size}
 use Rattle.model.specs.Places.{start_of, ComponentAt, read_of, component_in}
 use Rattle.model.proofs.Basics.Bools.{clash}
 use Rattle.schedule.proofs.Tables.{few_components, start_read, stands_at, limits_of}
-use Rattle.period.specs.Walking.{no_entry, entry_at, SameNumbers}
+use Rattle.period.specs.Walking.{entry_at, SameNumbers}
 use Rattle.period.proofs.Joining.{no_state, one_more}
 use Rattle.period.proofs.states.numbers_agree.Goals as goal
 
@@ -99,12 +95,6 @@ returns-then-not-same_numbers c =
     let l = w.loop-c in
     let s = stands in
     no_state (λ q. clash (sym (not-true c.same_numbers.result c.if-not-same_numbers.true-raw) ∙ c.same_numbers.ensures.1 (subst₂ (λ (m n : ℕ). SameNumbers m n (entry_at e.args.first l.c) (entry_at e.args.second l.c)) (sym s.clocks) (sym s.variables) (q l.c w.loop-c-test.true))))
-
-pub overflow_add-c : goal.overflow_add-c
-overflow_add-c c = omega (arith, c.loop-c.invariant.1, c.loop-c-test.true)
-
-pub loop-c-smaller : goal.loop-c-smaller
-loop-c-smaller c = omega (arith, c.loop-c-test.true)
 
 pub loop-c-preserved : goal.loop-c-preserved
 loop-c-preserved c =

@@ -1,6 +1,6 @@
 -- `period::states::places_agree` meets its contract. Assumes nothing.
 use mathlib.Core.Path.{◌≡◌, refl, sym, ◌∙◌}
-use Prim.Native.Nat.{ℕ, ◌+◌, ◌-◌, ◌≤◌, ◌<◌}
+use Prim.Native.Nat.{ℕ, ◌+◌}
 use native.Mathlib.Omega.{arith}
 use Rattle.rows.specs.Rows.{num}
 use Rattle.period.proofs.Joining.{no_state, one_more}
@@ -25,12 +25,6 @@ pub returns-then-here-there : goal.returns-then-here-there
 returns-then-here-there c =
     let l = c.loop-c in
     no_state (λ q. c.if-here-there.true (c.number-here.ensures ∙ q l.c c.loop-c-test.true ∙ sym c.number-there.ensures))
-
-pub overflow_add-c : goal.overflow_add-c
-overflow_add-c c = let p = c.requires in omega (arith, p.1, p.2, c.loop-c-test.true)
-
-pub loop-c-smaller : goal.loop-c-smaller
-loop-c-smaller c = omega (arith, c.loop-c-test.true)
 
 pub loop-c-preserved : goal.loop-c-preserved
 loop-c-preserved c =

@@ -1,13 +1,8 @@
 -- `period::states::places_agree` meets its contract. Assumes nothing.
-use mathlib.Core.Path.{◌≡◌, refl, sym, ◌∙◌}
-use Prim.Native.Nat.{ℕ, ◌+◌, ◌-◌, ◌≤◌, ◌<◌}
-use native.Mathlib.Omega.{arith}
+use mathlib.Core.Path.{◌≡◌}
+use Prim.Native.Nat.{ℕ, ◌+◌, ◌≤◌, ◌<◌}
 use Rattle.rows.specs.Rows.{num}
-use Rattle.period.proofs.Joining.{no_state, one_more}
 use Rattle.period.proofs.states.places_agree.Given as goal
 
 abbrev pub invariant-loop-c : goal.invariant-loop-c
 invariant-loop-c l = (l.c ≤ l.components) × ((d : ℕ) → d < l.c → num l.rows (l.first + d) 2 ≡ num l.rows (l.second + d) 2)
-
-abbrev pub decreases-loop-c : goal.decreases-loop-c
-decreases-loop-c l = l.components - l.c

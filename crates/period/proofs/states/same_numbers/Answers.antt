@@ -1,14 +1,12 @@
 -- `period::states::same_numbers` meets its contract. Assumes nothing.
-use mathlib.Core.Path.{◌≡◌, sym, ◌∙◌}
-use borrow.Author.Rules.{rules}
-use borrow.Author.Tests.{not-true, not-false}
-use Rattle.model.proofs.Basics.Bools.{clash}
-use Rattle.period.proofs.Joining.{no_state}
+use Rattle.std.proofs.Common.{take}
+use Rattle.std.proofs.lemmas.Bool.Decides.{Decides-eqb, Decides-int_eq}
+use Rattle.std.proofs.lemmas.Slice.Eq.{slice_eq-Decides}
 use Rattle.period.proofs.states.same_numbers.Goals as goal
 
-pub returns-then-not-same_clocks : goal.returns-then-not-same_clocks
-returns-then-not-same_clocks c = no_state (λ q. clash (sym (not-true c.same_clocks.result c.if-not-same_clocks.true-raw) ∙ c.same_clocks.ensures.1 q.0))
-
-pub returns : goal.returns
-returns c =
-    (λ e. (c.same_clocks.ensures.0 (not-false c.same_clocks.result c.if-not-same_clocks.false-raw), c.same_values.ensures.0 e), λ q. c.same_values.ensures.1 q.1)
+pub returns-then-eq : goal.returns-then-eq
+returns-then-eq c =
+    let a = c.args in
+    let clocks = slice_eq-Decides Decides-eqb (take a.clocks a.first.clocks) (take a.clocks a.second.clocks) c.eq.result (rw c.from-clocks.ensures at c.eq.ensures) in
+    let values = slice_eq-Decides Decides-int_eq (take a.variables a.first.values) (take a.variables a.second.values) c.eq-then-eq.result (rw c.from-variables.ensures at c.eq-then-eq.ensures) in
+    (λ e. (clocks.0 c.if-eq.true, values.0 e), λ q. values.1 q.1)

@@ -1,8 +1,6 @@
 -- `reasons::telling::counted` meets its contract. Assumes nothing.
-use mathlib.Core.Path.{◌≡◌, refl, sym, ap, subst, ◌∙◌}
 use native.Mathlib.Omega.{arith}
 use borrow.Author.Tests.{eq-eqb, ne_eqb}
-use borrow.Author.Rules.{rules}
 use Rattle.reasons.proofs.telling.counted.Goals as goal
 
 pub returns-then-source-here : goal.returns-then-source-here

@@ -1,11 +1,9 @@
 -- `reasons::telling::put_edge` meets its contract. Assumes nothing.
-use mathlib.Core.Path.{◌≡◌, refl, sym, ap, subst, ◌∙◌}
-use native.Mathlib.Omega.{arith}
+use mathlib.Core.Path.{sym, ap, ◌∙◌}
 use Rattle.model.specs.Places.{arc_at}
 use Rattle.window.specs.Views.{entry_of}
 use Rattle.reasons.specs.Telling.{is_elsewhere, reason_from}
 use Rattle.reasons.proofs.EdgeReasons.{is_here, is-elsewhere, edge-told, edge_passed}
-use borrow.Author.Rules.{rules}
 use Rattle.reasons.proofs.telling.put_edge.Goals as goal
 
 pub returns-then-elsewhere : goal.returns-then-elsewhere

@@ -1,9 +1,7 @@
 -- `reasons::telling::put_reason` meets its contract. Assumes nothing.
-use mathlib.Core.Path.{◌≡◌, refl, sym, ap, subst, ◌∙◌}
 use native.Mathlib.Omega.{arith}
 use native.Mathlib.Numerals.{towards_suc}
 use lib.ListN.{length-set}
-use borrow.Author.Rules.{rules}
 use Rattle.reasons.proofs.telling.put_reason.Goals as goal
 
 pub bounds-told-at-2 : goal.bounds-told-at-2

@@ -1,10 +1,8 @@
 -- `reasons::telling::reason_from` meets its contract. Assumes nothing.
-use mathlib.Core.Path.{◌≡◌, refl, sym, ap, subst, ◌∙◌}
+use mathlib.Core.Path.{subst}
 use native.Mathlib.Omega.{arith}
 use borrow.Author.Tests.{eq-eqb, ne_eqb, lt-ltb, le-ltb}
 use Rattle.window.specs.Views.{SmallDelays}
-use Rattle.reasons.specs.Telling.{other_reason}
-use borrow.Author.Rules.{rules}
 use Rattle.reasons.proofs.telling.reason_from.Goals as goal
 
 pub returns-then-e-taken : goal.returns-then-e-taken

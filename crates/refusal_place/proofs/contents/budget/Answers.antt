@@ -1,6 +1,5 @@
 -- `refusal_place::contents::budget` meets its contract. Assumes nothing.
 use Rattle.refusal_place.specs.Walk.{contents}
-use borrow.Author.Rules.{rules}
 use Rattle.refusal_place.proofs.contents.budget.Goals as goal
 
 pub returns : goal.returns

@@ -1,16 +1,15 @@
 -- `refusal_place::contents::component_head` meets its contract. Assumes nothing.
 use mathlib.Core.Path.{◌∙◌}
 use Rattle.refusal_place.proofs.Heads.{head_steps}
-use borrow.Author.Rules.{rules}
 use Rattle.refusal_place.proofs.contents.component_head.Goals as goal
 
 pub returns : goal.returns
 returns c =
     let s = c in
     let a = s.args in
-    let n = s.wide-n.ensures.0 ∙ s.byte_at.ensures in (
+    let n = s.from-n.ensures ∙ s.byte_at.ensures in (
       rw (← n)
-          (head_steps a.table.now a.who a.w s.byte_range-locations.result c.byte_range-initial.result c.byte_range-clocks.result c.byte_range-variables.result s.wide-n.result c.byte_range.result
+          (head_steps a.table.now a.who a.w s.byte_range-locations.result c.byte_range-initial.result c.byte_range-clocks.result c.byte_range-variables.result s.from-n.result c.byte_range.result
           s.byte_range-locations.ensures.0
           c.byte_range-initial.ensures.0
           c.byte_range-clocks.ensures.0

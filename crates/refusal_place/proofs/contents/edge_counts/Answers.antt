@@ -1,7 +1,6 @@
 -- `refusal_place::contents::edge_counts` meets its contract. Assumes nothing.
 use mathlib.Core.Path.{◌∙◌}
 use Rattle.refusal_place.specs.Walk.{contents}
-use borrow.Author.Rules.{rules}
 use Rattle.refusal_place.proofs.contents.edge_counts.Goals as goal
 
 pub returns : goal.returns

@@ -1,6 +1,5 @@
 -- `refusal_place::edges::budget_part` meets its contract. Assumes nothing.
 use Rattle.refusal_place.proofs.Sequence.{budget_told, budget_passed}
-use borrow.Author.Rules.{rules}
 use Rattle.refusal_place.proofs.edges.budget_part.Goals as goal
 
 pub returns-then-sizes : goal.returns-then-sizes

@@ -6,17 +6,16 @@ use Rattle.refusal_place.specs.Walk.{edge}
 use Rattle.refusal_place.proofs.Kept.{passed_over}
 use Rattle.refusal_place.proofs.edges.edge.Goals as goal
 
-pub returns-in-At : goal.returns-in-At
-returns-in-At c =
-    let s = c in
-    let a = s.args in
-    let f = c.fine_edge-fine.ensures _ c.in-At.is in
-    (passed_over a.table.now a.end s.requires.1 a.c a.w (omega (arith, s.requires)) a.sizes (sym c.going.ensures ∙ c.if-going.true) s.requires.0 a.e _ f, f.1)
-
-pub returns-in-Fault : goal.returns-in-Fault
+pub returns-then-not-going : goal.returns-then-not-going
 unfolding edge
-returns-in-Fault c = (rw (← c.going.ensures, c.if-going.true) c.edge_from.ensures.0, c.edge_from.ensures.1)
+returns-then-not-going c = (rw (← c.going.ensures, c.if-not-going.true), search rules)
 
-pub returns : goal.returns
+pub returns-in-Some : goal.returns-in-Some
+returns-in-Some c =
+    let a = c.args in
+    let f = c.in-Some.ensures in
+    (passed_over a.table.now a.end c.requires.1 a.c a.w (omega (arith, c.requires)) a.sizes (sym c.going.ensures ∙ c.if-not-going.false) c.requires.0 a.e _ f, f.1)
+
+pub returns-in-None : goal.returns-in-None
 unfolding edge
-returns c = (rw (← c.going.ensures, c.if-going.false), search rules)
+returns-in-None c = (rw (← c.going.ensures, c.if-not-going.false) c.edge_from.ensures.0, c.edge_from.ensures.1)

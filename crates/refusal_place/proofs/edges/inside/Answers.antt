@@ -4,7 +4,6 @@ use Prim.Native.Nat.{ℕ}
 use Rattle.refusal_place.specs.Walk.{fits, contents}
 use Rattle.refusal_place.specs.declared.Part.TheVariants.{ComponentLength, ComponentHead, Location, EdgeHead, ClockBound, DataBound, Update, Channel, Pair, ComponentEnd, TableEnd, Budget}
 use Rattle.refusal_place.proofs.Within.{inside_as}
-use borrow.Author.Rules.{rules}
 use Rattle.refusal_place.proofs.edges.inside.Goals as goal
 
 pub returns-in-ComponentLength : goal.returns-in-ComponentLength

@@ -1,12 +1,9 @@
 -- `refusal_place::edges::one_pair` meets its contract. Assumes nothing.
 use mathlib.Core.Path.{◌≡◌, sym, ap, ◌∙◌}
 use mathlib.Core.Bool.{true, false}
-use mathlib.Core.List.{List}
-use Prim.Native.Nat.{ℕ, ◌+◌, ◌*◌, ◌≤◌}
+use Prim.Native.Nat.{◌+◌, ◌*◌, ◌≤◌}
 use native.Mathlib.Omega.{arith}
 use borrow.Author.Tests.{not-true, not-false}
-use Rattle.model.specs.Reader.{byte, listed}
-use Rattle.parts.specs.Place.{channels_before}
 use Rattle.parts.proofs.Skim.{tail}
 use Rattle.refusal_place.specs.Ranges.{width_of}
 use Rattle.refusal_place.specs.Walk.{going, one_pair}
@@ -68,11 +65,11 @@ returns c =
     rw (
       c.passed.ensures,
       c.stops_if.ensures.0,
-      c.wide-3.ensures.0,
+      c.from-3.ensures,
       l.listed_before-twice.ensures,
       tail a.table.now a.from,
-      l.wide-2.ensures.0,
-      l.wide.ensures.0,
+      l.from-2.ensures,
+      l.from.ensures,
       t.inside-tried.ensures.0,
       two,
     ) in

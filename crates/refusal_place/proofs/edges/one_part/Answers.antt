@@ -3,7 +3,6 @@ use mathlib.Core.Path.{◌≡◌}
 use native.Mathlib.Omega.{arith}
 use Rattle.refusal_place.specs.Walk.{one_part}
 use Rattle.refusal_place.proofs.Within.{part_within}
-use borrow.Author.Rules.{rules}
 use Rattle.refusal_place.proofs.edges.one_part.Goals as goal
 
 pub returns : goal.returns

@@ -1,5 +1,4 @@
 -- `refusal_place::steps::allowed` meets its contract. Assumes nothing.
-use borrow.Author.Rules.{rules}
 use Rattle.refusal_place.proofs.steps.allowed.Goals as goal
 
 pub returns : goal.returns

@@ -1,5 +1,4 @@
 -- `refusal_place::steps::fits` meets its contract. Assumes nothing.
-use borrow.Author.Rules.{rules}
 use Rattle.refusal_place.proofs.steps.fits.Goals as goal
 
 pub returns : goal.returns

@@ -1,6 +1,5 @@
 -- `refusal_place::steps::passed` meets its contract. Assumes nothing.
 use Rattle.refusal_place.specs.Walk.{passed}
-use borrow.Author.Rules.{rules}
 use Rattle.refusal_place.proofs.steps.passed.Goals as goal
 
 pub returns-then-going : goal.returns-then-going

@@ -1,6 +1,5 @@
 -- `refusal_place::steps::ranged` meets its contract. Assumes nothing.
 use Rattle.refusal_place.specs.Walk.{ranged}
-use borrow.Author.Rules.{rules}
 use Rattle.refusal_place.proofs.steps.ranged.Goals as goal
 
 pub returns : goal.returns

@@ -1,7 +1,6 @@
 -- `refusal_place::steps::stops_if` meets its contract. Assumes nothing.
 use Rattle.refusal_place.specs.Walk.{stops_if}
 use mathlib.Core.Path.{refl}
-use borrow.Author.Rules.{rules}
 use Rattle.refusal_place.proofs.steps.stops_if.Goals as goal
 
 pub returns-then-both : goal.returns-then-both

@@ -16,7 +16,6 @@ use Rattle.schedule.specs.Going.{cut}
 use Rattle.schedule.proofs.Tables.{limits_of}
 use Rattle.refused_opening.specs.Counting.{reasons_among}
 use Rattle.refused_opening.proofs.Cutting.{reasons_cut}
-use borrow.Author.Rules.{rules}
 use Rattle.refused_opening.proofs.reasons.reasons_for.Goals as goal
 
 pub returns-then-number-ne8 : goal.returns-then-number-ne8

@@ -1,6 +1,5 @@
 -- `refused_opening::reasons::tallied` meets its contract. Assumes nothing.
 use native.Mathlib.Omega.{arith}
-use borrow.Author.Rules.{rules}
 use Rattle.refused_opening.proofs.reasons.tallied.Goals as goal
 
 pub returns-in-Elsewhere : goal.returns-in-Elsewhere

@@ -1,22 +1,15 @@
 -- `refused_opening::updates::first_of` meets its contract. Assumes nothing.
-use mathlib.Core.Path.{◌≡◌, refl, sym, ap, subst, ◌∙◌}
-use Prim.Native.Nat.{◌+◌, ◌-◌, ◌*◌, ◌≤◌, ◌<◌}
-use native.Mathlib.Omega.{arith}
-use borrow.Author.Tests.{not-true, not-false}
-use borrow.Author.Rules.{rules}
+use mathlib.Core.Path.{◌≡◌}
+use Prim.Native.Nat.{◌*◌, ◌≤◌, ◌<◌}
 use lib.ListN.{length}
 use Rattle.model.specs.Lists.{All}
 use Rattle.model.specs.Reader.{update_at}
 use Rattle.model.specs.Places.{list_at}
-use Rattle.window.proofs.Rests.{tail_long}
 use Rattle.opening_place.specs.Opening.{first_out}
-use Rattle.refused_opening.proofs.Outs.{rest, rest_first, one_asked, rest_asked, stops_here, goes_on, none_left}
+use Rattle.refused_opening.proofs.Outs.{rest}
 use Rattle.refused_opening.proofs.updates.first_of.Given as goal
 
 abbrev pub invariant-loop-done : goal.invariant-loop-done
 invariant-loop-done l =
-    (l.done ≤ l.count) × (l.at ≡ l.done * 4) × (l.count * 4 ≤ length l.updates) × All (λ u. u.variable < 4) (rest l.updates l.count l.at l.done)
+    (l.at ≡ l.done * 4) × (l.count * 4 ≤ length l.updates) × All (λ u. u.variable < 4) (rest l.updates l.count l.at l.done)
     × (first_out l.done (rest l.updates l.count l.at l.done) l.changed ≡ first_out 0 (list_at update_at 4 l.count l.updates) l.initial.changed)
-
-abbrev pub decreases-loop-done : goal.decreases-loop-done
-decreases-loop-done l = l.count - l.done

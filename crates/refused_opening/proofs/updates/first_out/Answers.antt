@@ -8,7 +8,6 @@ use Rattle.decoder.proofs.ByAction.{internal_updates, send_updates, receive_upda
 use Rattle.window.proofs.Fronts.{updates_asked}
 use Rattle.opening_place.specs.Opening.{first_out}
 use Rattle.refused_opening.proofs.Outs.{no_updates}
-use borrow.Author.Rules.{rules}
 use Rattle.refused_opening.proofs.updates.first_out.Goals as goal
 
 pub first_of-requires : goal.first_of-requires
@@ -26,9 +25,9 @@ returns-in-Internal c =
 pub returns-in-Send : goal.returns-in-Send
 returns-in-Send c =
     let a = c.args in
-    no_updates c.none_out.result a.values c.none_out.ensures (send_updates a.budgets a.bytes.now _ (sym c.in-Send.is ∙ c.action_at-action.ensures))
+    no_updates a.values (send_updates a.budgets a.bytes.now _ (sym c.in-Send.is ∙ c.action_at-action.ensures))
 
 pub returns-in-Receive : goal.returns-in-Receive
 returns-in-Receive c =
     let a = c.args in
-    no_updates c.none_out-in-Receive.result a.values c.none_out-in-Receive.ensures (receive_updates a.budgets a.bytes.now (sym c.in-Receive.is ∙ c.action_at-action.ensures))
+    no_updates a.values (receive_updates a.budgets a.bytes.now (sym c.in-Receive.is ∙ c.action_at-action.ensures))

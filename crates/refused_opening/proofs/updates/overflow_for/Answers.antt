@@ -5,11 +5,10 @@ use Rattle.model.specs.Places.{read_of, component_in}
 use Rattle.window.specs.Views.{entry_of}
 use Rattle.schedule.proofs.Tables.{limits_of}
 use Rattle.refused_opening.proofs.Cutting.{overflow_cut}
-use borrow.Author.Rules.{rules}
 use Rattle.refused_opening.proofs.updates.overflow_for.Goals as goal
 
 pub returns-then-number-ne9 : goal.returns-then-number-ne9
-returns-then-number-ne9 c = rw (ne_eqb c.args.number 9 c.if-number-ne9.true) c.no_overflow.ensures
+returns-then-number-ne9 c = rw (ne_eqb c.args.number 9 c.if-number-ne9.true)
 
 pub returns : goal.returns
 returns c =

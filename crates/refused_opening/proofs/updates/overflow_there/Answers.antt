@@ -1,23 +1,21 @@
 -- `refused_opening::updates::overflow_there` meets its contract. Assumes nothing.
 use mathlib.Core.Path.{◌≡◌, refl, sym, ap, subst, ◌∙◌}
-use mathlib.Core.Option.{none, some}
+use mathlib.Core.Option.{some}
 use Prim.Native.Nat.{◌+◌, ◌*◌, ◌≤◌, ◌<◌}
 use native.Mathlib.Omega.{arith}
-use borrow.Author.Tests.{lt-ltb, le-ltb, not-true, not-false}
+use borrow.Author.Tests.{lt-ltb, le-ltb}
 use lib.ListN.{length, get_or-replicate}
 use Rattle.model.specs.Table.{Arc}
 use Rattle.model.specs.Places.{arc_place, start_of, component_in}
 use Rattle.model.specs.Window.{choice}
 use Rattle.model.proofs.Window.Choice.{choice_taken}
 use Rattle.window.specs.Indexed.{Indexed}
-use Rattle.window.specs.Views.{entry_of}
+use Rattle.window.specs.Views.{entry_of, option_of}
 use Rattle.window.proofs.Ready.{Entered, entered, arc-head, arc_asked, arc_is}
 use Rattle.rows.proofs.Placed.{known_bytes, valid_small}
 use Rattle.schedule.proofs.Tables.{header, few_components}
 use Rattle.opening_place.specs.Opening.{first_out, overflow_with, overflow}
-use Rattle.refused_opening.specs.Counting.{out_of}
-use Rattle.refused_opening.proofs.Cutting.{none_taken, one_taken, told_none, told_some}
-use borrow.Author.Rules.{rules}
+use Rattle.refused_opening.proofs.Cutting.{none_taken, one_taken}
 use Rattle.refused_opening.proofs.updates.overflow_there.Goals as goal
 
 pub budgeted-budgets-requires : goal.budgeted-budgets-requires
@@ -47,7 +45,7 @@ pub returns-then-chosen-gt65535 : goal.returns-then-chosen-gt65535
 returns-then-chosen-gt65535 c =
     let a = c.args in
     let none-there = none_taken (component_in a.table.now a.c) (entry_of a.at) (sym c.choose-found.ensures.picks ∙ rw (le-ltb c.choose-found.result.choice.ready 65536 (omega (arith, c.if-chosen-gt65535.true))) refl) in
-    rw none-there c.no_overflow.ensures
+    rw none-there
 
 pub slice_bounds-first_out-count : goal.slice_bounds-first_out-count
 slice_bounds-first_out-count c =
@@ -79,8 +77,8 @@ slice_bounds-first_out-start c =
     arc-head a.table.now a.c a.start known c.choose-found.result.choice.place c.choose-found.result.choice.edge kept_there.0 edge-there) in
     omega (arith, head)
 
-pub first_out-out-requires : goal.first_out-out-requires
-first_out-out-requires c =
+pub first_out-requires : goal.first_out-requires
+first_out-requires c =
     let known : Entered c.args.table.now c.args.c c.args.start =
     (let s = c in entered s.args.table.now s.args.c s.args.start (λ i. (c.type_inv.table i).fits) s.requires.0 s.requires.1 s.requires.2) in
     let kept_there : (c.choose-found.result.choice.place ≡ arc_place c.args.table.now c.args.start c.choose-found.result.choice.edge) × (c.choose-found.result.choice.edge < 256) × (c.choose-found.result.choice.end ≤ 65535) =
@@ -92,8 +90,8 @@ first_out-out-requires c =
     let a = c.args in
     arc_asked a.table.now a.c a.start known c.choose-found.result.choice.place c.choose-found.result.choice.edge kept_there.0 edge-there _ c.budgeted-budgets.ensures
 
-pub returns-then-not-out : goal.returns-then-not-out
-returns-then-not-out c =
+pub returns-in_err-update : goal.returns-in_err-update
+returns-in_err-update c =
     let known : Entered c.args.table.now c.args.c c.args.start =
     (let s = c in entered s.args.table.now s.args.c s.args.start (λ i. (c.type_inv.table i).fits) s.requires.0 s.requires.1 s.requires.2) in
     let kept_there : (c.choose-found.result.choice.place ≡ arc_place c.args.table.now c.args.start c.choose-found.result.choice.edge) × (c.choose-found.result.choice.edge < 256) × (c.choose-found.result.choice.end ≤ 65535) =
@@ -102,12 +100,11 @@ returns-then-not-out c =
     (sym c.choose-found.ensures.picks ∙ rw (lt-ltb c.choose-found.result.choice.ready 65536 (omega (arith, c.if-chosen-gt65535.false))) refl) in
     let edge-there : c.choose-found.result.choice.edge < length (component_in c.args.table.now c.args.c).arcs =
     (let a = c.args in (choice_taken (component_in a.table.now a.c) (entry_of a.at) choice-is).there) in
-    let overflow-is : overflow (component_in c.args.table.now c.args.c) (entry_of c.args.at) ≡ overflow_with c.choose-found.result.choice.edge (out_of c.first_out-out.result) =
+    let overflow-is : overflow (component_in c.args.table.now c.args.c) (entry_of c.args.at) ≡ overflow_with c.choose-found.result.choice.edge (option_of c.first_out.result) =
     (let a = c.args in
     one_taken (component_in a.table.now a.c) (entry_of a.at) choice-is
-    (c.first_out-out.ensures ∙ ap (λ (x : Arc). first_out 0 x.updates a.at.values) (arc_is a.table.now a.c a.start known c.choose-found.result.choice.place c.choose-found.result.choice.edge kept_there.0 edge-there _ c.budgeted-budgets.ensures))) in
-    let d = c in
-    told_none d.first_out-out.result d.choose-found.result.choice.edge overflow-is (not-true _ c.if-not-out.true) c.no_overflow-then-not-out.ensures.0 c.no_overflow-then-not-out.ensures.1
+    (c.first_out.ensures ∙ ap (λ (x : Arc). first_out 0 x.updates a.at.values) (arc_is a.table.now a.c a.start known c.choose-found.result.choice.place c.choose-found.result.choice.edge kept_there.0 edge-there _ c.budgeted-budgets.ensures))) in
+    rw c.from_residual.ensures (sym (overflow-is ∙ ap (λ r. overflow_with c.choose-found.result.choice.edge (option_of r)) c.in_err-update.was))
 
 pub overflow_cast-result : goal.overflow_cast-result
 overflow_cast-result c =
@@ -125,9 +122,8 @@ returns c =
     (sym c.choose-found.ensures.picks ∙ rw (lt-ltb c.choose-found.result.choice.ready 65536 (omega (arith, c.if-chosen-gt65535.false))) refl) in
     let edge-there : c.choose-found.result.choice.edge < length (component_in c.args.table.now c.args.c).arcs =
     (let a = c.args in (choice_taken (component_in a.table.now a.c) (entry_of a.at) choice-is).there) in
-    let overflow-is : overflow (component_in c.args.table.now c.args.c) (entry_of c.args.at) ≡ overflow_with c.choose-found.result.choice.edge (out_of c.first_out-out.result) =
+    let overflow-is : overflow (component_in c.args.table.now c.args.c) (entry_of c.args.at) ≡ overflow_with c.choose-found.result.choice.edge (option_of c.first_out.result) =
     (let a = c.args in
     one_taken (component_in a.table.now a.c) (entry_of a.at) choice-is
-    (c.first_out-out.ensures ∙ ap (λ (x : Arc). first_out 0 x.updates a.at.values) (arc_is a.table.now a.c a.start known c.choose-found.result.choice.place c.choose-found.result.choice.edge kept_there.0 edge-there _ c.budgeted-budgets.ensures))) in
-    let d = c in
-    told_some d.first_out-out.result d.choose-found.result.choice.edge overflow-is (not-false _ c.if-not-out.false)
+    (c.first_out.ensures ∙ ap (λ (x : Arc). first_out 0 x.updates a.at.values) (arc_is a.table.now a.c a.start known c.choose-found.result.choice.place c.choose-found.result.choice.edge kept_there.0 edge-there _ c.budgeted-budgets.ensures))) in
+    sym (overflow-is ∙ ap (λ r. overflow_with c.choose-found.result.choice.edge (option_of r)) c.in_ok-update.was)

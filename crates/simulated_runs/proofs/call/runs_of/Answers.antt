@@ -1,7 +1,6 @@
 -- `simulated_runs::call::runs_of` meets its contract. Assumes nothing.
 use mathlib.Core.Path.{sym, ap, ◌∙◌}
 use native.Mathlib.Omega.{arith}
-use borrow.Author.Rules.{rules}
 use lib.ListN.{length}
 use Rattle.model.specs.Places.{read_of}
 use Rattle.model.specs.Program.{program_bytes}

@@ -1,5 +1,4 @@
 -- `simulated_runs::call::simulate_from` meets its contract. Assumes nothing.
-use borrow.Author.Rules.{rules}
 use Rattle.table.proofs.Answered.{was_valid, its_starts, read_refused}
 use Rattle.simulation.proofs.Counts.{late_adds}
 use Rattle.simulation.proofs.Enough.{simulation_holds}

@@ -1,6 +1,5 @@
 -- `simulated_runs::call::simulate_planned` meets its contract. Assumes nothing.
 use mathlib.Core.Path.{sym, ◌∙◌}
-use borrow.Author.Rules.{rules}
 use borrow.Author.Tests.{not-true, not-false}
 use Rattle.simulated_runs.proofs.Calling.{answered, seed_refused, numbers_refused, is_simulated, tried_with}
 use Rattle.simulated_runs.proofs.call.simulate_planned.Goals as goal

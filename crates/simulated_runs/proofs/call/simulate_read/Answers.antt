@@ -1,7 +1,6 @@
 -- `simulated_runs::call::simulate_read` meets its contract. Assumes nothing.
 use mathlib.Core.Path.{sym, ◌∙◌}
 use native.Mathlib.Omega.{arith}
-use borrow.Author.Rules.{rules}
 use Rattle.table.proofs.Answered.{verdict_refused}
 use Rattle.schedule.specs.Filled as filled
 use Rattle.calls.proofs.Answering.{is_planned}

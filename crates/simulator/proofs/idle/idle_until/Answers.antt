@@ -1,8 +1,6 @@
 -- `simulator::idle::idle_until` meets its contract. Assumes nothing.
-use Prim.Native.Nat.{◌-◌, ◌≤◌}
 use native.Mathlib.Omega.{arith}
-use borrow.Author.Rules.{rules}
-use Rattle.simulator.proofs.Idling.{IdleTo, idle_first, idle_next, idle_all}
+use Rattle.simulator.proofs.Idling.{idle_first, idle_next, idle_all}
 use Rattle.simulator.proofs.idle.idle_until.Goals as goal
 
 pub loop-c-init : goal.loop-c-init
@@ -18,7 +16,7 @@ loop-c-preserved c =
     let a = c.args in
     let l = c.loop-c in (
       omega (arith, c.loop-c-test.true),
-      idle_next a.program.now a.words.now a.until.now a.count a.horizon l.invariant.1 c.still_until.ensures c.lesser-idle.ensures.0 c.lesser-idle.ensures.1,
+      idle_next a.program.now a.words.now a.until.now a.count a.horizon l.invariant.1 c.still_until.ensures (omega (arith, c.min-idle.ensures)) (omega (arith, c.min-idle.ensures)),
     )
 
 pub returns : goal.returns

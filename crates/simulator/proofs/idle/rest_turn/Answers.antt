@@ -2,7 +2,6 @@
 use mathlib.Core.Path.{◌≡◌, refl, ap₂}
 use Prim.Native.Nat.{ℕ, suc, ◌+◌, ◌-◌, ◌*◌, ◌≤◌}
 use native.Mathlib.Omega.{arith}
-use borrow.Author.Rules.{rules}
 use Rattle.simulator.proofs.Idling.{holds_idle, rested_turned, ticks_few, turns_fit}
 use Rattle.simulator.proofs.idle.rest_turn.Goals as goal
 

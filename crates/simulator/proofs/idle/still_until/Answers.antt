@@ -3,9 +3,7 @@ use mathlib.Core.Path.{refl, sym, ◌∙◌}
 use mathlib.Core.Logic.{inl, inr, ⊎_elim}
 use mathlib.Core.List.{[]}
 use native.Mathlib.Omega.{arith}
-use borrow.Author.Tests.{eqb-true}
 use Rattle.simulator.proofs.Idling.{still_early, still_works, still_unkept, still_never}
-use borrow.Author.Rules.{rules}
 use Rattle.simulator.proofs.idle.still_until.Goals as goal
 
 pub returns-then-due-lt-NEVER : goal.returns-then-due-lt-NEVER

@@ -1,11 +1,8 @@
 -- `simulator::runs::one_run` meets its contract. Assumes nothing.
-use mathlib.Core.Path.{◌≡◌, refl, ◌∙◌}
+use mathlib.Core.Path.{◌≡◌}
 use Prim.Native.Nat.{◌+◌, ◌≤◌}
-use native.Mathlib.Omega.{arith}
-use borrow.Author.Rules.{rules}
 use lib.ListN.{length}
 use Rattle.simulator.specs.Tries.{Going}
-use Rattle.simulator.proofs.Looping.{going_first, somewhere, going_stops, going_over, going_on}
 use Rattle.simulator.proofs.runs.one_run.Given as goal
 
 abbrev pub invariant-loop-left : goal.invariant-loop-left

@@ -1,7 +1,6 @@
 -- `timed_network::component_positions::timed_network_positions` meets its contract. Assumes nothing.
 use mathlib.Core.Path.{ap, ◌∙◌}
 use Rattle.model.specs.Calls.{number_of, concerned_of}
-use borrow.Author.Rules.{rules}
 use Rattle.timed_network.proofs.component_positions.timed_network_positions.Goals as goal
 
 pub returns : goal.returns

@@ -1,19 +1,18 @@
 -- `timed_network::edge_reasons::timed_network_reasons` meets its contract. Assumes nothing.
-use mathlib.Core.Path.{refl, ap, ◌∙◌}
-use native.Mathlib.Omega.{arith}
+use mathlib.Core.Path.{refl, ap, ◌∙◌, sym}
 use Rattle.model.specs.Calls.{number_of, concerned_of}
 use Rattle.model.specs.Reasons.{ReasonsCall, reasons_call}
 use Rattle.model.proofs.Schedule.Answered.{reasons_true}
 use Rattle.rows.proofs.Placed.{known_bytes}
 use Rattle.timed_network.proofs.Header.{no_reasons}
+use Rattle.table.proofs.Whole.{asks}
 use Rattle.timed_network.proofs.Whole.{whole}
-use borrow.Author.Rules.{rules}
 use Rattle.timed_network.proofs.edge_reasons.timed_network_reasons.Goals as goal
 
-pub returns-then-header-ne0 : goal.returns-then-header-ne0
-returns-then-header-ne0 c =
+pub returns-in-Err : goal.returns-in-Err
+returns-in-Err c =
     let a = c.args in (
-      rw (no_reasons a.table.now c.header-header.result c.header-header.ensures (λ z. omega (arith, z, c.if-header-ne0.true)) a.component a.tick a.told.now) (record { number = refl; component = refl; passage = refl; size = refl; lent = refl }),
+      rw (no_reasons a.table.now c.from.result (c.from.ensures ∙ c.in-Err.ensures) (λ z. asks c.in-Err.fault (sym c.from.ensures ∙ z)) a.component a.tick a.told.now) (record { number = refl; component = refl; passage = refl; size = refl; lent = refl }),
       reasons_true a.table.now (known_bytes a.table.now c.type_inv.table) a.component a.tick,
     )
 

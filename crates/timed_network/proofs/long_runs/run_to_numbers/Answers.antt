@@ -1,7 +1,6 @@
 -- `timed_network::long_runs::run_to_numbers` meets its contract. Assumes nothing.
 use mathlib.Core.Path.{ap, ◌∙◌}
 use Rattle.model.specs.Calls.{number_of, concerned_of, end_number, end_node}
-use borrow.Author.Rules.{rules}
 use Rattle.timed_network.proofs.long_runs.run_to_numbers.Goals as goal
 
 pub returns : goal.returns

@@ -1,6 +1,5 @@
 -- `timed_network::long_runs::timed_network_run_to` meets its contract. Assumes nothing.
 use Rattle.later_runs.proofs.Refuses.{run_to_refuses}
-use borrow.Author.Rules.{rules}
 use Rattle.timed_network.proofs.long_runs.timed_network_run_to.Goals as goal
 
 pub returns : goal.returns

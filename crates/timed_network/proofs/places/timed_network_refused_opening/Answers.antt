@@ -1,19 +1,18 @@
 -- `timed_network::places::timed_network_refused_opening` meets its contract. Assumes nothing.
-use mathlib.Core.Path.{ap, subst, ◌∙◌}
-use native.Mathlib.Omega.{arith}
+use mathlib.Core.Path.{ap, subst, ◌∙◌, sym}
 use Rattle.opening_place.specs.declared.RefusedOpening.{RefusedOpening}
 use Rattle.opening_place.specs.Opening.{opening_of}
 use Rattle.refused_opening.proofs.Promised.{promised}
 use Rattle.timed_network.proofs.Header.{no-opening}
+use Rattle.table.proofs.Whole.{questioned}
 use Rattle.timed_network.proofs.Whole.{whole}
 use Rattle.timed_network.specs.Numbers.{OpeningNumbersOf}
-use borrow.Author.Rules.{rules}
 use Rattle.timed_network.proofs.places.timed_network_refused_opening.Goals as goal
 
-pub returns-then-header-ne0 : goal.returns-then-header-ne0
-returns-then-header-ne0 c =
+pub returns-then-is_err : goal.returns-then-is_err
+returns-then-is_err c =
     let bs = c.args.table.now in
-    (subst (λ (o : RefusedOpening). OpeningNumbersOf o c.no_opening.result) (no-opening bs c.header-header.result c.header-header.ensures (λ z. omega (arith, z, c.if-header-ne0.true))) c.no_opening.ensures, promised bs)
+    (subst (λ (o : RefusedOpening). OpeningNumbersOf o c.no_opening.result) (no-opening bs _ c.header.ensures (questioned c.header.result (sym c.is_err.ensures.value ∙ c.if-is_err.true))) c.no_opening.ensures, promised bs)
 
 pub returns : goal.returns
 returns c =

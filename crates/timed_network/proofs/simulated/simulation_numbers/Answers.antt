@@ -1,7 +1,6 @@
 -- `timed_network::simulated::simulation_numbers` meets its contract. Assumes nothing.
 use mathlib.Core.Path.{ap, ◌∙◌}
 use Rattle.model.specs.Calls.{number_of, concerned_of}
-use borrow.Author.Rules.{rules}
 use Rattle.timed_network.proofs.simulated.simulation_numbers.Goals as goal
 
 pub returns : goal.returns

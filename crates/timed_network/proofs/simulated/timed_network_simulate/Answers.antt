@@ -1,5 +1,4 @@
 -- `timed_network::simulated::timed_network_simulate` meets its contract. Assumes nothing.
-use borrow.Author.Rules.{rules}
 use Rattle.timed_network.proofs.simulated.timed_network_simulate.Goals as goal
 
 pub returns : goal.returns

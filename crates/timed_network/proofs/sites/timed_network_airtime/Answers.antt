@@ -1,8 +1,7 @@
 -- `timed_network::sites::timed_network_airtime` meets its contract. Assumes nothing.
-use mathlib.Core.Path.{◌≡◌, ap, ◌∙◌}
+use mathlib.Core.Path.{ap, ◌∙◌}
 use Rattle.model.specs.Calls.{number_of, concerned_of}
 use Rattle.site.proofs.Loading.{as_checked}
-use borrow.Author.Rules.{rules}
 use Rattle.timed_network.proofs.sites.timed_network_airtime.Goals as goal
 
 pub returns : goal.returns

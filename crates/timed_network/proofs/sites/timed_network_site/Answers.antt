@@ -1,5 +1,4 @@
 -- `timed_network::sites::timed_network_site` meets its contract. Assumes nothing.
-use borrow.Author.Rules.{rules}
 use Rattle.site.proofs.Sequence.{in_use_law}
 use Rattle.site.proofs.Every.{every}
 use Rattle.timed_network.proofs.sites.timed_network_site.Goals as goal

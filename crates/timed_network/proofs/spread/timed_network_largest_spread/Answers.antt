@@ -1,17 +1,16 @@
 -- `timed_network::spread::timed_network_largest_spread` meets its contract. Assumes nothing.
 use mathlib.Core.Path.{refl, sym, ap, subst, ◌∙◌}
-use native.Mathlib.Omega.{arith}
 use Rattle.model.specs.Calls.{check_call, LargestSpread, number_of, concerned_of}
 use Rattle.calls.proofs.Spreading.{no_spread}
 use Rattle.timed_network.proofs.Header.{no_check}
+use Rattle.table.proofs.Whole.{asks}
 use Rattle.timed_network.proofs.Whole.{whole}
-use borrow.Author.Rules.{rules}
 use Rattle.timed_network.proofs.spread.timed_network_largest_spread.Goals as goal
 
-pub returns-then-header-ne0 : goal.returns-then-header-ne0
-returns-then-header-ne0 c =
+pub returns-in-Err : goal.returns-in-Err
+returns-in-Err c =
     let bs = c.args.table.now in
-    let e = no_check bs c.header-header.result c.header-header.ensures (λ z. omega (arith, z, c.if-header-ne0.true)) in
+    let e = no_check bs c.from.result (c.from.ensures ∙ c.in-Err.ensures) (λ z. asks c.in-Err.fault (sym c.from.ensures ∙ z)) in
     (sym (ap number_of e), sym (ap concerned_of e), λ a. (no_spread bs (sym e)).1 (sym e ∙ a), λ a. refl)
 
 pub returns : goal.returns

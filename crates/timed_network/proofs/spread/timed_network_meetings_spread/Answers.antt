@@ -1,18 +1,18 @@
 -- `timed_network::spread::timed_network_meetings_spread` meets its contract. Assumes nothing.
-use mathlib.Core.Path.{refl, ap, ◌∙◌}
+use mathlib.Core.Path.{refl, ap, ◌∙◌, sym}
 use native.Mathlib.Omega.{arith}
 use Rattle.model.specs.Calls.{number_of, concerned_of}
 use Rattle.model.specs.Meetings.{MeetingsCall, meetings_call_at}
 use Rattle.meetings.proofs.Bounds.{spread_few}
 use Rattle.timed_network.proofs.Header.{no_meetings_at}
+use Rattle.table.proofs.Whole.{asks}
 use Rattle.timed_network.proofs.Whole.{whole}
-use borrow.Author.Rules.{rules}
 use Rattle.timed_network.proofs.spread.timed_network_meetings_spread.Goals as goal
 
-pub returns-then-header-ne0 : goal.returns-then-header-ne0
-returns-then-header-ne0 c =
+pub returns-in-Err : goal.returns-in-Err
+returns-in-Err c =
     let a = c.args in
-    rw (no_meetings_at a.table.now c.header-header.result c.header-header.ensures (λ z. omega (arith, z, c.if-header-ne0.true)) a.spread a.list.now) (c.header_meetings.ensures.0, c.header_meetings.ensures.1, c.header_meetings.ensures.2, c.header_meetings.ensures.3, c.header_meetings.ensures.4, refl)
+    rw (no_meetings_at a.table.now c.from.result (c.from.ensures ∙ c.in-Err.ensures) (λ z. asks c.in-Err.fault (sym c.from.ensures ∙ z)) a.spread a.list.now) (c.header_meetings.ensures.0, c.header_meetings.ensures.1, c.header_meetings.ensures.2, c.header_meetings.ensures.3, c.header_meetings.ensures.4, refl)
 
 pub meetings_numbers-requires : goal.meetings_numbers-requires
 meetings_numbers-requires c =

@@ -1,20 +1,19 @@
 -- `timed_network::spread::timed_network_run_apart` meets its contract. Assumes nothing.
-use mathlib.Core.Path.{ap}
-use native.Mathlib.Omega.{arith}
+use mathlib.Core.Path.{ap, sym, ◌∙◌}
 use Rattle.model.specs.Calls.{run_call_at}
 use Rattle.model.proofs.Observations.All.{observations_read_at}
 use Rattle.model.proofs.Run.CallsApart.{demanded_apart}
 use Rattle.model.proofs.Run.Finished.{finishes_apart}
 use Rattle.timed_network.proofs.Header.{no_run_apart}
+use Rattle.table.proofs.Whole.{asks}
 use Rattle.timed_network.proofs.Whole.{whole}
 use Rattle.timed_network.proofs.Numbered.{numbers_by}
-use borrow.Author.Rules.{rules}
 use Rattle.timed_network.proofs.spread.timed_network_run_apart.Goals as goal
 
-pub returns-then-header-ne0 : goal.returns-then-header-ne0
-returns-then-header-ne0 c =
+pub returns-in-Err : goal.returns-in-Err
+returns-in-Err c =
     let a = c.args in (
-      rw (no_run_apart a.table.now c.header-header.result c.header-header.ensures (λ z. omega (arith, z, c.if-header-ne0.true)) a.spread a.offsets.now a.choices.now a.observations.now) (c.header_run.ensures a.observations.now),
+      rw (no_run_apart a.table.now c.from.result (c.from.ensures ∙ c.in-Err.ensures) (λ z. asks c.in-Err.fault (sym c.from.ensures ∙ z)) a.spread a.offsets.now a.choices.now a.observations.now) (c.header_run.ensures a.observations.now),
       demanded_apart a.spread a.table.now a.offsets.now a.choices.now,
       observations_read_at a.spread a.table.now a.offsets.now a.choices.now a.observations.now,
       finishes_apart a.spread a.table.now a.offsets.now a.choices.now,

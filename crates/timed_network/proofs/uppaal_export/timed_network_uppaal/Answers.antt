@@ -3,7 +3,6 @@ use mathlib.Core.Path.{sym, ap, ◌∙◌}
 use native.Mathlib.Omega.{arith}
 use Rattle.model.specs.Calls.{number_of, concerned_of}
 use Rattle.timed_network.proofs.Accepting.{zero_accepts}
-use borrow.Author.Rules.{rules}
 use Rattle.timed_network.proofs.Named.{names_apart}
 use Rattle.timed_network.proofs.uppaal_export.timed_network_uppaal.Goals as goal
 

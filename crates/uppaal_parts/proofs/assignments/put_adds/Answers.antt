@@ -3,8 +3,7 @@ use Rattle.model.specs.Reader.{complement}
 use Rattle.uppaal_parts.proofs.Marked.{adds_told}
 use Rattle.uppaal_parts.proofs.Turns.{put_three}
 use native.Mathlib.Omega.{arith}
-use Rattle.blocks.proofs.Runs.{put_is, put_join, put_none}
-use borrow.Author.Rules.{rules}
+use Rattle.blocks.proofs.Runs.{put_is}
 use Rattle.uppaal_parts.proofs.assignments.put_adds.Goals as goal
 
 pub returns : goal.returns

@@ -1,8 +1,7 @@
 -- `uppaal_parts::assignments::put_resets_closed` meets its contract. Assumes nothing.
 use native.Mathlib.Omega.{arith}
-use Rattle.blocks.proofs.Runs.{put_is, put_join, put_none}
+use Rattle.blocks.proofs.Runs.{put_is, put_join}
 use Rattle.uppaal_parts.proofs.Marked.{closed_as}
-use borrow.Author.Rules.{rules}
 use Rattle.uppaal_parts.proofs.assignments.put_resets_closed.Goals as goal
 
 pub returns : goal.returns

@@ -3,8 +3,7 @@ use Rattle.model.specs.Reader.{complement}
 use Rattle.uppaal_parts.proofs.Marked.{sets_told}
 use Rattle.uppaal_parts.proofs.Turns.{put_three}
 use native.Mathlib.Omega.{arith}
-use Rattle.blocks.proofs.Runs.{put_is, put_join, put_none}
-use borrow.Author.Rules.{rules}
+use Rattle.blocks.proofs.Runs.{put_is}
 use Rattle.uppaal_parts.proofs.assignments.put_sets.Goals as goal
 
 pub returns : goal.returns

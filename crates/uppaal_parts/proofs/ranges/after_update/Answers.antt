@@ -1,7 +1,6 @@
 -- `uppaal_parts::ranges::after_update` meets its contract. Assumes nothing.
 use native.Mathlib.Omega.{arith}
 use Rattle.uppaal_parts.proofs.Totals.{total_added, total_set, adds_cond, sets_cond}
-use borrow.Author.Rules.{rules}
 use Rattle.uppaal_parts.proofs.ranges.after_update.Goals as goal
 
 pub returns-then-adds : goal.returns-then-adds

@@ -1,9 +1,7 @@
 -- `uppaal_parts::ranges::pass_update` meets its contract. Assumes nothing.
 use Rattle.uppaal_parts.specs.Marks.{total_of}
-use mathlib.Core.Path.{◌∙◌, ap, sym}
 use native.Mathlib.Omega.{arith}
 use Rattle.uppaal_parts.proofs.Totals.{pass_told, pass_left}
-use borrow.Author.Rules.{rules}
 use Rattle.uppaal_parts.proofs.ranges.pass_update.Goals as goal
 
 pub returns-then-u-variable : goal.returns-then-u-variable

@@ -1,7 +1,6 @@
 -- `uppaal_parts::ranges::plus_bits` meets its contract. Assumes nothing.
 use native.Mathlib.Omega.{arith}
 use Rattle.uppaal_parts.proofs.Totals.{bits_added, bits_taken}
-use borrow.Author.Rules.{rules}
 use Rattle.uppaal_parts.proofs.ranges.plus_bits.Goals as goal
 
 pub returns-then-bits-lt32768 : goal.returns-then-bits-lt32768

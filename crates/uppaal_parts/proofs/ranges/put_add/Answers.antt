@@ -3,9 +3,8 @@ use Rattle.model.specs.Reader.{complement}
 use Rattle.uppaal.specs.Export.{Sum, plus}
 use Rattle.uppaal_parts.specs.Marks.{stays_text}
 use native.Mathlib.Omega.{arith}
-use Rattle.blocks.proofs.Runs.{put_is, put_join, put_none}
-use mathlib.Core.Path.{◌≡◌, ap, ◌∙◌}
-use borrow.Author.Rules.{rules}
+use Rattle.blocks.proofs.Runs.{put_is}
+use mathlib.Core.Path.{ap, ◌∙◌}
 use Rattle.uppaal_parts.proofs.ranges.put_add.Goals as goal
 
 pub returns : goal.returns

@@ -1,8 +1,7 @@
 -- `uppaal_parts::ranges::put_biased` meets its contract. Assumes nothing.
 use native.Mathlib.Omega.{arith}
-use Rattle.blocks.proofs.Runs.{put_is, put_join, put_none}
+use Rattle.blocks.proofs.Runs.{put_is}
 use Rattle.uppaal_parts.proofs.Totals.{biased_high, biased_low}
-use borrow.Author.Rules.{rules}
 use Rattle.uppaal_parts.proofs.ranges.put_biased.Goals as goal
 
 pub returns-then-sum-ge16777216 : goal.returns-then-sum-ge16777216

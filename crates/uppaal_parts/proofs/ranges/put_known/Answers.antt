@@ -1,8 +1,7 @@
 -- `uppaal_parts::ranges::put_known` meets its contract. Assumes nothing.
 use native.Mathlib.Omega.{arith}
-use Rattle.blocks.proofs.Runs.{put_is, put_join, put_none}
+use Rattle.blocks.proofs.Runs.{put_is, put_none}
 use Rattle.uppaal_parts.proofs.Totals.{stays_within, stays_beneath, stays_beyond}
-use borrow.Author.Rules.{rules}
 use Rattle.uppaal_parts.proofs.ranges.put_known.Goals as goal
 
 pub returns-then-sum-lt16744448 : goal.returns-then-sum-lt16744448

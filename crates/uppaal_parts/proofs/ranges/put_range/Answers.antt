@@ -1,9 +1,7 @@
 -- `uppaal_parts::ranges::put_range` meets its contract. Assumes nothing.
 use Rattle.uppaal_parts.proofs.Totals.{range_adds, range_none}
 use native.Mathlib.Omega.{arith}
-use Rattle.blocks.proofs.Runs.{put_is, put_join, put_none}
-use mathlib.Core.Path.{◌≡◌, sym, ap, ◌∙◌}
-use borrow.Author.Rules.{rules}
+use Rattle.blocks.proofs.Runs.{put_is, put_none}
 use Rattle.uppaal_parts.proofs.ranges.put_range.Goals as goal
 
 pub returns-then-u : goal.returns-then-u

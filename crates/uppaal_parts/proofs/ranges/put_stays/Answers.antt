@@ -1,11 +1,10 @@
 -- `uppaal_parts::ranges::put_stays` meets its contract. Assumes nothing.
 use native.Mathlib.Omega.{arith}
-use Rattle.blocks.proofs.Runs.{put_is, put_join, put_none}
+use Rattle.blocks.proofs.Runs.{put_is, put_join}
 use mathlib.Core.Path.{refl}
 use mathlib.Core.Bool.{true, false}
 use Rattle.uppaal_parts.specs.Marks.{less_bias}
 use Rattle.uppaal_parts.proofs.Totals.{stays_more, known_as}
-use borrow.Author.Rules.{rules}
 use Rattle.uppaal_parts.proofs.ranges.put_stays.Goals as goal
 
 pub returns-then-t : goal.returns-then-t

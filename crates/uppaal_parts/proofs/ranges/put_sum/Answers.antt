@@ -1,8 +1,6 @@
 -- `uppaal_parts::ranges::put_sum` meets its contract. Assumes nothing.
 use native.Mathlib.Omega.{arith}
-use Rattle.blocks.proofs.Runs.{put_is, put_join, put_none}
 use Rattle.uppaal_parts.proofs.Turns.{put_three}
-use borrow.Author.Rules.{rules}
 use Rattle.uppaal_parts.proofs.ranges.put_sum.Goals as goal
 
 pub returns : goal.returns

@@ -1,8 +1,7 @@
 -- `uppaal_steps::conditions::put_assign` meets its contract. Assumes nothing.
 use Rattle.uppaal_steps.proofs.Guarding.{assign_there}
 use native.Mathlib.Omega.{arith}
-use Rattle.blocks.proofs.Runs.{put_is, put_join, put_none}
-use borrow.Author.Rules.{rules}
+use Rattle.blocks.proofs.Runs.{put_is, put_join}
 use Rattle.uppaal_steps.proofs.conditions.put_assign.Goals as goal
 
 pub returns : goal.returns

@@ -9,8 +9,7 @@ use Rattle.uppaal_parts.specs.Marks.{lows_text, datas_text}
 use Rattle.uppaal_parts.proofs.Turns.{put_three}
 use Rattle.uppaal_steps.proofs.Guarding.{conditions_told}
 use native.Mathlib.Omega.{arith}
-use Rattle.blocks.proofs.Runs.{put_is, put_join, put_none}
-use borrow.Author.Rules.{rules}
+use Rattle.blocks.proofs.Runs.{put_is}
 use Rattle.uppaal_steps.proofs.conditions.put_conditions.Goals as goal
 
 pub returns : goal.returns

@@ -1,5 +1,5 @@
 -- `uppaal_steps::conditions::put_edge_ranges` meets its contract. Assumes nothing.
-use mathlib.Core.Path.{◌≡◌, ap, ◌∙◌}
+use mathlib.Core.Path.{ap, ◌∙◌}
 use mathlib.Core.List.{List}
 use Prim.Native.Nat.{ℕ}
 use lib.ListN.{drop}
@@ -9,8 +9,7 @@ use Rattle.uppaal_parts.specs.Marks.{ranges_text}
 use Rattle.uppaal_parts.proofs.Turns.{lent_long}
 use Rattle.uppaal_steps.proofs.Guarding.{updates_long, ranges_there, ranges_none}
 use native.Mathlib.Omega.{arith}
-use Rattle.blocks.proofs.Runs.{put_is, put_join, put_none}
-use borrow.Author.Rules.{rules}
+use Rattle.blocks.proofs.Runs.{put_is, put_none}
 use Rattle.uppaal_steps.proofs.conditions.put_edge_ranges.Goals as goal
 
 pub returns-then-edge-ne0 : goal.returns-then-edge-ne0

@@ -3,8 +3,7 @@ use Rattle.model.specs.Places.{arc_at}
 use Rattle.uppaal_parts.proofs.Turns.{put_three}
 use Rattle.uppaal_steps.proofs.Guarding.{guard_out_told}
 use native.Mathlib.Omega.{arith}
-use Rattle.blocks.proofs.Runs.{put_is, put_join, put_none}
-use borrow.Author.Rules.{rules}
+use Rattle.blocks.proofs.Runs.{put_is}
 use Rattle.uppaal_steps.proofs.conditions.put_guard_out.Goals as goal
 
 pub returns : goal.returns

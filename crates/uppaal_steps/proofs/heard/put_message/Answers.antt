@@ -2,7 +2,6 @@
 use Rattle.blocks.proofs.Runs.{put_is, put_join}
 use Rattle.uppaal_steps.proofs.Keeping.{message_told}
 use native.Mathlib.Omega.{arith}
-use borrow.Author.Rules.{rules}
 use Rattle.uppaal_steps.proofs.heard.put_message.Goals as goal
 
 pub put_transitions-requires : goal.put_transitions-requires

@@ -1,7 +1,6 @@
 -- `uppaal_steps::heard::put_tail` meets its contract. Assumes nothing.
 use Rattle.uppaal_parts.proofs.Turns.{put_three}
 use native.Mathlib.Omega.{arith}
-use borrow.Author.Rules.{rules}
 use Rattle.uppaal_steps.proofs.heard.put_tail.Goals as goal
 
 pub returns : goal.returns

@@ -1,8 +1,6 @@
 -- `uppaal_steps::names::put_arrow_in` meets its contract. Assumes nothing.
 use Rattle.uppaal_parts.proofs.Turns.{put_four}
 use native.Mathlib.Omega.{arith}
-use Rattle.blocks.proofs.Runs.{put_is, put_join, put_none}
-use borrow.Author.Rules.{rules}
 use Rattle.uppaal_steps.proofs.names.put_arrow_in.Goals as goal
 
 pub returns : goal.returns

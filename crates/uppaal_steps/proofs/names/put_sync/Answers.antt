@@ -2,7 +2,6 @@
 use Rattle.uppaal_steps.proofs.Naming.{sync_internal, sync_none, sync_sends, sync_receives}
 use native.Mathlib.Omega.{arith}
 use Rattle.blocks.proofs.Runs.{put_is, put_join, put_none}
-use borrow.Author.Rules.{rules}
 use Rattle.uppaal_steps.proofs.names.put_sync.Goals as goal
 
 pub returns-then-kind-eq0 : goal.returns-then-kind-eq0

@@ -4,8 +4,7 @@ use Rattle.window.specs.Views.{message_of}
 use Rattle.uppaal.specs.Xta.{waiting}
 use Rattle.uppaal_steps.proofs.Naming.{location_told}
 use native.Mathlib.Omega.{arith}
-use Rattle.blocks.proofs.Runs.{put_is, put_join, put_none}
-use borrow.Author.Rules.{rules}
+use Rattle.blocks.proofs.Runs.{put_is, put_join}
 use Rattle.uppaal_steps.proofs.names.put_waiting.Goals as goal
 
 pub returns : goal.returns

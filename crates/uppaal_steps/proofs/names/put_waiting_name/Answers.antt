@@ -1,8 +1,7 @@
 -- `uppaal_steps::names::put_waiting_name` meets its contract. Assumes nothing.
 use Rattle.uppaal_steps.proofs.Naming.{name_alone, name_with}
 use native.Mathlib.Omega.{arith}
-use Rattle.blocks.proofs.Runs.{put_is, put_join, put_none}
-use borrow.Author.Rules.{rules}
+use Rattle.blocks.proofs.Runs.{put_is, put_join}
 use Rattle.uppaal_steps.proofs.names.put_waiting_name.Goals as goal
 
 pub returns-then-message-eq255 : goal.returns-then-message-eq255

@@ -1,5 +1,5 @@
 -- `window::index::put_links` meets its contract. Assumes nothing.
-use mathlib.Core.Path.{◌≡◌, sym, ap, subst, ◌∙◌}
+use mathlib.Core.Path.{◌≡◌, sym, subst, ◌∙◌}
 use Prim.Native.Nat.{suc, ◌+◌, ◌-◌, ◌*◌, ◌≤◌, ◌<◌}
 use native.Mathlib.Omega.{arith}
 use lib.ListN.{length, get_or, length-set}
@@ -8,11 +8,7 @@ use Rattle.model.specs.Places.{arc_place, component_in}
 use Rattle.window.specs.Indexed.{place_of, source_of, LinksPut}
 use Rattle.window.proofs.Ready.{Entered, entered, arc-head, source_is}
 use Rattle.window.proofs.Indexing.{links_none, links_turn}
-use borrow.Author.Rules.{rules}
 use Rattle.window.proofs.index.put_links.Goals as goal
-
-pub overflow_mul-from : goal.overflow_mul-from
-overflow_mul-from c = omega (arith, c.requires.3)
 
 pub overflow_add-start : goal.overflow_add-start
 overflow_add-start c =
@@ -32,27 +28,8 @@ loop-e-init c =
     (let s = c in entered s.args.table.now s.args.c s.args.start (λ i. (c.type_inv.table i).fits) s.requires.0 s.requires.1 s.requires.2) in
     let a = c.args in
     let k = known in
-    let n : c.wide-e.result ≡ length (component_in a.table.now a.c).arcs = c.wide-e.ensures.0 ∙ k.stands.arcs in
-    (omega (arith, n), links_none a.table.now a.index.now a.c c.wide-e.result n (omega (arith, n, k.most_arcs)) c.requires.6)
-
-pub overflow_add-place : goal.overflow_add-place
-overflow_add-place c = omega (arith, c.requires.3)
-
-pub overflow_add-place-in-loop-e : goal.overflow_add-place-in-loop-e
-overflow_add-place-in-loop-e c =
-    let known : Entered c.args.table.now c.args.c c.args.start =
-    (let s = c in entered s.args.table.now s.args.c s.args.start (λ i. (c.type_inv.table i).fits) s.requires.0 s.requires.1 s.requires.2) in
-    let inside : c.loop-e.e - 1 < length (component_in c.args.table.now c.args.c).arcs =
-    (omega (arith, c.loop-e.invariant.0, c.loop-e-test.true)) in
-    omega (arith, c.requires.3, inside, known.most_arcs)
-
-pub offset_bounds-index-from : goal.offset_bounds-index-from
-offset_bounds-index-from c =
-    let known : Entered c.args.table.now c.args.c c.args.start =
-    (let s = c in entered s.args.table.now s.args.c s.args.start (λ i. (c.type_inv.table i).fits) s.requires.0 s.requires.1 s.requires.2) in
-    let inside : c.loop-e.e - 1 < length (component_in c.args.table.now c.args.c).arcs =
-    (omega (arith, c.loop-e.invariant.0, c.loop-e-test.true)) in
-    omega (arith, c.requires.3, inside, known.most_arcs)
+    let n : c.wide-count.result ≡ length (component_in a.table.now a.c).arcs = c.wide-count.ensures.0 ∙ k.stands.arcs in
+    (omega (arith, n), links_none a.table.now a.index.now a.c c.wide-count.result n (omega (arith, n, k.most_arcs)) c.requires.6)
 
 pub bounds-index-from : goal.bounds-index-from
 bounds-index-from c =
@@ -61,25 +38,6 @@ bounds-index-from c =
     let inside : c.loop-e.e - 1 < length (component_in c.args.table.now c.args.c).arcs =
     (omega (arith, c.loop-e.invariant.0, c.loop-e-test.true)) in
     omega (arith, c.requires.4, inside, known.most_arcs, c.loop-e.invariant.1.same)
-
-pub overflow_cast-place : goal.overflow_cast-place
-overflow_cast-place c = omega (arith, c.type_inv.index (c.args.c * 80 + 48 + (c.loop-e.e - 1)))
-
-pub overflow_add-place-in-loop-e-2 : goal.overflow_add-place-in-loop-e-2
-overflow_add-place-in-loop-e-2 c =
-    let known : Entered c.args.table.now c.args.c c.args.start =
-    (let s = c in entered s.args.table.now s.args.c s.args.start (λ i. (c.type_inv.table i).fits) s.requires.0 s.requires.1 s.requires.2) in
-    let inside : c.loop-e.e - 1 < length (component_in c.args.table.now c.args.c).arcs =
-    (omega (arith, c.loop-e.invariant.0, c.loop-e-test.true)) in
-    let place_is : place_of c.loop-e.index c.args.c (c.loop-e.e - 1)
-    ≡ arc_place c.args.table.now c.args.start (c.loop-e.e - 1) =
-    (let s = c in
-    let e = c.loop-e.e - 1 in
-    c.loop-e.invariant.1.above (s.args.c * 80 + 48 + e) (omega arith) ∙ s.requires.5 e inside) in
-    let head : place_of c.loop-e.index c.args.c (c.loop-e.e - 1) + 7 ≤ length c.args.table.now =
-    (let a = c.args in
-    arc-head a.table.now a.c a.start known _ (c.loop-e.e - 1) place_is inside) in
-    omega (arith, head)
 
 pub bounds-table-place : goal.bounds-table-place
 bounds-table-place c =
@@ -96,12 +54,6 @@ bounds-table-place c =
     (let a = c.args in
     arc-head a.table.now a.c a.start known _ (c.loop-e.e - 1) place_is inside) in
     omega (arith, head)
-
-pub overflow_add-first : goal.overflow_add-first
-overflow_add-first c = omega (arith, c.requires.3, c.wide.ensures.1)
-
-pub offset_bounds-index-first : goal.offset_bounds-index-first
-offset_bounds-index-first c = omega (arith, c.requires.3, c.wide.ensures.1)
 
 pub bounds-index-first : goal.bounds-index-first
 bounds-index-first c =
@@ -122,25 +74,6 @@ bounds-index-first c =
     (omega (arith, leaves, known.source (c.loop-e.e - 1) inside)) in
     omega (arith, c.requires.4, c.wide.ensures.0, low, c.loop-e.invariant.1.same)
 
-pub overflow_add-index : goal.overflow_add-index
-overflow_add-index c = omega (arith, c.requires.3)
-
-pub overflow_add-index-in-loop-e : goal.overflow_add-index-in-loop-e
-overflow_add-index-in-loop-e c =
-    let known : Entered c.args.table.now c.args.c c.args.start =
-    (let s = c in entered s.args.table.now s.args.c s.args.start (λ i. (c.type_inv.table i).fits) s.requires.0 s.requires.1 s.requires.2) in
-    let inside : c.loop-e.e - 1 < length (component_in c.args.table.now c.args.c).arcs =
-    (omega (arith, c.loop-e.invariant.0, c.loop-e-test.true)) in
-    omega (arith, c.requires.3, inside, known.most_arcs)
-
-pub offset_bounds-index-from-in-loop-e : goal.offset_bounds-index-from-in-loop-e
-offset_bounds-index-from-in-loop-e c =
-    let known : Entered c.args.table.now c.args.c c.args.start =
-    (let s = c in entered s.args.table.now s.args.c s.args.start (λ i. (c.type_inv.table i).fits) s.requires.0 s.requires.1 s.requires.2) in
-    let inside : c.loop-e.e - 1 < length (component_in c.args.table.now c.args.c).arcs =
-    (omega (arith, c.loop-e.invariant.0, c.loop-e-test.true)) in
-    omega (arith, c.requires.3, inside, known.most_arcs)
-
 pub bounds-index-from-in-loop-e : goal.bounds-index-from-in-loop-e
 bounds-index-from-in-loop-e c =
     let known : Entered c.args.table.now c.args.c c.args.start =
@@ -148,17 +81,6 @@ bounds-index-from-in-loop-e c =
     let inside : c.loop-e.e - 1 < length (component_in c.args.table.now c.args.c).arcs =
     (omega (arith, c.loop-e.invariant.0, c.loop-e-test.true)) in
     omega (arith, c.requires.4, inside, known.most_arcs, c.loop-e.invariant.1.same)
-
-pub overflow_cast-index : goal.overflow_cast-index
-overflow_cast-index c =
-    let known : Entered c.args.table.now c.args.c c.args.start =
-    (let s = c in entered s.args.table.now s.args.c s.args.start (λ i. (c.type_inv.table i).fits) s.requires.0 s.requires.1 s.requires.2) in
-    let inside : c.loop-e.e - 1 < length (component_in c.args.table.now c.args.c).arcs =
-    (omega (arith, c.loop-e.invariant.0, c.loop-e-test.true)) in
-    omega (arith, inside, known.most_arcs)
-
-pub offset_bounds-index-first-in-loop-e : goal.offset_bounds-index-first-in-loop-e
-offset_bounds-index-first-in-loop-e c = omega (arith, c.requires.3, c.wide.ensures.1)
 
 pub bounds-index-first-in-loop-e : goal.bounds-index-first-in-loop-e
 bounds-index-first-in-loop-e c =
@@ -206,9 +128,6 @@ loop-e-preserved c =
       links_turn a.table.now a.index.now a.c l.index e c.wide.result (subst (LinksPut a.table.now a.index.now l.index a.c) one l.invariant.1) c.requires.4
           (omega (arith, inside, k.most_arcs)) (leaves ∙ sym c.wide.ensures.0) (omega (arith, c.wide.ensures.0, low)) k.most_arcs,
     )
-
-pub shape_of-index : goal.shape_of-index
-shape_of-index c = c.loop-e.invariant.1.same
 
 pub returns : goal.returns
 returns c =

@@ -8,7 +8,6 @@ use Rattle.decoder.proofs.Found.{found}
 use Rattle.decoder.proofs.ByAction.{internal_updates, send_updates, receive_updates}
 use Rattle.window.proofs.Fronts.{updates_asked}
 use Rattle.window.proofs.Updating.{no_updates}
-use borrow.Author.Rules.{rules}
 use Rattle.window.proofs.updates.edge_update.Goals as goal
 
 pub update-requires : goal.update-requires

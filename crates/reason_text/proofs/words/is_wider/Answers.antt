@@ -1,9 +1,0 @@
--- `reason_text::words::is_wider` meets its contract. Assumes nothing.
-use borrow.Author.Tests.{lt-ltb}
-use Rattle.reason_text.proofs.words.is_wider.Goals as goal
-
-pub returns-then-over : goal.returns-then-over
-returns-then-over c = rw c.if-over.true
-
-pub returns-else-over : goal.returns-else-over
-returns-else-over c = rw c.if-over.false

@@ -1,9 +1,0 @@
--- `refusal_place::contents::item_limit` meets its contract. Assumes nothing.
-use mathlib.Core.Path.{sym}
-use native.Mathlib.Omega.{arith}
-use Rattle.refusal_place.proofs.Heads.{item_receive}
-use borrow.Author.Rules.{rules}
-use Rattle.refusal_place.proofs.contents.item_limit.Goals as goal
-
-pub returns-in_default : goal.returns-in_default
-returns-in_default c = sym (item_receive c.args.kind (omega arith))
